@@ -1,0 +1,73 @@
+ghost use Rattle.std.specs.Prelude.{◌≡◌, ◌≤◌, None, IfOk, length};
+ghost use Rattle.emc_base.specs.Files.{CountsRead, Tells};
+
+use crate::bin::Bin;
+use crate::files::{Files, ReadFault};
+use crate::txt::Txt;
+use std::alloc::Global;
+use std::io;
+use std::io::Read;
+
+/// The files of the disk, by their paths. It tells nothing of what they hold.
+#[derive(Drop)]
+pub struct DiskFiles<R: std::rt::Files + Drop> {
+    rt: R,
+    faults: u64,
+}
+
+impl<R: std::rt::Files + Drop> DiskFiles<R> {
+    pub fn new(rt: R) -> DiskFiles<R>
+        ensures { result.faults ≡ 0 }
+    {
+        DiskFiles { rt, faults: 0 }
+    }
+}
+
+impl<R: std::rt::Files + Drop> Files for DiskFiles<R> {
+    ghost held = { λ _. None };
+
+    ghost fault_count = { λ f. f.faults };
+
+    fn read(&mut self, alloc: Global, name: &Txt, limit: u64) -> Result<Bin, ReadFault> {
+        let bytes = match read_at_most(alloc, &self.rt, name.as_str(), limit.saturating_add(1)) {
+            Ok(bytes) => bytes,
+            Err(error) => {
+                let fault = fault_of(error.kind());
+                if fault == ReadFault::Failed {
+                    self.faults = self.faults.saturating_add(1);
+                }
+                return Err(fault);
+            }
+        };
+        if bytes.len() as u64 > limit {
+            return Err(ReadFault::TooLarge);
+        }
+        Ok(Bin::from_vec(bytes))
+    }
+
+    fn faults(&self) -> u64 {
+        self.faults
+    }
+}
+
+// The first bytes of a file, at most `most` of them.
+fn read_at_most<R: std::rt::Files>(
+    alloc: Global,
+    rt: &R,
+    path: &str,
+    most: u64,
+) -> io::Result<Vec<u8>> {
+    let file = std::fs::open(rt, path)?;
+    let mut bytes = Vec::new(alloc);
+    file.take(most).read_to_end(&mut bytes)?;
+    Ok(bytes)
+}
+
+// What a failed read is told as.
+fn fault_of(kind: io::ErrorKind) -> ReadFault {
+    match kind {
+        io::ErrorKind::NotFound => ReadFault::Missing,
+        io::ErrorKind::OutOfMemory => ReadFault::Memory,
+        _ => ReadFault::Failed,
+    }
+}

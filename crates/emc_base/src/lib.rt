@@ -1,0 +1,30 @@
+//! Values, texts, lists and keys, the files and the sink that the compiler reads from and writes to.
+#![tactic(auto)]
+
+mod bin;
+mod disk_files;
+mod files;
+mod ids;
+mod mem_files;
+mod mem_sink;
+mod memory;
+mod out_sink;
+mod place;
+mod seq;
+mod sink;
+mod txt;
+mod value;
+
+pub use bin::Bin;
+pub use disk_files::DiskFiles;
+pub use files::{Files, ReadFault};
+pub use ids::{AssocId, ColId, FkId, FragId, GroupId, LinkFragId, PropId, SetId, TableId, TypeId};
+pub use mem_files::MemFiles;
+pub use mem_sink::MemSink;
+pub use memory::Memory;
+pub use out_sink::OutSink;
+pub use place::Place;
+pub use seq::{MOST_ITEMS, Seq};
+pub use sink::{Sink, SinkFault};
+pub use txt::Txt;
+pub use value::{Key, Kind, Value, compare, compare_keys, in_domain};

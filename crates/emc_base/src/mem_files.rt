@@ -1,0 +1,106 @@
+ghost use Rattle.std.specs.Prelude.{◌≡◌, ◌≢◌, ◌≤◌, ◌↔◌, List, ℕ, Contains, IfOk, OnOk, OnErr, Some, length, []};
+ghost use Rattle.std.specs.BTreeMap.{get_by_text};
+ghost use Rattle.emc_base.specs.Files.{FileMap, Tells, CountsRead, PutsFile, HoldsNothing};
+ghost use Rattle.emc_base.specs.InMemory.{one_more};
+ghost use Rattle.emc_base.specs.MemFiles.{kept_files};
+
+use crate::bin::Bin;
+use crate::files::{Files, ReadFault};
+use crate::memory::Memory;
+use crate::seq::Seq;
+use crate::txt::Txt;
+use std::alloc::Global;
+use std::collections::BTreeMap;
+
+/// Files in memory. Its calls are counted from 1, and those of the given numbers fail.
+#[derive(Drop)]
+pub struct MemFiles {
+    map: BTreeMap<String, Bin>,
+    failing: Seq<u64>,
+    calls: u64,
+    faults: u64,
+}
+
+impl MemFiles {
+    /// No files. The calls of these numbers will fail.
+    pub fn new(alloc: Global, failing: Seq<u64>) -> MemFiles
+        ensures empty { HoldsNothing (kept_files result).map }
+        ensures failing { (kept_files result).failing ≡ failing }
+        ensures calls { (kept_files result).calls ≡ 0 }
+        ensures faults { (kept_files result).faults ≡ 0 }
+    {
+        MemFiles {
+            map: BTreeMap::new(alloc),
+            failing,
+            calls: 0,
+            faults: 0,
+        }
+    }
+
+    /// Puts the bytes at the name, in place of what stood there.
+    #[tactic(auto, using(std::proofs::lemmas::Map::Text::text_keys))]
+    pub fn add(&mut self, name: Txt, bytes: Bin) -> Result<(), Memory>
+        ensures ok { OnOk result (PutsFile (kept_files self.old).map (kept_files self.new).map name bytes) }
+        ensures err { OnErr result (kept_files self.new ≡ kept_files self.old) }
+        ensures failing { (kept_files self.new).failing ≡ (kept_files self.old).failing }
+        ensures calls { (kept_files self.new).calls ≡ (kept_files self.old).calls }
+        ensures faults { (kept_files self.new).faults ≡ (kept_files self.old).faults }
+    {
+        let _replaced = self.map.insert(name.into_string(), bytes)?;
+        Ok(())
+    }
+}
+
+impl Files for MemFiles {
+    ghost held = { λ f. Some (kept_files f).map };
+
+    ghost fault_count = { λ f. (kept_files f).faults };
+
+    fn read(&mut self, alloc: Global, name: &Txt, limit: u64) -> Result<Bin, ReadFault>
+        ensures tells { Tells (Some (kept_files self.old).map) name.now limit result }
+        ensures fits { IfOk result (λ bytes. length bytes ≤ limit) }
+        ensures same { Some (kept_files self.new).map ≡ Some (kept_files self.old).map }
+        ensures cause { CountsRead (kept_files self.old).faults (kept_files self.new).faults result }
+
+        // It fails at the calls that were named, and at no other.
+        ensures named { (result ≡ Err ReadFault.Failed) ↔ Contains (kept_files self.old).failing (one_more (kept_files self.old).calls) }
+        ensures failing { (kept_files self.new).failing ≡ (kept_files self.old).failing }
+        ensures memory { result ≡ Err ReadFault.Memory → kept_files self.new ≡ kept_files self.old }
+    {
+        let call = self.calls.saturating_add(1);
+        if self.failing.as_slice().contains(&call) {
+            self.calls = call;
+            self.faults = self.faults.saturating_add(1);
+            return Err(ReadFault::Failed);
+        }
+        let answer = look_up(alloc, &self.map, name.as_str(), limit);
+        if !matches!(&answer, Err(ReadFault::Memory)) {
+            self.calls = call;
+        }
+        answer
+    }
+
+    fn faults(&self) -> u64 {
+        self.faults
+    }
+}
+
+fn look_up(
+    alloc: Global,
+    map: &BTreeMap<String, Bin>,
+    name: &str,
+    limit: u64,
+) -> Result<Bin, ReadFault>
+    ensures tells { Tells (Some (λ text. get_by_text map.now text)) name.now limit result }
+    ensures fits { IfOk result (λ bytes. length bytes ≤ limit) }
+    ensures sound { result ≢ Err ReadFault.Failed }
+{
+    match map.get(name) {
+        None => Err(ReadFault::Missing),
+        Some(bytes) if bytes.as_slice().len() as u64 > limit => Err(ReadFault::TooLarge),
+        Some(bytes) => match bytes.copy(alloc) {
+            Ok(bytes) => Ok(bytes),
+            Err(_) => Err(ReadFault::Memory),
+        },
+    }
+}

@@ -1,0 +1,153 @@
+ghost use Rattle.std.specs.Prelude.{◌≡◌, ◌↔◌, IfOk, IsTrue, length};
+ghost use Rattle.std.specs.Str.{chars};
+ghost use Rattle.std.specs.Cmp.Lexicographic.{slice_cmp};
+ghost use Rattle.emc_base.specs.Domain.{InDomain, IsText, IsWithin};
+ghost use Rattle.emc_base.specs.Order.{value_cmp, rank_of};
+
+use crate::bin::Bin;
+use crate::memory::Memory;
+use crate::seq::Seq;
+use crate::txt::Txt;
+use std::alloc::Global;
+use std::cmp::Ordering;
+
+/// A value of a property or a cell.
+#[derive(Clone, Drop)]
+pub enum Value {
+    Null,
+    Whole(i64),
+    Flag(bool),
+    Text(Txt),
+    Bytes(Bin),
+}
+
+/// What a property or a column may hold. The number is the bound: the most Unicode scalar values of a text, the most
+/// bytes of a byte list.
+#[derive(Clone, Drop)]
+pub enum Kind {
+    Byte,
+    Int16,
+    Int32,
+    Int64,
+    Boolean,
+    Text(Option<u32>),
+    Binary(Option<u32>),
+}
+
+/// The values of a key, in the order of the key's parts.
+pub type Key = Seq<Value>;
+
+impl Value {
+    pub fn copy(&self, alloc: Global) -> Result<Value, Memory>
+        ensures { IfOk result (λ value. value ≡ self.now) }
+    {
+        let _alloc = alloc;
+        match self.clone() {
+            Ok(value) => Ok(value),
+            Err(_) => Err(Memory),
+        }
+    }
+}
+
+impl Seq<Value> {
+    pub fn copy(&self, alloc: Global) -> Result<Key, Memory>
+        ensures { IfOk result (λ key. key ≡ self.now) }
+    {
+        let _alloc = alloc;
+        match self.clone() {
+            Ok(key) => Ok(key),
+            Err(_) => Err(Memory),
+        }
+    }
+}
+
+/// Whether the value isn't null and the kind allows it.
+pub fn in_domain(value: &Value, kind: &Kind) -> bool
+    ensures { IsTrue result ↔ InDomain value.now kind.now }
+{
+    match (value, kind) {
+        (Value::Whole(number), Kind::Byte) => (0..=255).contains(number),
+        (Value::Whole(number), Kind::Int16) => (-32_768..=32_767).contains(number),
+        (Value::Whole(number), Kind::Int32) => (-2_147_483_648..=2_147_483_647).contains(number),
+        (Value::Whole(number), Kind::Int64) => i64::MIN <= *number,
+        (Value::Flag(_), Kind::Boolean) => true,
+        (Value::Text(text), Kind::Text(bound)) => is_text(text, *bound),
+        (Value::Bytes(bytes), Kind::Binary(bound)) => is_within(*bound, bytes.as_slice().len()),
+        _ => false,
+    }
+}
+
+fn is_text(text: &Txt, bound: Option<u32>) -> bool
+    ensures { IsTrue result ↔ IsText bound text.now }
+{
+    is_within(bound, character_count(text.as_str()))
+}
+
+// How many Unicode scalar values a text has.
+fn character_count(text: &str) -> usize
+    ensures { result ≡ length (chars text.now) }
+{
+    text.chars().count()
+}
+
+fn is_within(bound: Option<u32>, count: usize) -> bool
+    ensures { IsTrue result ↔ IsWithin bound count }
+{
+    match bound {
+        None => true,
+        Some(most) => count <= most as usize,
+    }
+}
+
+/// The order of values: null, whole numbers, flags, texts, byte lists; then numbers by size, false before true, texts
+/// and byte lists by their bytes.
+pub fn compare(a: &Value, b: &Value) -> Ordering
+    ensures { result ≡ value_cmp a.now b.now }
+{
+    match (a, b) {
+        (Value::Whole(x), Value::Whole(y)) => x.cmp(y),
+        (Value::Flag(x), Value::Flag(y)) => x.cmp(y),
+        (Value::Text(x), Value::Text(y)) => x.as_str().cmp(y.as_str()),
+        (Value::Bytes(x), Value::Bytes(y)) => x.as_slice().cmp(y.as_slice()),
+        _ => rank(a).cmp(&rank(b)),
+    }
+}
+
+// The place of a value's variant in the order.
+fn rank(value: &Value) -> u8
+    ensures { result ≡ rank_of value.now }
+{
+    match value {
+        Value::Null => 0,
+        Value::Whole(_) => 1,
+        Value::Flag(_) => 2,
+        Value::Text(_) => 3,
+        Value::Bytes(_) => 4,
+    }
+}
+
+/// Keys are ordered part by part; a key that another begins with comes before it.
+pub fn compare_keys(a: &Key, b: &Key) -> Ordering
+    ensures { result ≡ slice_cmp value_cmp a.now b.now }
+{
+    compare_parts(a.as_slice(), b.as_slice())
+}
+
+fn compare_parts(a: &[Value], b: &[Value]) -> Ordering
+    ensures { result ≡ slice_cmp value_cmp a.now b.now }
+{
+    let [x, a_rest @ ..] = a else {
+        return if b.is_empty() {
+            Ordering::Equal
+        } else {
+            Ordering::Less
+        };
+    };
+    let [y, b_rest @ ..] = b else {
+        return Ordering::Greater;
+    };
+    match compare(x, y) {
+        Ordering::Equal => compare_parts(a_rest, b_rest),
+        order => order,
+    }
+}
