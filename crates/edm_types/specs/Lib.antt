@@ -1,0 +1,6 @@
+pub mod Lists
+pub mod IsA
+pub mod Entities
+pub mod State
+pub mod Rows
+pub mod Selected

@@ -1,0 +1,16 @@
+//! The entity model, the store model and the mapping between them, as lists whose places are the ids.
+#![tactic(auto)]
+
+mod data;
+mod faults;
+mod mapping;
+mod model;
+mod store;
+
+pub use data::{Entity, Hosted, Link, Row};
+pub use faults::{Breach, LimitFault, LimitKind, RuleFault, VocabFault, VocabFile};
+pub use mapping::{Cond, CondOn, Fragment, LinkFragment, Mapping, Pair, Pick, Test};
+pub use model::{
+    Assoc, Constraint, End, EntityModel, EntitySet, EntityType, Mult, Nav, Prop, TypeNode,
+};
+pub use store::{Column, ForeignKey, StoreModel, Table};
