@@ -41,6 +41,9 @@ pub list_of_members-members_view : (es : List Entry) → list_of_members (member
 list_of_members-members_view [] = refl
 list_of_members-members_view (e ∷ es) = ap (λ ms. shown e ∷ ms) (list_of_members-members_view es)
 
+pub items_in-Array : (v : Vec Value Global) → items_in (view (Array v)) ≡ map view v.items
+items_in-Array v = rw (view-Array v) (list_of_items-items_view v.items)
+
 pub count_in-Array : (v : Vec Value Global) → count_in (view (Array v)) ≡ vec_len v
 count_in-Array v = rw (view-Array v, list_of_items-items_view) (length-map v.items view ∙ sym v.ok.0)
 

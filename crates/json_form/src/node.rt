@@ -1,6 +1,6 @@
-ghost use Rattle.std.specs.Prelude.{◌≡◌, is_some, option_map, slice_get, length};
+ghost use Rattle.std.specs.Prelude.{◌≡◌, is_some, option_map, slice_get, length, map};
 ghost use Rattle.std.specs.Map.Iter.{deref_pair};
-ghost use Rattle.serde_json.specs.Find.{get, as_array, as_bool, as_null, as_object, as_str};
+ghost use Rattle.serde_json.specs.Find.{get, as_array, as_bool, as_null, as_object, as_str, pointer as points_to};
 ghost use Rattle.serde_json.specs.View.{view};
 ghost use Rattle.json_form.specs.Parts.{count_in, items_in, members_in, whole_of};
 ghost use Rattle.json_form.specs.Nodes.{part_of};
@@ -14,10 +14,19 @@ pub struct Node<'a> {
 }
 
 impl<'a> Node<'a> {
-    pub(crate) fn new(value: &'a Value) -> Node<'a>
+    /// The node of a tree or of a part of one.
+    pub fn new(value: &'a Value) -> Node<'a>
         ensures { part_of result ≡ view value.now }
     {
         Node { value }
+    }
+
+    /// The part at a JSON pointer (RFC 6901); None where there is none.
+    pub fn pointer(&self, path: &str) -> Option<Node<'a>>
+        ensures { option_map part_of result ≡ points_to path.now (part_of self.now) }
+    {
+        let value = self.value.pointer(path)?;
+        Some(Node { value })
     }
 
     /// The member of this name; None where the node is no object or has no such member.
@@ -42,6 +51,16 @@ impl<'a> Node<'a> {
     {
         let value = self.value.get(i)?;
         Some(Node { value })
+    }
+
+    /// The items of an array in order; none where the node is no array.
+    pub fn items(&self) -> &'a [Value]
+        ensures { map view result.now ≡ items_in (part_of self.now) }
+    {
+        match self.value {
+            Value::Array(items) => items.as_slice(),
+            _ => &[],
+        }
     }
 
     /// How many members or items there are; 0 where the node is neither object nor array.

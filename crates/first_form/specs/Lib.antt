@@ -1,0 +1,6 @@
+pub mod Parts
+pub mod Names
+pub mod Shapes
+pub mod Declaring
+pub mod Form
+pub mod Meaning

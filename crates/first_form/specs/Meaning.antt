@@ -1,0 +1,73 @@
+-- What documents of the first form mean: the entity model, the store model and the mapping.
+-- Source: CSDL, SSDL and MSL version 3.
+use Rattle.std.specs.Prelude.{◌==◌, ◌+◌, ℕ, List, [], ◌∷◌, ◌++◌, map, length, Bool, true, false, Option, None, codes}
+use Rattle.std.specs.List.{list_any, list_all}
+use Rattle.serde_json.specs.Data.{Data}
+use Rattle.emc_base.specs.declared.ids.PropId.{PropId}
+use Rattle.edm_types.specs.declared.model.EntityModel.{EntityModel}
+use Rattle.edm_types.specs.declared.model.Prop.{Prop}
+use Rattle.edm_types.specs.declared.model.TypeNode.{TypeNode, roll-TypeNode}
+use Rattle.edm_types.specs.declared.store.StoreModel.{StoreModel}
+use Rattle.edm_types.specs.declared.store.Column.{Column}
+use Rattle.edm_types.specs.declared.mapping.Mapping.{Mapping}
+use Rattle.edm_types.specs.declared.mapping.Pair.{Pair}
+use Rattle.round_trip.specs.Schema.{Schema}
+use Rattle.first_form.specs.declared.declared_form.Declared.{Declared}
+use Rattle.first_form.specs.declared.declared_form.Vocabulary.TheVariants.{Model, Store}
+use Rattle.first_form.specs.declared.mapped_form.Mapped.{Mapped}
+use Rattle.first_form.specs.Declaring.{declared_in}
+use Rattle.first_form.specs.Form.{place_of, pairs_of, mapped_in, path_of}
+use Rattle.first_form.specs.declared.mapped_form.MappingPart.TheVariants as part
+
+-- a property of the one type
+abbrev pub prop_of : Column → Prop
+prop_of column = record { owner = record { index = 0 }; name = column.name; kind = column.kind; nullable = column.nullable }
+
+-- the ids from a place on, as many as there are columns
+abbrev pub ids_from : ℕ → List Column → List PropId
+ids_from first [] = []
+ids_from first (column ∷ columns) = record { index = first } ∷ ids_from (first + 1) columns
+
+-- one set of one concrete type with these properties, and no association
+abbrev pub model_of : Declared → EntityModel
+model_of declared = record {
+    namespace = declared.namespace;
+    alias = None;
+    container = declared.container;
+    types = record { name = declared.type_name; base = None; is_abstract = false;
+        key = record { index = place_of declared.key declared.columns } ∷ []; props = ids_from 0 declared.columns; navs = [] } ∷ [];
+    props = map prop_of declared.columns;
+    forest = roll-TypeNode (record { id = record { index = 0 }; is_abstract = false; children = [] }) ∷ [];
+    sets = record { name = declared.set; element = record { index = 0 } } ∷ [];
+    assocs = [] }
+
+-- one table with these columns, and no foreign key
+abbrev pub store_of : Declared → StoreModel
+store_of declared = record {
+    namespace = declared.namespace;
+    container = declared.container;
+    tables = record { name = declared.set; cols = declared.columns; key = record { index = place_of declared.key declared.columns } ∷ [] } ∷ [];
+    keys = [] }
+
+-- one fragment of the one type, without conditions
+abbrev pub mapping_of : List Pair → Mapping
+mapping_of pairs = record {
+    fragments = record {
+        place = path_of part.Fragment;
+        set = record { index = 0 };
+        picks = record { ty = record { index = 0 }; below = false } ∷ [];
+        table = record { index = 0 };
+        pairs = pairs;
+        conds = [] } ∷ [];
+    links = [] }
+
+-- what the three documents mean
+abbrev pub meaning_of : Data → Data → Data → Schema
+meaning_of csdl ssdl msl = record {
+    model = model_of (declared_in Model csdl);
+    store = store_of (declared_in Store ssdl);
+    mapping = mapping_of (pairs_of (declared_in Model csdl) (declared_in Store ssdl) (mapped_in msl)) }
+
+-- the property stands in some pair
+abbrev pub is_written : List Pair → PropId → Bool
+is_written pairs prop = list_any (λ pair. pair.prop.index == prop.index) pairs

@@ -1,0 +1,126 @@
+ghost use Rattle.std.specs.Prelude.{◌≡◌, ◌||◌, IfOk, map, is_some};
+ghost use Rattle.std.specs.List.{list_all, list_any};
+ghost use Rattle.std.specs.Str.{bytes_eq};
+ghost use Rattle.serde_json.specs.Find.{get};
+ghost use Rattle.json_form.specs.Parts.{members_in};
+ghost use Rattle.serde_json.specs.View.{view};
+ghost use Rattle.json_form.specs.Nodes.{part_of};
+ghost use Rattle.first_form.specs.Form.{has_one_item};
+ghost use Rattle.first_form.specs.Parts.{has_members, is_among, items_at, part_at, text_at, texts};
+
+use emc_base::{Memory, Txt};
+use json_form::Node;
+use serde_json::Value;
+use std::alloc::Global;
+
+// The text at a pointer; the empty one where there is none.
+pub(crate) fn str_at<'a>(node: &Node<'a>, path: &str) -> &'a str
+    ensures { result.now ≡ text_at path.now (part_of node.now) }
+{
+    match node.pointer(path) {
+        Some(part) => part.text().unwrap_or(""),
+        None => "",
+    }
+}
+
+// A copy of the text at a pointer.
+pub(crate) fn text_at(alloc: Global, node: &Node<'_>, path: &str) -> Result<Txt, Memory>
+    ensures { IfOk result (λ text. text ≡ text_at path.now (part_of node.now)) }
+{
+    Txt::of(alloc, str_at(node, path))
+}
+
+// The items at a pointer.
+pub(crate) fn items_at<'a>(node: &Node<'a>, path: &str) -> &'a [Value]
+    ensures { map view result.now ≡ items_at path.now (part_of node.now) }
+{
+    match node.pointer(path) {
+        Some(part) => part.items(),
+        None => &[],
+    }
+}
+
+// Whether the part at a pointer is an array of one item.
+pub(crate) fn has_one_item_at(node: &Node<'_>, path: &str) -> bool
+    ensures { result ≡ has_one_item (part_at path.now (part_of node.now)) }
+{
+    match node.pointer(path) {
+        Some(part) => has_one_item(&part),
+        None => false,
+    }
+}
+
+fn has_one_item(node: &Node<'_>) -> bool
+    ensures { result ≡ has_one_item (part_of node.now) }
+{
+    node.items().len() == 1
+}
+
+// Whether the part at a pointer is an object that has these members, and beside them at most the allowed ones.
+#[tactic(auto, unfolding(crate::specs::Parts::has_members))]
+pub(crate) fn has_members_at(node: &Node<'_>, path: &str, needed: &[&str], allowed: &[&str]) -> bool
+    ensures { result ≡ has_members (texts needed.now) (texts allowed.now) (part_at path.now (part_of node.now)) }
+{
+    match node.pointer(path) {
+        Some(part) => has_members(&part, needed, allowed),
+        None => false,
+    }
+}
+
+// Whether a node is an object that has these members, and beside them at most the allowed ones.
+#[tactic(auto, unfolding(crate::specs::Parts::has_members))]
+pub(crate) fn has_members(node: &Node<'_>, needed: &[&str], allowed: &[&str]) -> bool
+    ensures { result ≡ has_members (texts needed.now) (texts allowed.now) (part_of node.now) }
+{
+    node.is_object() && has_each(node, needed) && has_no_other(node, needed, allowed)
+}
+
+fn has_each(node: &Node<'_>, needed: &[&str]) -> bool
+    ensures { result ≡ list_all (λ name. is_some (get name (part_of node.now))) (texts needed.now) }
+{
+    has_all_of(node, needed)
+}
+
+fn has_all_of(node: &Node<'_>, needed: &[&str]) -> bool
+    ensures { result ≡ list_all (λ name. is_some (get name.now (part_of node.now))) needed.now }
+{
+    needed.iter().all(|name| has_member(node, name))
+}
+
+fn has_member(node: &Node<'_>, name: &str) -> bool
+    ensures { result ≡ is_some (get name.now (part_of node.now)) }
+{
+    node.member(name).is_some()
+}
+
+fn has_no_other(node: &Node<'_>, needed: &[&str], allowed: &[&str]) -> bool
+    ensures { result ≡ list_all (λ member. is_among (texts needed.now) member.0 || is_among (texts allowed.now) member.0) (members_in (part_of node.now)) }
+{
+    for i in 0..node.count() {
+        let Some((name, _)) = node.member_at(i) else {
+            continue;
+        };
+        if !is_known(needed, allowed, name) {
+            return false;
+        }
+    }
+    true
+}
+
+fn is_known(needed: &[&str], allowed: &[&str], name: &str) -> bool
+    ensures { result ≡ (is_among (texts needed.now) name.now || is_among (texts allowed.now) name.now) }
+{
+    is_among(needed, name) || is_among(allowed, name)
+}
+
+fn is_among(names: &[&str], text: &str) -> bool
+    ensures { result ≡ is_among (texts names.now) text.now }
+{
+    is_one_of(names, text)
+}
+
+fn is_one_of(names: &[&str], text: &str) -> bool
+    ensures { result ≡ list_any (λ other. bytes_eq other.now text.now) names.now }
+{
+    names.iter().any(|other| *other == text)
+}

@@ -1,0 +1,11 @@
+pub mod Lists
+pub mod Permutations
+pub mod Cells
+pub mod Entities
+pub mod Demands
+pub mod GoodTables
+pub mod Fails
+pub mod Stored
+pub mod Apart
+pub mod Single
+pub mod Unwritten

@@ -1,0 +1,61 @@
+-- Two states of one entity each that differ in values which no pair writes: what a program shows where it refuses a mapping of the
+-- first form.
+use Rattle.std.specs.Prelude.{◌≡◌, ◌≢◌, ◌⊎◌, ◌==◌, [], ◌∷◌, map, All, Contains, IsTrue, pos, if◌then◌else◌}
+use Rattle.emc_base.specs.declared.ids.PropId.{PropId}
+use Rattle.emc_base.specs.declared.value.Value.{Value}
+use Rattle.emc_base.specs.declared.value.Value.TheVariants.{Null, Whole}
+use Rattle.emc_base.specs.Domain.{InDomain}
+use Rattle.edm_types.specs.declared.model.EntityModel.{EntityModel}
+use Rattle.edm_types.specs.declared.model.EntitySet.{EntitySet}
+use Rattle.edm_types.specs.declared.model.Prop.{Prop}
+use Rattle.edm_types.specs.declared.data.Entity.{Entity}
+use Rattle.edm_types.specs.Lists.{At}
+use Rattle.edm_types.specs.Entities.{props_of, key_props}
+use Rattle.edm_types.specs.State.{State}
+use Rattle.round_trip.specs.Schema.{Schema}
+use Rattle.one_table.specs.OneTable.{first_type}
+
+-- the entity of the first type that has these values
+abbrev pub entity_by : EntityModel → (PropId → Value) → Entity
+entity_by model values = record { ty = first_type; values = map values (props_of model first_type) }
+
+-- the state that holds it alone
+abbrev pub state_by : EntityModel → (PropId → Value) → State
+state_by model values = record { entities = (entity_by model values ∷ []) ∷ []; links = [] }
+
+-- the property may hold the value: null where it is nullable, or a value in its domain
+abbrev pub IsAllowed : EntityModel → PropId → Value → Type 0
+IsAllowed model prop value = (declared : Prop) × At model.props prop.index declared × (((value ≡ Null) × IsTrue declared.nullable) ⊎ InDomain value declared.kind)
+
+-- two choices of values for the first type, the same in each property that is written, and different in one that isn't
+pub record AreLost (schema : Schema) (set : EntitySet) (key : PropId) (ones twos : PropId → Value) : Type 0 where
+  pub lost : PropId
+  pub is_set : At schema.model.sets 0 set
+  pub is_key : At (key_props schema.model first_type) 0 key
+  pub ones_allowed : All (λ prop. IsAllowed schema.model prop (ones prop)) (props_of schema.model first_type)
+  pub twos_allowed : All (λ prop. IsAllowed schema.model prop (twos prop)) (props_of schema.model first_type)
+  pub agree : All (λ fragment. All (λ pair. ones pair.prop ≡ twos pair.prop) fragment.pairs) schema.mapping.fragments
+  pub has_prop : Contains (props_of schema.model first_type) lost
+  pub differ : ones lost ≢ twos lost
+
+-- 7 in the key, the value in the lost property, and null elsewhere
+abbrev pub lost_values : PropId → PropId → Value → PropId → Value
+lost_values key lost value prop = if prop.index == key.index then Whole (pos 7) else if prop.index == lost.index then value else Null
+
+-- the property may be null
+abbrev pub IsNullable : EntityModel → PropId → Type 0
+IsNullable model prop = (declared : Prop) × At model.props prop.index declared × IsTrue declared.nullable
+
+-- a property of the first type that no pair writes and that may hold the value, where the key may be 7 and all else null
+pub record IsLost (schema : Schema) (set : EntitySet) (key lost : PropId) (value : Value) : Type 0 where
+  pub declared : Prop
+  pub key_declared : Prop
+  pub is_set : At schema.model.sets 0 set
+  pub is_key : At (key_props schema.model first_type) 0 key
+  pub key_told : At schema.model.props key.index key_declared
+  pub seven : InDomain (Whole (pos 7)) key_declared.kind
+  pub has_prop : Contains (props_of schema.model first_type) lost
+  pub told : At schema.model.props lost.index declared
+  pub holds : InDomain value declared.kind
+  pub unwritten : All (λ fragment. All (λ pair. pair.prop ≢ lost) fragment.pairs) schema.mapping.fragments
+  pub nullable : All (λ prop. (prop ≡ key) ⊎ IsNullable schema.model prop) (props_of schema.model first_type)

@@ -1,0 +1,11 @@
+mod Small
+mod Entities
+mod Writings
+mod People
+mod OneRow
+mod Stored
+mod Unwritten
+mod NameShown
+mod Salary
+mod TwoBosses
+mod Owners

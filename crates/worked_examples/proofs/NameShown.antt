@@ -1,0 +1,72 @@
+-- A person without a name is written, and the row of this isn't shown.
+use Rattle.std.proofs.Common.{◌≡◌, ◌≢◌, inl, List, [], ◌∷◌, refl, ap, arith}
+use Rattle.std.specs.Prelude.{pos, true, false}
+use Rattle.std.proofs.lemmas.List.Elements.{All-from_recursion}
+use Rattle.emc_base.specs.declared.ids.ColId.{ColId}
+use Rattle.emc_base.specs.declared.value.Value.{Value}
+use Rattle.emc_base.specs.declared.value.Value.TheVariants.{Null, Whole}
+use Rattle.edm_types.specs.declared.mapping.Fragment.{Fragment}
+use Rattle.edm_types.specs.declared.mapping.Cond.{Cond}
+use Rattle.edm_types.specs.declared.mapping.Test.TheVariants.{IsNull, Equals}
+use Rattle.edm_types.specs.declared.data.Entity.{Entity}
+use Rattle.edm_types.specs.declared.data.Row.{Row}
+use Rattle.edm_types.specs.Rows.{Tables, cell_of}
+use Rattle.edm_types.specs.Selected.{MetByEntity}
+use Rattle.round_trip.specs.Satisfies.{IsShownTuple}
+use Rattle.round_trip.specs.TablesAre.{TablesAre}
+use Rattle.worked_examples.specs.Ids.{col_id}
+use Rattle.worked_examples.specs.People.{people_model, people_fragment, person, person_row, only_people, only_rows}
+use Rattle.worked_examples.specs.NameShown.{name_stands, people_with_names, NullNameIsHidden}
+use Rattle.worked_examples.proofs.Small.{each_of}
+use Rattle.worked_examples.proofs.Writings.{OfCond}
+use Rattle.worked_examples.proofs.OneRow.{IsMet, selects, the_writing, one_row_demanded}
+use Rattle.worked_examples.proofs.Stored.{both, row_of_both}
+use Rattle.worked_examples.proofs.People.{may_stand, no_name, legal_people}
+
+abbrev unnamed : Entity
+unnamed = person (pos 7) Null
+
+abbrev unnamed_row : Row
+unnamed_row = person_row (pos 7) Null
+
+abbrev row : Tables
+row = only_rows (unnamed_row ∷ [])
+
+abbrev shown : Fragment
+shown = people_fragment both (name_stands ∷ [])
+
+met : IsMet both (name_stands ∷ []) (pos 7) Null Null
+met = All-from_recursion (λ cond. MetByEntity people_model unnamed cond.on cond.test) (name_stands ∷ []) (tt, tt)
+
+-- the condition gives its column nothing
+gives_nothing : (Q : ColId → Value → Type 0) → OfCond (the_writing both (name_stands ∷ []) (pos 7) Null Null) Q name_stands
+gives_nothing Q = record {
+  constant = λ col value equal. let test : IsNull false ≡ Equals value = ap (λ (c : Cond). c.test) equal in absurd (cc);
+  null = λ col equal. let test : IsNull false ≡ IsNull true = ap (λ (c : Cond). c.test) equal in absurd (cc);
+}
+
+stored : TablesAre people_with_names (only_people (unnamed ∷ [])) row
+stored = one_row_demanded both (name_stands ∷ []) (pos 7) Null Null met
+    (row_of_both (name_stands ∷ []) (pos 7) Null (gives_nothing (λ col value. cell_of unnamed_row col ≡ value), tt))
+
+hidden : (tuple : List Value) → ¬ IsShownTuple row shown tuple
+hidden tuple by =
+    let null : cell_of by.0 (col_id 1) ≡ Null = each_of (λ r. cell_of r (col_id 1) ≡ Null) (unnamed_row ∷ []) by.0 (refl, tt) by.1 in
+    let stands : cell_of by.0 (col_id 1) ≢ Null = by.2 0 name_stands (omega arith) in
+    stands null
+
+pub null_name_is_hidden : NullNameIsHidden
+null_name_is_hidden other = record {
+  legal = legal_people (unnamed ∷ []) (may_stand 7 Null (omega arith) no_name, tt) (tt, tt);
+  fails = record {
+    tables = row;
+    defined = stored;
+    tuple = Whole (pos 7) ∷ Null ∷ [];
+    broken = inl (
+      shown,
+      (0, omega arith, refl),
+      inl ((unnamed, (0, omega arith, refl), selects both (name_stands ∷ []) (pos 7) Null Null met, refl), hidden (Whole (pos 7) ∷ Null ∷ [])),
+      refl,
+    );
+  };
+}

@@ -1,0 +1,111 @@
+-- A person who is no employee leaves the salary null.
+use Rattle.std.proofs.Common.{◌≡◌, ◌≢◌, inl, ℕ, [], ◌∷◌, refl, ap, ◌∙◌, arith}
+use Rattle.std.specs.Prelude.{All, pos, codes}
+use Rattle.std.proofs.lemmas.List.Elements.{All-nil, All-from_recursion}
+use Rattle.emc_base.specs.declared.ids.ColId.{ColId}
+use Rattle.emc_base.specs.declared.ids.TypeId.{TypeId}
+use Rattle.emc_base.specs.declared.value.Value.{Value}
+use Rattle.emc_base.specs.declared.value.Value.TheVariants.{Null, Whole}
+use Rattle.edm_types.specs.declared.mapping.Cond.{Cond}
+use Rattle.edm_types.specs.declared.mapping.CondOn.TheVariants as on
+use Rattle.edm_types.specs.declared.data.Entity.{Entity}
+use Rattle.edm_types.specs.Selected.{IsPicked, MetByEntity, Selects}
+use Rattle.edm_types.specs.State.{entities_in, IsLink}
+use Rattle.edm_types.specs.IsA.{same}
+use Rattle.edm_types.specs.Entities.{IsEntity}
+use Rattle.round_trip.specs.Legal.{IsLegal, IsLegalSet}
+use Rattle.round_trip.specs.Demand.{Writing, Writes, Gives}
+use Rattle.worked_examples.specs.Ids.{type_id, set_id, table_id, col_id, just}
+use Rattle.worked_examples.specs.People.{id_prop, name_prop, person_type, people_set, person, only_people}
+use Rattle.worked_examples.specs.Salary.{staff, staff_model, staff_table, salary_column, persons, employees, kind_is, SalaryIsLeftNull}
+use Rattle.worked_examples.proofs.Small.{each_at, each_list, any_one}
+use Rattle.worked_examples.proofs.Entities.{MayStand, shaped_set, legal_set, whole_fits}
+use Rattle.worked_examples.proofs.Writings.{entity_writing, each_writing, each_given, OfCond}
+use Rattle.worked_examples.proofs.People.{no_name}
+
+abbrev someone : Entity
+someone = person (pos 7) Null
+
+may_stand : MayStand staff_model people_set someone
+may_stand = record {
+  shape = (person_type, refl, refl);
+  type = record { concrete = (person_type, refl, refl); under = same (type_id 0) };
+  fits = (record { declared = id_prop; told = refl; fits = whole_fits id_prop 7 refl (omega arith) }, (record { declared = name_prop; told = refl; fits = no_name }, tt));
+}
+
+legal : IsLegal staff_model (only_people (someone ∷ []))
+legal = record {
+  shape = record {
+    sets = refl;
+    assocs = refl;
+    entities = λ set. each_list (All (IsEntity staff_model)) ((someone ∷ []) ∷ []) (All-nil (IsEntity staff_model)) (shaped_set staff_model people_set (someone ∷ []) (may_stand, tt), tt) set.index;
+    links = λ a assoc at. each_at (λ i assoc. All (IsLink staff_model assoc) []) [] tt a.index assoc at;
+  };
+  sets = λ s set at. each_at (λ i set. IsLegalSet staff_model set (entities_in (only_people (someone ∷ [])) (set_id i))) staff_model.sets
+      (legal_set staff_model people_set (someone ∷ []) (may_stand, tt) (tt, tt), tt) s.index set at;
+  links = λ a assoc at. absurd (each_at (λ i assoc. ⊥) [] tt a.index assoc at);
+  principals = λ a assoc constraint at. absurd (each_at (λ i assoc. ⊥) [] tt a.index assoc at);
+}
+
+selected : Selects staff_model persons someone
+selected = record {
+  picked = (0, just (type_id 0), omega arith, refl, refl);
+  meets = All-from_recursion (λ cond. MetByEntity staff_model someone cond.on cond.test) (kind_is (codes "P") ∷ []) (tt, tt);
+}
+
+not_employed : ¬ Selects staff_model employees someone
+not_employed selects =
+    let type : type_id 0 ≡ type_id 1 = any_one (IsPicked staff_model (type_id 0)) (just (type_id 1)) selects.picked in
+    let index : ◌≡◌ {A = ℕ} 0 1 = ap (λ (t : TypeId). t.index) type in
+    absurd (omega arith)
+
+abbrev written : Writing
+written = entity_writing staff persons someone
+
+-- a value that is given to the column of salaries is null
+abbrev IsNullSalary : ColId → Value → Type 0
+IsNullSalary col value = col ≡ col_id 3 → value ≡ Null
+
+other_column : (i : ℕ) (value : Value) → i ≢ 3 → IsNullSalary (col_id i) value
+other_column i value other equal = absurd (other (ap (λ (c : ColId). c.index) equal))
+
+kind_given : OfCond written IsNullSalary (kind_is (codes "P"))
+kind_given = record {
+  constant = λ col value equal third.
+      let at : on.Col (col_id 2) ≡ on.Col col = ap (λ (c : Cond). c.on) equal in
+      let second : col_id 2 ≡ col = cc in
+      let index : ◌≡◌ {A = ℕ} 2 3 = ap (λ (c : ColId). c.index) (second ∙ third) in
+      absurd (omega arith);
+  null = λ col equal third. refl;
+}
+
+no_salary : (writing : Writing) → Writes staff (only_people (someone ∷ [])) writing → (value : Value) → Gives writing (col_id 3) value → value ≡ Null
+no_salary writing by = each_writing staff (only_people (someone ∷ [])) (λ w. (value : Value) → Gives w (col_id 3) value → value ≡ Null) (
+  ((λ selects value gives. each_given written IsNullSalary (other_column 0 _ (omega arith), (other_column 1 _ (omega arith), tt)) (kind_given, tt) (col_id 3) value gives refl), tt),
+  (((λ selects. absurd (not_employed selects)), tt), tt),
+)
+    tt writing by
+
+pub salary_is_left_null : SalaryIsLeftNull
+salary_is_left_null other = record {
+  legal = legal;
+  fails = record {
+    t = table_id 0;
+    table = staff_table;
+    col = col_id 3;
+    column = salary_column;
+    key = Whole (pos 7) ∷ [];
+    has_column = record { is_table = refl; is_column = refl };
+    not_nullable = refl;
+    demands_row = (
+      written,
+      record {
+        writes = inl (persons, someone, record { mapped = (0, omega arith, refl); stands = (0, omega arith, refl); selected = selected }, refl);
+        to_table = refl;
+        to_key = refl;
+      },
+    );
+    no_value = λ value demands. no_salary demands.0 demands.1.writes value demands.2;
+    place_is = refl;
+  };
+}

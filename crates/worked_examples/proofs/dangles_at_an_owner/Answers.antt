@@ -1,0 +1,5 @@
+use Rattle.worked_examples.proofs.Owners.{owner_dangles}
+use Rattle.worked_examples.proofs.dangles_at_an_owner.Goals as goal
+
+pub returns : goal.returns
+returns c = record { fails = owner_dangles }

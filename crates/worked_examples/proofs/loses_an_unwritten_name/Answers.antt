@@ -1,0 +1,5 @@
+use Rattle.worked_examples.proofs.Unwritten.{name_is_lost}
+use Rattle.worked_examples.proofs.loses_an_unwritten_name.Goals as goal
+
+pub returns : goal.returns
+returns c = record { fails = name_is_lost }

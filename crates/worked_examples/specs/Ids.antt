@@ -1,0 +1,79 @@
+-- Short words for the parts of small models: ids by their numbers, and what the examples share.
+use Rattle.std.specs.Prelude.{ℕ, List, [], ◌∷◌, true, false}
+use Rattle.emc_base.specs.declared.ids.TypeId.{TypeId}
+use Rattle.emc_base.specs.declared.ids.SetId.{SetId}
+use Rattle.emc_base.specs.declared.ids.PropId.{PropId}
+use Rattle.emc_base.specs.declared.ids.TableId.{TableId}
+use Rattle.emc_base.specs.declared.ids.ColId.{ColId}
+use Rattle.emc_base.specs.declared.ids.AssocId.{AssocId}
+use Rattle.emc_base.specs.declared.value.Value.{Value}
+use Rattle.emc_base.specs.declared.value.Kind.{Kind}
+use Rattle.edm_types.specs.declared.model.Prop.{Prop}
+use Rattle.edm_types.specs.declared.model.TypeNode.{TypeNode, TypeNode', end_of-TypeNode, more_of-TypeNode}
+use Rattle.edm_types.specs.declared.model.EntitySet.{EntitySet}
+use Rattle.edm_types.specs.declared.store.Column.{Column}
+use Rattle.edm_types.specs.declared.mapping.Pair.{Pair}
+use Rattle.edm_types.specs.declared.mapping.Pick.{Pick}
+use Rattle.edm_types.specs.declared.data.Entity.{Entity}
+use Rattle.edm_types.specs.declared.data.Row.{Row}
+
+abbrev pub type_id : ℕ → TypeId
+type_id n = record { index = n }
+
+abbrev pub set_id : ℕ → SetId
+set_id n = record { index = n }
+
+abbrev pub prop_id : ℕ → PropId
+prop_id n = record { index = n }
+
+abbrev pub table_id : ℕ → TableId
+table_id n = record { index = n }
+
+abbrev pub col_id : ℕ → ColId
+col_id n = record { index = n }
+
+abbrev pub assoc_id : ℕ → AssocId
+assoc_id n = record { index = n }
+
+-- a property that can't be null, and one that can
+abbrev pub needed : TypeId → List ℕ → Kind → Prop
+needed owner name kind = record { owner = owner; name = name; kind = kind; nullable = false }
+
+abbrev pub optional : TypeId → List ℕ → Kind → Prop
+optional owner name kind = record { owner = owner; name = name; kind = kind; nullable = true }
+
+-- a column that can't be null, and one that can
+abbrev pub needed_column : List ℕ → Kind → Column
+needed_column name kind = record { name = name; kind = kind; nullable = false }
+
+abbrev pub optional_column : List ℕ → Kind → Column
+optional_column name kind = record { name = name; kind = kind; nullable = true }
+
+-- a set by its name and element type
+abbrev pub set_of : List ℕ → TypeId → EntitySet
+set_of name element = record { name = name; element = element }
+
+-- a property by its number with a column by its number
+abbrev pub pair_of : ℕ → ℕ → Pair
+pair_of prop col = record { prop = prop_id prop; col = col_id col }
+
+-- a type alone, and a type with all below it
+abbrev pub just : TypeId → Pick
+just ty = record { ty = ty; below = false }
+
+abbrev pub with_below : TypeId → Pick
+with_below ty = record { ty = ty; below = true }
+
+-- an entity of a type by its values, and a row by its cells
+abbrev pub entity_of : TypeId → List Value → Entity
+entity_of ty values = record { ty = ty; values = values }
+
+abbrev pub row_of : List Value → Row
+row_of cells = record { cells = cells }
+
+-- a concrete type with no type below it, and one with one such type below it
+abbrev pub leaf : TypeId → TypeNode
+leaf ty = TypeNode' ty false [] end_of-TypeNode
+
+abbrev pub stem : TypeId → TypeId → TypeNode
+stem ty below = TypeNode' ty false (tt ∷ []) (more_of-TypeNode (leaf below) end_of-TypeNode)

@@ -1,0 +1,94 @@
+-- Salary: people and employees in one table, told apart by the column Kind. The column of salaries can't be null, and nothing
+-- writes it for a person who is no employee.
+use Rattle.std.specs.Prelude.{ℕ, pos, List, [], ◌∷◌, Some, None, false, codes}
+use Rattle.emc_base.specs.declared.ids.TypeId.{TypeId}
+use Rattle.emc_base.specs.declared.value.Value.TheVariants.{Null, Whole, Text}
+use Rattle.emc_base.specs.declared.value.Kind.TheVariants as kind
+use Rattle.edm_types.specs.declared.model.EntityModel.{EntityModel}
+use Rattle.edm_types.specs.declared.model.EntityType.{EntityType}
+use Rattle.edm_types.specs.declared.model.Prop.{Prop}
+use Rattle.edm_types.specs.declared.store.StoreModel.{StoreModel}
+use Rattle.edm_types.specs.declared.store.Table.{Table}
+use Rattle.edm_types.specs.declared.store.Column.{Column}
+use Rattle.edm_types.specs.declared.mapping.Fragment.{Fragment}
+use Rattle.edm_types.specs.declared.mapping.Pair.{Pair}
+use Rattle.edm_types.specs.declared.mapping.Cond.{Cond}
+use Rattle.edm_types.specs.declared.mapping.CondOn.TheVariants as on
+use Rattle.edm_types.specs.declared.mapping.Test.TheVariants.{Equals}
+use Rattle.edm_types.specs.State.{State}
+use Rattle.round_trip.specs.declared.FailKind.TheVariants as kinds
+use Rattle.round_trip.specs.Schema.{Schema}
+use Rattle.round_trip.specs.Breaches.{place_at}
+use Rattle.round_trip.specs.FailsAt.{FailsAt}
+use Rattle.worked_examples.specs.Ids.{type_id, set_id, prop_id, table_id, col_id, needed, needed_column, optional_column, pair_of, just, stem}
+use Rattle.worked_examples.specs.People.{id_prop, name_prop, person_type, people_set, person, only_people}
+
+abbrev pub salary_prop : Prop
+salary_prop = needed (type_id 1) (codes "Salary") kind.Int32
+
+-- an employee is a person with a salary
+abbrev pub employee_type : EntityType
+employee_type = record {
+  name = codes "Employee";
+  base = Some (type_id 0);
+  is_abstract = false;
+  key = prop_id 0 ∷ [];
+  props = prop_id 0 ∷ prop_id 1 ∷ prop_id 2 ∷ [];
+  navs = [];
+}
+
+abbrev pub staff_model : EntityModel
+staff_model = record {
+  namespace = codes "N";
+  alias = None;
+  container = codes "C";
+  types = person_type ∷ employee_type ∷ [];
+  props = id_prop ∷ name_prop ∷ salary_prop ∷ [];
+  forest = stem (type_id 0) (type_id 1) ∷ [];
+  sets = people_set ∷ [];
+  assocs = [];
+}
+
+abbrev pub salary_column : Column
+salary_column = needed_column (codes "Salary") kind.Int32
+
+abbrev pub staff_table : Table
+staff_table = record {
+  name = codes "People";
+  cols = needed_column (codes "Id") kind.Int32 ∷ optional_column (codes "Name") (kind.Text (Some 20))
+      ∷ needed_column (codes "Kind") (kind.Text (Some 1)) ∷ salary_column ∷ [];
+  key = col_id 0 ∷ [];
+}
+
+abbrev pub staff_store : StoreModel
+staff_store = record { namespace = codes "S"; container = codes "D"; tables = staff_table ∷ []; keys = [] }
+
+-- the column Kind holds the text
+abbrev pub kind_is : List ℕ → Cond
+kind_is text = record { on = on.Col (col_id 2); test = Equals (Text text) }
+
+abbrev pub of_kind : List ℕ → TypeId → List Pair → List ℕ → Fragment
+of_kind place type pairs text = record {
+  place = place;
+  set = set_id 0;
+  picks = just type ∷ [];
+  table = table_id 0;
+  pairs = pairs;
+  conds = kind_is text ∷ [];
+}
+
+abbrev pub persons : Fragment
+persons = of_kind (codes "/EntityContainerMapping/EntitySetMapping/0/EntityTypeMapping/0/MappingFragment/0") (type_id 0)
+    (pair_of 0 0 ∷ pair_of 1 1 ∷ []) (codes "P")
+
+abbrev pub employees : Fragment
+employees = of_kind (codes "/EntityContainerMapping/EntitySetMapping/0/EntityTypeMapping/1/MappingFragment/0") (type_id 1)
+    (pair_of 0 0 ∷ pair_of 1 1 ∷ pair_of 2 3 ∷ []) (codes "E")
+
+abbrev pub staff : Schema
+staff = record { model = staff_model; store = staff_store; mapping = record { fragments = persons ∷ employees ∷ []; links = [] } }
+
+-- the second state is not looked at
+abbrev pub SalaryIsLeftNull : Type 0
+SalaryIsLeftNull = (other : State) → FailsAt staff kinds.Null (place_at (codes "People") (Whole (pos 7) ∷ []) (codes "Salary"))
+    (only_people (person (pos 7) Null ∷ [])) other
