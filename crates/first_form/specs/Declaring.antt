@@ -43,14 +43,19 @@ column_of vocabulary d = record {
     kind = if bytes_eq (text_at (codes "/Type") d) (text_word vocabulary) then kind.Text (bound_of d) else kind.Int32;
     nullable = unwrap_or (as_bool (part_at (codes "/Nullable") d)) true }
 
+-- the full name of the one type
+abbrev pub reference_in : Data → List ℕ
+reference_in d = text_at (codes "/Namespace") d ++ 46 ∷ text_at (codes "/EntityType/0/Name") d
+
 -- the names that stand in the document, and its properties or columns
-abbrev pub declared_in : Vocabulary → Data → Declared
+unfoldable pub declared_in : Vocabulary → Data → Declared
 declared_in vocabulary d = record {
     namespace = text_at (codes "/Namespace") d;
     container = text_at (codes "/EntityContainer/Name") d;
     set = text_at (codes "/EntityContainer/EntitySet/0/Name") d;
     element = text_at (codes "/EntityContainer/EntitySet/0/EntityType") d;
     type_name = text_at (codes "/EntityType/0/Name") d;
+    reference = reference_in d;
     key = text_at (codes "/EntityType/0/Key/0") d;
     columns = map (column_of vocabulary) (items_at (codes "/EntityType/0/Property") d) }
 

@@ -16,6 +16,7 @@ use Rattle.first_form.specs.declared.mapped_form.Mapped.{Mapped}
 use Rattle.first_form.specs.declared.mapped_form.MappingPart.{MappingPart}
 use Rattle.first_form.specs.declared.mapped_form.MappingPart.TheVariants as part
 use Rattle.first_form.specs.declared.mapped_form.NamedPair.{NamedPair}
+use Rattle.first_form.specs.declared.content.Content.{Content}
 use Rattle.first_form.specs.Parts.{text_at, items_at, part_at}
 use Rattle.first_form.specs.declared.shape.Shape.TheVariants as shape
 use Rattle.first_form.specs.Shapes.{has_shape}
@@ -26,11 +27,13 @@ use Rattle.first_form.specs.Declaring.{is_property, is_given_name, declared_in}
 abbrev pub has_one_item : Data → Bool
 has_one_item d = length (items_in d) == 1
 
--- the objects of a CSDL or SSDL document down to its one set
+-- the root and the container of a CSDL or SSDL document
+abbrev pub has_container_layout : Data → Bool
+has_container_layout d = has_shape shape.Declaring d && has_shape shape.Container (part_at (codes "/EntityContainer") d)
+
+-- its one set
 abbrev pub has_set_layout : Data → Bool
-has_set_layout d = has_shape shape.Declaring d
-    && has_shape shape.Container (part_at (codes "/EntityContainer") d)
-    && has_one_item (part_at (codes "/EntityContainer/EntitySet") d)
+has_set_layout d = has_one_item (part_at (codes "/EntityContainer/EntitySet") d)
     && has_shape shape.Set (part_at (codes "/EntityContainer/EntitySet/0") d)
 
 -- its one type, with a key of one name
@@ -39,14 +42,10 @@ has_type_layout d = has_one_item (part_at (codes "/EntityType") d)
     && has_shape shape.Type (part_at (codes "/EntityType/0") d)
     && has_one_item (part_at (codes "/EntityType/0/Key") d)
 
--- the full name of the one type
-abbrev pub type_reference : Declared → List ℕ
-type_reference declared = declared.namespace ++ 46 ∷ declared.type_name
-
 -- the names are names, and the set is one of the type
 abbrev pub has_good_names : Vocabulary → Declared → Bool
 has_good_names vocabulary declared = is_namespace declared.namespace && is_name declared.container && is_given_name vocabulary declared.set
-    && is_plain_name declared.type_name && bytes_eq declared.element (type_reference declared)
+    && is_plain_name declared.type_name && bytes_eq declared.element declared.reference
 
 -- no two have one name
 abbrev pub have_different_names : List Column → Bool
@@ -79,8 +78,8 @@ has_good_columns declared = nat_le 1 (length declared.columns) && nat_le (length
     && has_column declared.key declared.columns && list_all (is_key_or_nullable declared.key) declared.columns
 
 -- a CSDL or SSDL document of the first form
-abbrev pub is_declaring : Vocabulary → Data → Bool
-is_declaring vocabulary d = has_set_layout d && has_type_layout d && list_all (is_property vocabulary) (items_at (codes "/EntityType/0/Property") d)
+unfoldable pub is_declaring : Vocabulary → Data → Bool
+is_declaring vocabulary d = has_container_layout d && has_set_layout d && has_type_layout d && list_all (is_property vocabulary) (items_at (codes "/EntityType/0/Property") d)
     && has_good_names vocabulary (declared_in vocabulary d) && has_good_columns (declared_in vocabulary d)
 
 -- where a part of an MSL document stands
@@ -124,7 +123,7 @@ abbrev pub named_pair_of : Data → NamedPair
 named_pair_of d = record { property = text_at (codes "/Name") d; column = text_at (codes "/ColumnName") d }
 
 -- the names that stand in the document
-abbrev pub mapped_in : Data → Mapped
+unfoldable pub mapped_in : Data → Mapped
 mapped_in d = record {
     store_container = text_at (path_of part.StoreContainer) d;
     model_container = text_at (path_of part.ModelContainer) d;
@@ -134,13 +133,13 @@ mapped_in d = record {
     pairs = map named_pair_of (items_at (path_of part.Pairs) d) }
 
 -- an MSL document of the first form
-abbrev pub is_mapping : Data → Bool
+unfoldable pub is_mapping : Data → Bool
 is_mapping d = has_set_mapping_layout d && has_type_mapping_layout d && has_fragment_layout d && list_all is_named_pair (items_at (path_of part.Pairs) d)
 
 -- the mapping is between these two
-abbrev pub names_both : Declared → Declared → Mapped → Bool
+unfoldable pub names_both : Declared → Declared → Mapped → Bool
 names_both model store mapped = bytes_eq mapped.store_container store.container && bytes_eq mapped.model_container model.container
-    && bytes_eq mapped.set model.set && bytes_eq mapped.type_name (type_reference model) && bytes_eq mapped.table store.set
+    && bytes_eq mapped.set model.set && bytes_eq mapped.type_name model.reference && bytes_eq mapped.table store.set
 
 -- a bound of a column that is none, or not smaller than the property's
 abbrev pub is_wide_enough : Option ℕ → Option ℕ → Bool
@@ -169,17 +168,27 @@ name_each_once [] = true
 name_each_once (pair ∷ pairs) = not (list_any (λ other. other.prop.index == pair.prop.index || other.col.index == pair.col.index) pairs) && name_each_once pairs
 
 -- the pairs of the mapping, by their places
-abbrev pub pairs_of : Declared → Declared → Mapped → List Pair
+unfoldable pub pairs_of : Declared → Declared → Mapped → List Pair
 pairs_of model store mapped = map (pair_of model.columns store.columns) mapped.pairs
 
 -- each pair fits, none names what another names, and the keys are paired with each other
-abbrev pub has_good_pairs : Declared → Declared → List Pair → Bool
+unfoldable pub has_good_pairs : Declared → Declared → List Pair → Bool
 has_good_pairs model store pairs = list_all (λ pair. pair_fits (slice_get model.columns pair.prop.index) (slice_get store.columns pair.col.index)) pairs
     && name_each_once pairs
     && list_any (λ pair. pair.prop.index == place_of model.key model.columns && pair.col.index == place_of store.key store.columns) pairs
 
+-- what stands in the three documents
+abbrev pub content_in : Data → Data → Data → Content
+content_in csdl ssdl msl = record {
+    model = declared_in Model csdl;
+    store = declared_in Store ssdl;
+    mapped = mapped_in msl;
+    pairs = pairs_of (declared_in Model csdl) (declared_in Store ssdl) (mapped_in msl) }
+
+-- the mapping is between the two, and its pairs are good
+abbrev pub does_content_fit : Content → Bool
+does_content_fit content = names_both content.model content.store content.mapped && has_good_pairs content.model content.store content.pairs
+
 -- three documents of the first form
-abbrev pub is_first_form : Data → Data → Data → Bool
-is_first_form csdl ssdl msl = is_declaring Model csdl && is_declaring Store ssdl && is_mapping msl
-    && names_both (declared_in Model csdl) (declared_in Store ssdl) (mapped_in msl)
-    && has_good_pairs (declared_in Model csdl) (declared_in Store ssdl) (pairs_of (declared_in Model csdl) (declared_in Store ssdl) (mapped_in msl))
+unfoldable pub is_first_form : Data → Data → Data → Bool
+is_first_form csdl ssdl msl = is_declaring Model csdl && is_declaring Store ssdl && is_mapping msl && does_content_fit (content_in csdl ssdl msl)

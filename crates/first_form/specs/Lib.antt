@@ -4,3 +4,4 @@ pub mod Shapes
 pub mod Declaring
 pub mod Form
 pub mod Meaning
+pub mod Schemas

@@ -1,6 +1,6 @@
 -- What documents of the first form mean: the entity model, the store model and the mapping.
 -- Source: CSDL, SSDL and MSL version 3.
-use Rattle.std.specs.Prelude.{◌==◌, ◌+◌, ℕ, List, [], ◌∷◌, ◌++◌, map, length, Bool, true, false, Option, None, codes}
+use Rattle.std.specs.Prelude.{◌==◌, ◌+◌, ℕ, List, [], ◌∷◌, ◌++◌, map, length, Bool, true, false, Option, Some, None, if◌then◌else◌, codes}
 use Rattle.std.specs.List.{list_any, list_all}
 use Rattle.serde_json.specs.Data.{Data}
 use Rattle.emc_base.specs.declared.ids.PropId.{PropId}
@@ -16,7 +16,8 @@ use Rattle.first_form.specs.declared.declared_form.Declared.{Declared}
 use Rattle.first_form.specs.declared.declared_form.Vocabulary.TheVariants.{Model, Store}
 use Rattle.first_form.specs.declared.mapped_form.Mapped.{Mapped}
 use Rattle.first_form.specs.Declaring.{declared_in}
-use Rattle.first_form.specs.Form.{place_of, pairs_of, mapped_in, path_of}
+use Rattle.first_form.specs.Form.{place_of, path_of, content_in, is_first_form}
+use Rattle.first_form.specs.declared.content.Content.{Content}
 use Rattle.first_form.specs.declared.mapped_form.MappingPart.TheVariants as part
 
 -- a property of the one type
@@ -29,7 +30,7 @@ ids_from first [] = []
 ids_from first (column ∷ columns) = record { index = first } ∷ ids_from (first + 1) columns
 
 -- one set of one concrete type with these properties, and no association
-abbrev pub model_of : Declared → EntityModel
+unfoldable pub model_of : Declared → EntityModel
 model_of declared = record {
     namespace = declared.namespace;
     alias = None;
@@ -42,7 +43,7 @@ model_of declared = record {
     assocs = [] }
 
 -- one table with these columns, and no foreign key
-abbrev pub store_of : Declared → StoreModel
+unfoldable pub store_of : Declared → StoreModel
 store_of declared = record {
     namespace = declared.namespace;
     container = declared.container;
@@ -50,7 +51,7 @@ store_of declared = record {
     keys = [] }
 
 -- one fragment of the one type, without conditions
-abbrev pub mapping_of : List Pair → Mapping
+unfoldable pub mapping_of : List Pair → Mapping
 mapping_of pairs = record {
     fragments = record {
         place = path_of part.Fragment;
@@ -62,12 +63,13 @@ mapping_of pairs = record {
     links = [] }
 
 -- what the three documents mean
-abbrev pub meaning_of : Data → Data → Data → Schema
-meaning_of csdl ssdl msl = record {
-    model = model_of (declared_in Model csdl);
-    store = store_of (declared_in Store ssdl);
-    mapping = mapping_of (pairs_of (declared_in Model csdl) (declared_in Store ssdl) (mapped_in msl)) }
+abbrev pub meaning_of : Content → Schema
+meaning_of content = record { model = model_of content.model; store = store_of content.store; mapping = mapping_of content.pairs }
 
 -- the property stands in some pair
 abbrev pub is_written : List Pair → PropId → Bool
 is_written pairs prop = list_any (λ pair. pair.prop.index == prop.index) pairs
+
+-- what they mean, where they are of the first form
+abbrev pub first_form_meaning : Data → Data → Data → Option Schema
+first_form_meaning csdl ssdl msl = if is_first_form csdl ssdl msl then Some (meaning_of (content_in csdl ssdl msl)) else None

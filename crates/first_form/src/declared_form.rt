@@ -4,7 +4,7 @@ ghost use Rattle.serde_json.specs.Find.{as_bool, get};
 ghost use Rattle.serde_json.specs.View.{view};
 ghost use Rattle.json_form.specs.Nodes.{part_of};
 ghost use Rattle.first_form.specs.Parts.{items_at, part_at, text_at};
-ghost use Rattle.first_form.specs.Declaring.{bound_of, column_of, declared_in, has_known_nullable, has_known_type, is_bound, is_given_name, is_property, is_typed, short_number, text_word, whole_word};
+ghost use Rattle.first_form.specs.Declaring.{bound_of, column_of, declared_in, has_known_nullable, has_known_type, is_bound, is_given_name, is_property, is_typed, reference_in, short_number, text_word, whole_word};
 
 use crate::names::{is_name, is_plain_name};
 use crate::parts::{items_at, str_at, text_at};
@@ -23,7 +23,7 @@ pub enum Vocabulary {
 }
 
 /// What a document of the first form declares: the names of its one set and one type, its key, and its properties or
-/// columns. The element is the type reference of the set as it stands.
+/// columns. The element is the type reference of the set as it stands; the reference is the type's full name.
 #[derive(Drop)]
 pub struct Declared {
     pub namespace: Txt,
@@ -31,6 +31,7 @@ pub struct Declared {
     pub set: Txt,
     pub element: Txt,
     pub type_name: Txt,
+    pub reference: Txt,
     pub key: Txt,
     pub columns: Seq<Column>,
 }
@@ -65,9 +66,19 @@ pub(crate) fn read_declared(alloc: Global, vocabulary: Vocabulary, root: &Node<'
         set: text_at(alloc, root, "/EntityContainer/EntitySet/0/Name")?,
         element: text_at(alloc, root, "/EntityContainer/EntitySet/0/EntityType")?,
         type_name: text_at(alloc, root, "/EntityType/0/Name")?,
+        reference: reference_in(alloc, root)?,
         key: text_at(alloc, root, "/EntityType/0/Key/0")?,
         columns: read_columns_at(alloc, vocabulary, root, "/EntityType/0/Property")?,
     })
+}
+
+fn reference_in(alloc: Global, root: &Node<'_>) -> Result<Txt, Memory>
+    ensures { IfOk result (λ text. text ≡ reference_in (part_of root.now)) }
+{
+    let namespace = str_at(root, "/Namespace");
+    let name = str_at(root, "/EntityType/0/Name");
+    let text = format!(in alloc; "{namespace}.{name}")?;
+    Ok(Txt::from_string(text))
 }
 
 fn read_columns_at(
@@ -124,8 +135,14 @@ fn short_number(number: i64) -> Option<u32>
     u32::try_from(number).ok()
 }
 
-/// Whether each item is a property or column of the first form.
-pub(crate) fn are_properties(vocabulary: Vocabulary, items: &[Value]) -> bool
+// Whether each item of the one type's Property is a property or column of the first form.
+pub(crate) fn are_properties_at(vocabulary: Vocabulary, root: &Node<'_>) -> bool
+    ensures { result ≡ list_all (is_property vocabulary) (items_at (codes "/EntityType/0/Property") (part_of root.now)) }
+{
+    are_properties(vocabulary, items_at(root, "/EntityType/0/Property"))
+}
+
+fn are_properties(vocabulary: Vocabulary, items: &[Value]) -> bool
     ensures { result ≡ list_all (is_property vocabulary) (map view items.now) }
 {
     are_all_properties(vocabulary, items)
@@ -151,7 +168,7 @@ fn is_typed(vocabulary: Vocabulary, node: &Node<'_>) -> bool
     has_known_type(vocabulary, node) && has_known_nullable(node)
 }
 
-fn is_given_name(vocabulary: Vocabulary, name: &str) -> bool
+pub(crate) fn is_given_name(vocabulary: Vocabulary, name: &str) -> bool
     ensures { result ≡ is_given_name vocabulary name.now }
 {
     match vocabulary {

@@ -1,12 +1,17 @@
 //! The first form of the three documents: what it is, and what documents of it mean.
 #![tactic(auto)]
 
+mod content;
 mod declared_form;
+mod form;
 mod mapped_form;
+mod meaning;
 mod names;
 mod parts;
 mod shape;
 
+pub use content::Content;
 pub use declared_form::{Declared, Vocabulary};
 pub use mapped_form::{Mapped, MappingPart, NamedPair};
+pub use meaning::{Meaning, read_first_form};
 pub use shape::Shape;

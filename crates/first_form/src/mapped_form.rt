@@ -128,6 +128,7 @@ fn read_pair(alloc: Global, node: &Node<'_>) -> Result<NamedPair, Memory>
 }
 
 /// Whether an MSL document has just the members of the first form.
+#[tactic(auto, unfolding(crate::specs::Form::is_mapping))]
 pub(crate) fn is_mapping(root: &Node<'_>) -> bool
     ensures { result ≡ is_mapping (part_of root.now) }
 {

@@ -1,11 +1,12 @@
 mod Small
 mod Entities
 mod Writings
+mod States
 mod People
 mod OneRow
 mod Stored
 mod Unwritten
-mod NameShown
 mod Salary
+mod NameShown
 mod TwoBosses
 mod Owners

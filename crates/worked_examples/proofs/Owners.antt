@@ -1,5 +1,5 @@
 -- An order of a person who is no employee: the state is legal, and its tables have no row of an employee.
-use Rattle.std.proofs.Common.{◌≡◌, ◌≢◌, ◌⊎◌, inl, inr, ℕ, ◌≤◌, [], ◌∷◌, length, refl, sym, ap, subst, arith}
+use Rattle.std.proofs.Common.{◌≡◌, ◌≢◌, inl, inr, ℕ, ◌≤◌, [], ◌∷◌, length, refl, sym, ap, subst, arith}
 use Rattle.std.specs.Prelude.{All, pos, Some}
 use Rattle.std.proofs.lemmas.List.Elements.{All-nil, All-from_recursion}
 use Rattle.emc_base.specs.declared.ids.TypeId.{TypeId}
@@ -7,22 +7,25 @@ use Rattle.emc_base.specs.declared.ids.TableId.{TableId}
 use Rattle.emc_base.specs.declared.ids.ColId.{ColId}
 use Rattle.emc_base.specs.declared.value.Value.{Value}
 use Rattle.emc_base.specs.declared.value.Value.TheVariants.{Null, Whole}
+use Rattle.edm_types.specs.declared.model.EntityType.{EntityType}
 use Rattle.edm_types.specs.declared.data.Entity.{Entity}
 use Rattle.edm_types.specs.declared.data.Row.{Row}
 use Rattle.edm_types.specs.IsA.{IsA, HasBase, same}
-use Rattle.edm_types.specs.Entities.{IsEntity, values_of}
-use Rattle.edm_types.specs.State.{entities_in, links_in, IsLink, IsIndependent}
-use Rattle.edm_types.specs.Rows.{Tables, rows_in, cell_of}
+use Rattle.edm_types.specs.Entities.{values_of}
+use Rattle.edm_types.specs.State.{IsLink}
+use Rattle.edm_types.specs.Rows.{Tables}
 use Rattle.edm_types.specs.Selected.{IsPicked, MetByEntity, Selects}
-use Rattle.round_trip.specs.Legal.{IsLegal, IsLegalSet, AreLegalLinks, HavePrincipals, HasPrincipal}
+use Rattle.round_trip.specs.Legal.{IsLegal, HavePrincipals, HasPrincipal}
 use Rattle.round_trip.specs.Demand.{Writing, Writes, Gives, written_to}
-use Rattle.round_trip.specs.TablesAre.{TablesAre, AreDemandedRows}
-use Rattle.worked_examples.specs.Ids.{type_id, set_id, prop_id, table_id, col_id, assoc_id, just, with_below, row_of}
+use Rattle.round_trip.specs.TablesAre.{TablesAre}
+use Rattle.worked_examples.specs.Ids.{type_id, prop_id, table_id, just, with_below, row_of}
 use Rattle.worked_examples.specs.People.{id_prop, name_prop, person_type, people_set, people_table, person, person_row}
-use Rattle.worked_examples.specs.Owners.{employees_table, order_id_prop, owner_id_prop, order_type, orders_set, owner, owner_constraint, owner_key, shop_model, shop_store, orders_table, all_people, all_employees, orders, shop, order, owned_by_a_person, OwnerDangles}
-use Rattle.worked_examples.proofs.Small.{each_at, each_list, any_one}
+use Rattle.worked_examples.specs.Owners.{employee_type, employees_table, order_id_prop, owner_id_prop, order_type, orders_set, owner, owner_constraint, owner_key}
+use Rattle.worked_examples.specs.Owners.{shop_model, orders_table, all_people, all_employees, orders, shop, order, owned_by_a_person, OwnerDangles}
+use Rattle.worked_examples.proofs.Small.{each_at, any_one}
 use Rattle.worked_examples.proofs.Entities.{IsA-after, MayStand, shaped_set, legal_set, whole_fits}
-use Rattle.worked_examples.proofs.Writings.{entity_writing, each_writing, each_given, IsOnlyWriting, IsRowOf, one_row, no_row, no_clash}
+use Rattle.worked_examples.proofs.Writings.{entity_writing, each_writing, each_given, IsOnlyWriting, IsRowOf, AreApart, one_row, no_row, row_made}
+use Rattle.worked_examples.proofs.States.{legal_by_parts, stored_by_tables}
 use Rattle.worked_examples.proofs.People.{no_name}
 
 abbrev someone : Entity
@@ -48,33 +51,47 @@ may_be_ordered = record {
   );
 }
 
--- the order finds its owner
+-- the entity, if it is an order of an owner, finds this owner
+abbrev FindsOwner : Entity → Type 0
+FindsOwner entity = IsA shop_model entity.ty (type_id 2) → All (λ value. value ≢ Null) (values_of shop_model entity (prop_id 3 ∷ []))
+    → HasPrincipal shop_model owned_by_a_person owner owner_constraint (values_of shop_model entity (prop_id 3 ∷ []))
+
 owners_stand : HavePrincipals shop_model owned_by_a_person owner owner_constraint
-owners_stand = All-from_recursion (λ entity. IsA shop_model entity.ty (type_id 2) → All (λ value. value ≢ Null) (values_of shop_model entity (prop_id 3 ∷ []))
-    → HasPrincipal shop_model owned_by_a_person owner owner_constraint (values_of shop_model entity (prop_id 3 ∷ []))) (ordered ∷ [])
-    ((λ typed told. (0, someone, omega arith, refl, refl)), tt)
+owners_stand = All-from_recursion FindsOwner (ordered ∷ []) ((λ typed told. (0, someone, omega arith, refl, refl)), tt)
 
 legal : IsLegal shop_model owned_by_a_person
-legal = record {
-  shape = record {
-    sets = refl;
-    assocs = refl;
-    entities = λ set. each_list (All (IsEntity shop_model)) ((someone ∷ []) ∷ (ordered ∷ []) ∷ []) (All-nil (IsEntity shop_model))
-        (shaped_set shop_model people_set (someone ∷ []) (may_stand, tt), (shaped_set shop_model orders_set (ordered ∷ []) (may_be_ordered, tt), tt)) set.index;
-    links = λ a assoc at. each_at (λ i assoc. All (IsLink shop_model assoc) (links_in owned_by_a_person (assoc_id i))) shop_model.assocs (All-nil (IsLink shop_model owner), tt) a.index assoc at;
-  };
-  sets = λ s set at. each_at (λ i set. IsLegalSet shop_model set (entities_in owned_by_a_person (set_id i))) shop_model.sets
-      (legal_set shop_model people_set (someone ∷ []) (may_stand, tt) (tt, tt), (legal_set shop_model orders_set (ordered ∷ []) (may_be_ordered, tt) (tt, tt), tt)) s.index set at;
-  links = λ a assoc at. each_at (λ i assoc. IsIndependent assoc → AreLegalLinks shop_model owned_by_a_person assoc (links_in owned_by_a_person (assoc_id i))) shop_model.assocs
-      ((λ independent. absurd (cc)), tt) a.index assoc at;
-  principals = λ a assoc constraint at. each_at (λ i assoc. assoc.constraint ≡ Some constraint → HavePrincipals shop_model owned_by_a_person assoc constraint) shop_model.assocs
-      ((λ told. let equal : owner_constraint ≡ constraint = cc in subst (λ c. HavePrincipals shop_model owned_by_a_person owner c) equal owners_stand), tt) a.index assoc at;
-}
+legal = legal_by_parts shop_model owned_by_a_person (record {
+  count = refl;
+  link_count = refl;
+  shapes = (shaped_set shop_model people_set (someone ∷ []) (may_stand, tt), (shaped_set shop_model orders_set (ordered ∷ []) (may_be_ordered, tt), tt));
+  sets = (
+    legal_set shop_model people_set (someone ∷ []) (may_stand, tt) (tt, tt),
+    (legal_set shop_model orders_set (ordered ∷ []) (may_be_ordered, tt) (tt, tt), tt),
+  );
+  assocs = (
+    record {
+      shape = All-nil (IsLink shop_model owner);
+      links = λ independent. absurd (cc);
+      principals = λ constraint told.
+          let equal : owner_constraint ≡ constraint = cc in
+          subst (λ c. HavePrincipals shop_model owned_by_a_person owner c) equal owners_stand;
+    },
+    tt,
+  );
+})
 
 -- a base type stands before the types that are derived from it
+abbrev BaseBefore : TypeId → ℕ → EntityType → Type 0
+BaseBefore u i type = type.base ≡ Some u → u.index ≤ i
+
+employee_after : (u : TypeId) → employee_type.base ≡ Some u → u.index ≤ 1
+employee_after u told =
+    let equal : type_id 0 ≡ u = cc in
+    let index : ◌≡◌ {A = ℕ} 0 u.index = ap (λ (t : TypeId). t.index) equal in
+    omega arith
+
 base_before : (t u : TypeId) → HasBase shop_model t u → u.index ≤ t.index
-base_before t u has = each_at (λ i type. type.base ≡ Some u → u.index ≤ i) shop_model.types
-    ((λ none. absurd (cc)), ((λ told. let equal : type_id 0 ≡ u = cc in let index : ◌≡◌ {A = ℕ} 0 u.index = ap (λ (t : TypeId). t.index) equal in omega arith), ((λ none. absurd (cc)), tt))) t.index has.0 has.1 has.2
+base_before t u has = each_at (BaseBefore u) shop_model.types ((λ none. absurd (cc)), (employee_after u, ((λ none. absurd (cc)), tt))) t.index has.0 has.1 has.2
 
 not_employed : ¬ Selects shop_model all_employees someone
 not_employed selects =
@@ -138,20 +155,10 @@ no_employee writing by = each (λ w. w.table ≢ table_id 1)
     (λ equal. let index : ◌≡◌ {A = ℕ} 2 1 = ap (λ (t : TableId). t.index) equal in absurd (omega arith)) writing by
 
 person_made : IsRowOf shop people_table person_writing person_stored
-person_made = record {
-  key = refl;
-  given = λ col value gives. each_given person_writing (λ c v. cell_of person_stored c ≡ v) (refl, (refl, tt)) tt col value gives;
-  rest = λ col column at. each_at (λ i c. (cell_of person_stored (col_id i) ≡ Null) ⊎ Gives person_writing (col_id i) (cell_of person_stored (col_id i)))
-      people_table.cols (inr (inl (0, omega arith, refl)), (inr (inl (1, omega arith, refl)), tt)) col.index column at;
-}
+person_made = row_made shop people_table person_writing person_stored refl (refl, (refl, tt)) tt (inr (inl (0, omega arith, refl)), (inr (inl (1, omega arith, refl)), tt))
 
 order_made : IsRowOf shop orders_table order_writing order_stored
-order_made = record {
-  key = refl;
-  given = λ col value gives. each_given order_writing (λ c v. cell_of order_stored c ≡ v) (refl, (refl, tt)) tt col value gives;
-  rest = λ col column at. each_at (λ i c. (cell_of order_stored (col_id i) ≡ Null) ⊎ Gives order_writing (col_id i) (cell_of order_stored (col_id i)))
-      orders_table.cols (inr (inl (0, omega arith, refl)), (inr (inl (1, omega arith, refl)), tt)) col.index column at;
-}
+order_made = row_made shop orders_table order_writing order_stored refl (refl, (refl, tt)) tt (inr (inl (0, omega arith, refl)), (inr (inl (1, omega arith, refl)), tt))
 
 -- a writing gives a column what it writes to it
 abbrev GivesWritten : Writing → Type 0
@@ -160,33 +167,40 @@ GivesWritten writing = (col : ColId) (value : Value) → Gives writing col value
 abbrev IsApart : Writing → Type 0
 IsApart writing = (other : Writing) → Writes shop owned_by_a_person other → writing.table ≡ other.table → writing ≡ other
 
-stored : TablesAre shop owned_by_a_person tables
-stored = record {
-  shape = record {
-    each = refl;
-    rows = λ t table at. each_at (λ i table. All (λ row. length row.cells ≡ length table.cols) (rows_in tables (table_id i))) shop_store.tables (
-      All-from_recursion (λ row. length row.cells ≡ 2) (person_stored ∷ []) (refl, tt),
-      (
-        All-nil (λ row. length row.cells ≡ 1),
-        (All-from_recursion (λ row. length row.cells ≡ 2) (order_stored ∷ []) (refl, tt), tt),
-      ),
-    ) t.index table at;
-  };
-  no_clash = no_clash shop owned_by_a_person (record {
-    only = λ one two by_one by_two equal. each IsApart (λ other by e. sym (only_person.only other by (sym e))) (λ other by e. sym (only_order.only other by (sym e))) one by_one two by_two equal;
-    value_at = λ w col. written_to w.cells col;
-    given = λ writing by. each GivesWritten
-        (λ col value gives. each_given person_writing (λ c v. v ≡ written_to person_writing.cells c) (refl, (refl, tt)) tt col value gives)
-        (λ col value gives. each_given order_writing (λ c v. v ≡ written_to order_writing.cells c) (refl, (refl, tt)) tt col value gives) writing by;
-  });
-  rows = λ t table at. each_at (λ i table. AreDemandedRows shop owned_by_a_person (table_id i) table (rows_in tables (table_id i))) shop_store.tables (
-    one_row shop owned_by_a_person (table_id 0) people_table person_writing person_stored only_person person_made,
-    (
-      no_row shop owned_by_a_person (table_id 1) employees_table no_employee,
-      (one_row shop owned_by_a_person (table_id 2) orders_table order_writing order_stored only_order order_made, tt),
-    ),
-  ) t.index table at;
+apart : AreApart shop owned_by_a_person
+apart = record {
+  only = λ one two by_one by_two equal. each IsApart
+      (λ other by e. sym (only_person.only other by (sym e)))
+      (λ other by e. sym (only_order.only other by (sym e))) one by_one two by_two equal;
+  value_at = λ w col. written_to w.cells col;
+  given = λ writing by. each GivesWritten
+      (λ col value gives. each_given person_writing (λ c v. v ≡ written_to person_writing.cells c) (refl, (refl, tt)) tt col value gives)
+      (λ col value gives. each_given order_writing (λ c v. v ≡ written_to order_writing.cells c) (refl, (refl, tt)) tt col value gives) writing by;
 }
+
+abbrev HasTwoCells : Row → Type 0
+HasTwoCells row = length row.cells ≡ 2
+
+abbrev HasOneCell : Row → Type 0
+HasOneCell row = length row.cells ≡ 1
+
+stored : TablesAre shop owned_by_a_person tables
+stored = stored_by_tables shop owned_by_a_person tables refl apart (
+  record {
+    shape = All-from_recursion HasTwoCells (person_stored ∷ []) (refl, tt);
+    rows = one_row shop owned_by_a_person (table_id 0) people_table person_writing person_stored only_person person_made;
+  },
+  (
+    record { shape = All-nil HasOneCell; rows = no_row shop owned_by_a_person (table_id 1) employees_table no_employee },
+    (
+      record {
+        shape = All-from_recursion HasTwoCells (order_stored ∷ []) (refl, tt);
+        rows = one_row shop owned_by_a_person (table_id 2) orders_table order_writing order_stored only_order order_made;
+      },
+      tt,
+    ),
+  ),
+)
 
 pub owner_dangles : OwnerDangles
 owner_dangles other = record {

@@ -1,26 +1,25 @@
 -- People: which states are legal.
 use Rattle.std.proofs.Common.{◌≡◌, ◌≢◌, inl, inr, ℕ, ◌≤◌, List, [], ◌∷◌, refl, sym, ap, ◌∙◌, arith, Some}
-use Rattle.std.specs.Prelude.{All, pos, codes, replicate, length}
+use Rattle.std.specs.Prelude.{pos, codes, replicate, length}
 use Rattle.std.specs.Str.{chars}
 use Rattle.std.specs.List.{AllByRecursion}
-use Rattle.std.proofs.lemmas.List.Elements.{All-nil}
 use Rattle.std.proofs.lemmas.Str.{chars-encodes}
 use Rattle.emc_base.specs.declared.value.Value.{Value}
 use Rattle.emc_base.specs.declared.value.Value.TheVariants.{Null, Text}
 use Rattle.emc_base.specs.Domain.{IsText}
 use Rattle.edm_types.specs.declared.data.Entity.{Entity}
 use Rattle.edm_types.specs.declared.model.Assoc.{Assoc}
-use Rattle.edm_types.specs.State.{entities_in, IsLink, IsIndependent}
 use Rattle.edm_types.specs.IsA.{same}
-use Rattle.edm_types.specs.Entities.{IsEntity}
-use Rattle.round_trip.specs.Legal.{IsLegal, HasProp, IsLegalSet, AreLegalLinks}
+use Rattle.round_trip.specs.Legal.{IsLegal, HasProp, IsLegalSet}
 use Rattle.worked_examples.specs.Ids.{type_id, set_id, prop_id}
 use Rattle.worked_examples.specs.People.{TwentyOneCharactersAreNot, people_with, accented, people_model, people_set, person_type, id_prop, name_prop, person, only_people}
-use Rattle.worked_examples.proofs.Small.{here, later, each_at, each_list, PairsByRecursion}
+use Rattle.worked_examples.proofs.Small.{PairsByRecursion}
+use Rattle.worked_examples.proofs.States.{legal_by_parts}
 use Rattle.worked_examples.proofs.Entities.{FitsIn, MayStand, HaveOwnKeys, shaped_set, legal_set, whole_fits}
 
 -- a person of a small id, with any name that fits
-pub may_stand_with : (assocs : List Assoc) (id : ℕ) (name : Value) → id ≤ 2147483647 → FitsIn name_prop name → MayStand (people_with assocs) people_set (person (pos id) name)
+pub may_stand_with : (assocs : List Assoc) (id : ℕ) (name : Value) → id ≤ 2147483647 → FitsIn name_prop name
+    → MayStand (people_with assocs) people_set (person (pos id) name)
 may_stand_with assocs id name below fits = record {
   shape = (person_type, refl, refl);
   type = record { concrete = (person_type, refl, refl); under = same (type_id 0) };
@@ -39,17 +38,13 @@ a_name bytes text = record { null = λ none. absurd (cc); domain = inr text }
 -- people who may stand, of different ids, make a legal state
 pub legal_people : (entities : List Entity) → AllByRecursion (MayStand people_model people_set) entities → PairsByRecursion (HaveOwnKeys people_model) entities
     → IsLegal people_model (only_people entities)
-legal_people entities each own = record {
-  shape = record {
-    sets = refl;
-    assocs = refl;
-    entities = λ set. each_list (All (IsEntity people_model)) (entities ∷ []) (All-nil (IsEntity people_model)) (shaped_set people_model people_set entities each, tt) set.index;
-    links = λ a assoc at. each_at (λ i assoc. All (IsLink people_model assoc) []) [] tt a.index assoc at;
-  };
-  sets = λ s set at. each_at (λ i set. IsLegalSet people_model set (entities_in (only_people entities) (set_id i))) people_model.sets (legal_set people_model people_set entities each own, tt) s.index set at;
-  links = λ a assoc at. each_at (λ i assoc. IsIndependent assoc → AreLegalLinks people_model (only_people entities) assoc []) [] tt a.index assoc at;
-  principals = λ a assoc constraint at. absurd (each_at (λ i assoc. ⊥) [] tt a.index assoc at);
-}
+legal_people entities each own = legal_by_parts people_model (only_people entities) (record {
+  count = refl;
+  link_count = refl;
+  shapes = (shaped_set people_model people_set entities each, tt);
+  sets = (legal_set people_model people_set entities each own, tt);
+  assocs = tt;
+})
 
 pub text_a : IsText (Some 20) (codes "a")
 unfolding lib.Utf8.encode
@@ -68,12 +63,13 @@ no_text_21 text =
     absurd (omega arith)
 
 -- people of different ids have different keys
-pub ids_differ : (assocs : List Assoc) (one two : ℕ) (name other : Value) → one ≢ two → HaveOwnKeys (people_with assocs) (person (pos one) name) (person (pos two) other)
+pub ids_differ : (assocs : List Assoc) (one two : ℕ) (name other : Value) → one ≢ two
+    → HaveOwnKeys (people_with assocs) (person (pos one) name) (person (pos two) other)
 ids_differ assocs one two name other differ equal = differ (cc)
 
 pub too_long : TwentyOneCharactersAreNot
 too_long legal =
     let e : Entity = person (pos 1) (Text (accented 21)) in
     let set : IsLegalSet people_model people_set (e ∷ []) = legal.sets (set_id 0) people_set refl in
-    let named : HasProp people_model e (prop_id 1) name_prop = record { among = later (prop_id 0) (prop_id 1) (prop_id 1 ∷ []) (here (prop_id 1) []); told = refl } in
+    let named : HasProp people_model e (prop_id 1) name_prop = record { among = (1, omega arith, refl); told = refl } in
     elim (set.domains 0 e (omega arith) (prop_id 1) name_prop named) [ inl none ↦ absurd (cc) | inr text ↦ no_text_21 text ]

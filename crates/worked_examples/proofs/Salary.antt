@@ -1,7 +1,7 @@
 -- A person who is no employee leaves the salary null.
 use Rattle.std.proofs.Common.{◌≡◌, ◌≢◌, inl, ℕ, [], ◌∷◌, refl, ap, ◌∙◌, arith}
-use Rattle.std.specs.Prelude.{All, pos, codes}
-use Rattle.std.proofs.lemmas.List.Elements.{All-nil, All-from_recursion}
+use Rattle.std.specs.Prelude.{pos, codes}
+use Rattle.std.proofs.lemmas.List.Elements.{All-from_recursion}
 use Rattle.emc_base.specs.declared.ids.ColId.{ColId}
 use Rattle.emc_base.specs.declared.ids.TypeId.{TypeId}
 use Rattle.emc_base.specs.declared.value.Value.{Value}
@@ -10,16 +10,15 @@ use Rattle.edm_types.specs.declared.mapping.Cond.{Cond}
 use Rattle.edm_types.specs.declared.mapping.CondOn.TheVariants as on
 use Rattle.edm_types.specs.declared.data.Entity.{Entity}
 use Rattle.edm_types.specs.Selected.{IsPicked, MetByEntity, Selects}
-use Rattle.edm_types.specs.State.{entities_in, IsLink}
 use Rattle.edm_types.specs.IsA.{same}
-use Rattle.edm_types.specs.Entities.{IsEntity}
-use Rattle.round_trip.specs.Legal.{IsLegal, IsLegalSet}
+use Rattle.round_trip.specs.Legal.{IsLegal}
 use Rattle.round_trip.specs.Demand.{Writing, Writes, Gives}
-use Rattle.worked_examples.specs.Ids.{type_id, set_id, table_id, col_id, just}
+use Rattle.worked_examples.specs.Ids.{type_id, table_id, col_id, just}
 use Rattle.worked_examples.specs.People.{id_prop, name_prop, person_type, people_set, person, only_people}
 use Rattle.worked_examples.specs.Salary.{staff, staff_model, staff_table, salary_column, persons, employees, kind_is, SalaryIsLeftNull}
-use Rattle.worked_examples.proofs.Small.{each_at, each_list, any_one}
+use Rattle.worked_examples.proofs.Small.{any_one}
 use Rattle.worked_examples.proofs.Entities.{MayStand, shaped_set, legal_set, whole_fits}
+use Rattle.worked_examples.proofs.States.{legal_by_parts}
 use Rattle.worked_examples.proofs.Writings.{entity_writing, each_writing, each_given, OfCond}
 use Rattle.worked_examples.proofs.People.{no_name}
 
@@ -34,18 +33,13 @@ may_stand = record {
 }
 
 legal : IsLegal staff_model (only_people (someone ∷ []))
-legal = record {
-  shape = record {
-    sets = refl;
-    assocs = refl;
-    entities = λ set. each_list (All (IsEntity staff_model)) ((someone ∷ []) ∷ []) (All-nil (IsEntity staff_model)) (shaped_set staff_model people_set (someone ∷ []) (may_stand, tt), tt) set.index;
-    links = λ a assoc at. each_at (λ i assoc. All (IsLink staff_model assoc) []) [] tt a.index assoc at;
-  };
-  sets = λ s set at. each_at (λ i set. IsLegalSet staff_model set (entities_in (only_people (someone ∷ [])) (set_id i))) staff_model.sets
-      (legal_set staff_model people_set (someone ∷ []) (may_stand, tt) (tt, tt), tt) s.index set at;
-  links = λ a assoc at. absurd (each_at (λ i assoc. ⊥) [] tt a.index assoc at);
-  principals = λ a assoc constraint at. absurd (each_at (λ i assoc. ⊥) [] tt a.index assoc at);
-}
+legal = legal_by_parts staff_model (only_people (someone ∷ [])) (record {
+  count = refl;
+  link_count = refl;
+  shapes = (shaped_set staff_model people_set (someone ∷ []) (may_stand, tt), tt);
+  sets = (legal_set staff_model people_set (someone ∷ []) (may_stand, tt) (tt, tt), tt);
+  assocs = tt;
+})
 
 selected : Selects staff_model persons someone
 selected = record {
@@ -79,12 +73,16 @@ kind_given = record {
   null = λ col equal third. refl;
 }
 
-no_salary : (writing : Writing) → Writes staff (only_people (someone ∷ [])) writing → (value : Value) → Gives writing (col_id 3) value → value ≡ Null
-no_salary writing by = each_writing staff (only_people (someone ∷ [])) (λ w. (value : Value) → Gives w (col_id 3) value → value ≡ Null) (
-  ((λ selects value gives. each_given written IsNullSalary (other_column 0 _ (omega arith), (other_column 1 _ (omega arith), tt)) (kind_given, tt) (col_id 3) value gives refl), tt),
-  (((λ selects. absurd (not_employed selects)), tt), tt),
-)
-    tt writing by
+-- nothing but null is given to the column of salaries
+abbrev GivesNoSalary : Writing → Type 0
+GivesNoSalary writing = (value : Value) → Gives writing (col_id 3) value → value ≡ Null
+
+of_someone : GivesNoSalary written
+of_someone value gives = each_given written IsNullSalary (other_column 0 _ (omega arith), (other_column 1 _ (omega arith), tt)) (kind_given, tt) (col_id 3) value gives refl
+
+no_salary : (writing : Writing) → Writes staff (only_people (someone ∷ [])) writing → GivesNoSalary writing
+no_salary writing by = each_writing staff (only_people (someone ∷ [])) GivesNoSalary
+    (((λ selects. of_someone), tt), (((λ selects. absurd (not_employed selects)), tt), tt)) tt writing by
 
 pub salary_is_left_null : SalaryIsLeftNull
 salary_is_left_null other = record {

@@ -1,22 +1,22 @@
 -- A person with two bosses: both stand in one cell.
 use Rattle.std.proofs.Common.{◌≡◌, ◌≢◌, inl, inr, ℕ, List, [], ◌∷◌, refl, ap, arith}
-use Rattle.std.specs.Prelude.{All, Contains, pos, Some}
+use Rattle.std.specs.Prelude.{Contains, pos}
 use Rattle.std.specs.List.{AllByRecursion}
-use Rattle.std.proofs.lemmas.List.Elements.{All-nil, All-from_recursion}
+use Rattle.std.proofs.lemmas.List.Elements.{All-from_recursion}
 use Rattle.emc_base.specs.declared.value.Value.TheVariants.{Null, Whole}
 use Rattle.edm_types.specs.declared.model.EntityModel.{EntityModel}
 use Rattle.edm_types.specs.declared.data.Entity.{Entity}
 use Rattle.edm_types.specs.declared.data.Link.{Link}
-use Rattle.edm_types.specs.State.{entities_in, links_in, IsLink, IsIndependent}
+use Rattle.edm_types.specs.State.{IsLink}
 use Rattle.edm_types.specs.IsA.{same}
-use Rattle.edm_types.specs.Entities.{IsEntity}
-use Rattle.round_trip.specs.Legal.{IsLegal, IsLegalSet, AreLegalLinks, HasEntityAt, HavePrincipals}
+use Rattle.round_trip.specs.Legal.{IsLegal, AreLegalLinks, HasEntityAt}
 use Rattle.round_trip.specs.Demand.{DemandsCell}
-use Rattle.worked_examples.specs.Ids.{type_id, set_id, table_id, col_id, assoc_id}
+use Rattle.worked_examples.specs.Ids.{type_id, table_id, col_id}
 use Rattle.worked_examples.specs.People.{people_with, people_set, person}
 use Rattle.worked_examples.specs.TwoBosses.{boss, boss_of, boss_links, boss_column, bossed, bossed_table, two_bosses, TwoBossesClash}
-use Rattle.worked_examples.proofs.Small.{each_at, each_list, PairsByRecursion, all_pairs}
+use Rattle.worked_examples.proofs.Small.{PairsByRecursion, all_pairs}
 use Rattle.worked_examples.proofs.Entities.{MayStand, HaveOwnKeys, shaped_set, legal_set}
+use Rattle.worked_examples.proofs.States.{legal_by_parts}
 use Rattle.worked_examples.proofs.Writings.{link_writing}
 use Rattle.worked_examples.proofs.People.{may_stand_with, no_name, ids_differ}
 
@@ -69,20 +69,20 @@ is_link : (one two : ℕ) → IsLink model boss (boss_of (pos one) (pos two))
 is_link one two = record { independent = refl; first = refl; second = refl }
 
 legal : IsLegal model two_bosses
-legal = record {
-  shape = record {
-    sets = refl;
-    assocs = refl;
-    entities = λ set. each_list (All (IsEntity model)) (three ∷ []) (All-nil (IsEntity model)) (shaped_set model people_set three each, tt) set.index;
-    links = λ a assoc at. each_at (λ i assoc. All (IsLink model assoc) (links_in two_bosses (assoc_id i))) model.assocs
-        (All-from_recursion (IsLink model boss) links (is_link 1 2, (is_link 1 3, tt)), tt) a.index assoc at;
-  };
-  sets = λ s set at. each_at (λ i set. IsLegalSet model set (entities_in two_bosses (set_id i))) model.sets (legal_set model people_set three each own_keys, tt) s.index set at;
-  links = λ a assoc at. each_at (λ i assoc. IsIndependent assoc → AreLegalLinks model two_bosses assoc (links_in two_bosses (assoc_id i))) model.assocs
-      ((λ independent. legal_links), tt) a.index assoc at;
-  principals = λ a assoc constraint at. each_at (λ i assoc. assoc.constraint ≡ Some constraint → HavePrincipals model two_bosses assoc constraint) model.assocs
-      ((λ none. absurd (cc)), tt) a.index assoc at;
-}
+legal = legal_by_parts model two_bosses (record {
+  count = refl;
+  link_count = refl;
+  shapes = (shaped_set model people_set three each, tt);
+  sets = (legal_set model people_set three each own_keys, tt);
+  assocs = (
+    record {
+      shape = All-from_recursion (IsLink model boss) links (is_link 1 2, (is_link 1 3, tt));
+      links = λ independent. legal_links;
+      principals = λ constraint none. absurd (cc);
+    },
+    tt,
+  );
+})
 
 -- where the first of the people is linked to a boss, the boss is demanded
 demands : (id : ℕ) → Contains links (boss_of (pos 1) (pos id)) → DemandsCell bossed two_bosses (table_id 0) (Whole (pos 1) ∷ []) (col_id 2) (Whole (pos id))

@@ -1,5 +1,5 @@
 -- Two people of one id with different names have the same row where only the id is written.
-use Rattle.std.proofs.Common.{◌≡◌, ◌⊎◌, inl, inr, List, [], ◌∷◌, refl, arith}
+use Rattle.std.proofs.Common.{◌≡◌, inl, inr, List, [], ◌∷◌, refl, arith}
 use Rattle.std.specs.Prelude.{Contains, pos, codes}
 use Rattle.std.proofs.lemmas.List.Elements.{All-nil}
 use Rattle.std.proofs.lemmas.List.Sorted.{IsPermutation-refl, Contains-permutation}
@@ -7,16 +7,15 @@ use Rattle.emc_base.specs.declared.value.Value.{Value}
 use Rattle.emc_base.specs.declared.value.Value.TheVariants.{Null, Whole, Text}
 use Rattle.edm_types.specs.declared.mapping.Pair.{Pair}
 use Rattle.edm_types.specs.declared.data.Entity.{Entity}
-use Rattle.edm_types.specs.Rows.{Tables, rows_in, cell_of}
+use Rattle.edm_types.specs.Rows.{Tables, rows_in}
 use Rattle.edm_types.specs.Selected.{MetByEntity}
-use Rattle.round_trip.specs.Demand.{Gives}
 use Rattle.round_trip.specs.TablesAre.{TablesAre}
-use Rattle.worked_examples.specs.Ids.{pair_of, col_id, set_id}
+use Rattle.worked_examples.specs.Ids.{pair_of, set_id}
 use Rattle.worked_examples.specs.People.{people_model, people_set, people_table, person, person_row, only_people, only_rows}
 use Rattle.worked_examples.specs.Unwritten.{people_without_names, NameIsLost}
-use Rattle.worked_examples.proofs.Small.{each_of, each_at}
-use Rattle.worked_examples.proofs.Writings.{IsRowOf, each_given}
-use Rattle.worked_examples.proofs.OneRow.{the_writing, one_row_demanded}
+use Rattle.worked_examples.proofs.Small.{each_of}
+use Rattle.worked_examples.proofs.Writings.{IsRowOf, row_made}
+use Rattle.worked_examples.proofs.OneRow.{IsMet, the_writing, one_row_demanded}
 use Rattle.worked_examples.proofs.People.{may_stand, no_name, a_name, text_a, legal_people}
 
 abbrev ids : List Pair
@@ -26,15 +25,14 @@ abbrev row : Tables
 row = only_rows (person_row (pos 7) Null ∷ [])
 
 made : (name : Value) → IsRowOf people_without_names people_table (the_writing ids [] (pos 7) name Null) (person_row (pos 7) Null)
-made name = record {
-  key = refl;
-  given = λ col value gives. each_given (the_writing ids [] (pos 7) name Null) (λ c v. cell_of (person_row (pos 7) Null) c ≡ v) (refl, tt) tt col value gives;
-  rest = λ col column at. each_at (λ i c. (cell_of (person_row (pos 7) Null) (col_id i) ≡ Null) ⊎ Gives (the_writing ids [] (pos 7) name Null) (col_id i) (cell_of (person_row (pos 7) Null) (col_id i)))
-      people_table.cols (inr (inl (0, omega arith, refl)), (inl refl, tt)) col.index column at;
-}
+made name = row_made people_without_names people_table (the_writing ids [] (pos 7) name Null) (person_row (pos 7) Null)
+    refl (refl, tt) tt (inr (inl (0, omega arith, refl)), (inl refl, tt))
+
+met : (name : Value) → IsMet ids [] (pos 7) name Null
+met name = All-nil (λ cond. MetByEntity people_model (person (pos 7) name) cond.on cond.test)
 
 stored : (name : Value) → TablesAre people_without_names (only_people (person (pos 7) name ∷ [])) row
-stored name = one_row_demanded ids [] (pos 7) name Null (All-nil (λ cond. MetByEntity people_model (person (pos 7) name) cond.on cond.test)) (made name)
+stored name = one_row_demanded ids [] (pos 7) name Null (met name) (made name)
 
 abbrev unnamed : Entity
 unnamed = person (pos 7) Null

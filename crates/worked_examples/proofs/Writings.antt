@@ -1,5 +1,5 @@
 -- What a state writes, by the fragments and link fragments of a mapping, and its tables by what it writes.
-use Rattle.std.proofs.Common.{◌≡◌, ◌≢◌, ◌⊎◌, inl, inr, [], ◌∷◌, refl, sym, ap, subst, ◌∙◌}
+use Rattle.std.proofs.Common.{ℕ, ◌≡◌, ◌≢◌, ◌⊎◌, inl, inr, [], ◌∷◌, refl, sym, ap, subst, ◌∙◌}
 use Rattle.std.specs.Prelude.{true}
 use Rattle.std.specs.List.{AllByRecursion}
 use Rattle.std.proofs.lemmas.List.Elements.{All-from_recursion, All-nil}
@@ -25,7 +25,8 @@ use Rattle.edm_types.specs.Selected.{Selects}
 use Rattle.round_trip.specs.Schema.{Schema}
 use Rattle.round_trip.specs.Demand.{Writing, Writes, WritesRow, DemandsRow, Gives, entity_cells, link_cells, written_key}
 use Rattle.round_trip.specs.TablesAre.{HasNoClash, HasDemandedCells, AreDemandedRows}
-use Rattle.worked_examples.proofs.Small.{each_of, any_here, all_pairs}
+use Rattle.worked_examples.specs.Ids.{col_id}
+use Rattle.worked_examples.proofs.Small.{EachAt, each_at, each_of, any_here, all_pairs}
 
 abbrev pub entity_writing : Schema → Fragment → Entity → Writing
 entity_writing schema fragment entity = record { table = fragment.table; cells = entity_cells schema.model fragment entity; conds = fragment.conds }
@@ -134,4 +135,25 @@ module _ (writing : Writing) (Q : ColId → Value → Type 0) where
   pub each_given : AllByRecursion OfCell writing.cells → AllByRecursion OfCond writing.conds → (col : ColId) (value : Value) → Gives writing col value → Q col value
   each_given written conds col value (inl among) = each_of OfCell writing.cells (col, value) written among
   each_given written conds col value (inr (inl among)) = (each_of OfCond writing.conds (record { on = on.Col col; test = Equals value }) conds among).constant col value refl
-  each_given written conds col value (inr (inr among)) = subst (Q col) (sym among.1) ((each_of OfCond writing.conds (record { on = on.Col col; test = IsNull true }) conds among.0).null col refl)
+  each_given written conds col value (inr (inr among)) =
+      let of_null : OfCond (record { on = on.Col col; test = IsNull true }) = each_of OfCond writing.conds (record { on = on.Col col; test = IsNull true }) conds among.0 in
+      subst (Q col) (sym among.1) (of_null.null col refl)
+
+module _ (schema : Schema) (table : Table) (writing : Writing) (row : Row) where
+  -- the value stands in the row's cell
+  abbrev pub StandsIn : ColId → Value → Type 0
+  StandsIn col value = cell_of row col ≡ value
+
+  -- the row's i-th cell is null or written
+  abbrev pub NullOrGiven : ℕ → Column → Type 0
+  NullOrGiven i column = (cell_of row (col_id i) ≡ Null) ⊎ Gives writing (col_id i) (cell_of row (col_id i))
+
+  -- a row of what is written, cell by cell
+  pub row_made : written_key schema.store writing ≡ row_key table row
+      → AllByRecursion (OfCell writing StandsIn) writing.cells → AllByRecursion (OfCond writing StandsIn) writing.conds
+      → EachAt NullOrGiven table.cols → IsRowOf schema table writing row
+  row_made key written conds rest = record {
+    key = key;
+    given = λ col value gives. each_given writing StandsIn written conds col value gives;
+    rest = λ col column at. each_at NullOrGiven table.cols rest col.index column at;
+  }

@@ -10,6 +10,7 @@ same_mapped one two store_container model_container set type_name table pairs =
     λ i. record { store_container = store_container i; model_container = model_container i; set = set i; type_name = type_name i; table = table i; pairs = pairs i }
 
 pub returns : goal.returns
+unfolding mapped_in
 returns c = same_mapped _ (mapped_in (part_of c.args.root.now))
     c.in_ok-part_text.ensures c.in_ok-part_text-2.ensures c.in_ok-part_text-3.ensures c.in_ok-part_text-4.ensures
     c.in_ok-part_text-5.ensures c.in_ok-read_pairs_at.ensures

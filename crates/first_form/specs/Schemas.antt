@@ -1,0 +1,6 @@
+-- The schema that a meaning is.
+use Rattle.round_trip.specs.Schema.{Schema}
+use Rattle.first_form.specs.declared.meaning.Meaning.{Meaning}
+
+abbrev pub schema_of : Meaning → Schema
+schema_of meaning = record { model = meaning.model; store = meaning.store; mapping = meaning.mapping }

@@ -1,0 +1,62 @@
+-- Legal states and tables of small schemas, set by set, association by association, table by table.
+use Rattle.std.proofs.Common.{◌≡◌, ℕ, length}
+use Rattle.std.specs.Prelude.{All, Some}
+use Rattle.std.specs.List.{AllByRecursion}
+use Rattle.std.proofs.lemmas.List.Elements.{All-nil}
+use Rattle.edm_types.specs.declared.model.EntityModel.{EntityModel}
+use Rattle.edm_types.specs.declared.model.EntitySet.{EntitySet}
+use Rattle.edm_types.specs.declared.model.Assoc.{Assoc}
+use Rattle.edm_types.specs.declared.model.Constraint.{Constraint}
+use Rattle.edm_types.specs.declared.store.Table.{Table}
+use Rattle.edm_types.specs.Entities.{IsEntity}
+use Rattle.edm_types.specs.State.{State, entities_in, links_in, IsLink, IsIndependent}
+use Rattle.edm_types.specs.Rows.{Tables, rows_in}
+use Rattle.round_trip.specs.Schema.{Schema}
+use Rattle.round_trip.specs.Legal.{IsLegal, IsLegalSet, AreLegalLinks, HavePrincipals}
+use Rattle.round_trip.specs.TablesAre.{TablesAre, AreDemandedRows}
+use Rattle.worked_examples.specs.Ids.{set_id, assoc_id, table_id}
+use Rattle.worked_examples.proofs.Small.{EachAt, each_at, each_list}
+use Rattle.worked_examples.proofs.Writings.{AreApart, no_clash}
+
+module _ (model : EntityModel) (state : State) where
+  -- what legality asks of the s-th set, and of the a-th association
+  abbrev pub LegalSetAt : ℕ → EntitySet → Type 0
+  LegalSetAt s set = IsLegalSet model set (entities_in state (set_id s))
+
+  pub record IsLegalAssocAt (a : ℕ) (assoc : Assoc) : Type 0 where
+    pub shape : All (IsLink model assoc) (links_in state (assoc_id a))
+    pub links : IsIndependent assoc → AreLegalLinks model state assoc (links_in state (assoc_id a))
+    pub principals : (constraint : Constraint) → assoc.constraint ≡ Some constraint → HavePrincipals model state assoc constraint
+
+  pub record IsLegalByParts : Type 0 where
+    pub count : length state.entities ≡ length model.sets
+    pub link_count : length state.links ≡ length model.assocs
+    pub shapes : AllByRecursion (All (IsEntity model)) state.entities
+    pub sets : EachAt LegalSetAt model.sets
+    pub assocs : EachAt IsLegalAssocAt model.assocs
+
+  pub legal_by_parts : IsLegalByParts → IsLegal model state
+  legal_by_parts parts = record {
+    shape = record {
+      sets = parts.count;
+      assocs = parts.link_count;
+      entities = λ set. each_list (All (IsEntity model)) state.entities (All-nil (IsEntity model)) parts.shapes set.index;
+      links = λ a assoc at. (each_at IsLegalAssocAt model.assocs parts.assocs a.index assoc at).shape;
+    };
+    sets = λ s set at. each_at LegalSetAt model.sets parts.sets s.index set at;
+    links = λ a assoc at. (each_at IsLegalAssocAt model.assocs parts.assocs a.index assoc at).links;
+    principals = λ a assoc constraint at. (each_at IsLegalAssocAt model.assocs parts.assocs a.index assoc at).principals constraint;
+  }
+
+module _ (schema : Schema) (state : State) (tables : Tables) where
+  -- the t-th table: its rows have its columns, and are the demanded ones
+  pub record IsStoredAt (t : ℕ) (table : Table) : Type 0 where
+    pub shape : All (λ row. length row.cells ≡ length table.cols) (rows_in tables (table_id t))
+    pub rows : AreDemandedRows schema state (table_id t) table (rows_in tables (table_id t))
+
+  pub stored_by_tables : length tables ≡ length schema.store.tables → AreApart schema state → EachAt IsStoredAt schema.store.tables → TablesAre schema state tables
+  stored_by_tables count apart each = record {
+    shape = record { each = count; rows = λ t table at. (each_at IsStoredAt schema.store.tables each t.index table at).shape };
+    no_clash = no_clash schema state apart;
+    rows = λ t table at. (each_at IsStoredAt schema.store.tables each t.index table at).rows;
+  }
