@@ -1,3 +1,4 @@
 pub mod Parts
 pub mod Documents
 pub mod Nodes
+pub mod Trees

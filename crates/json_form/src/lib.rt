@@ -3,6 +3,8 @@
 
 mod doc;
 mod node;
+mod tree;
 
 pub use doc::{Doc, DocFault};
 pub use node::Node;
+pub use tree::{array_tree, key_tree, object_tree, text_tree, value_tree};

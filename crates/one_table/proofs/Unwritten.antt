@@ -156,29 +156,29 @@ module _ (schema : Schema) (form : IsOneTable schema) (set : EntitySet) (key los
       (eqb_tells prop.index key.index)
 
   -- the two choices of values are lost
-  loses : AreLost schema set key (lost_values key lost value) (lost_values key lost Null)
+  loses : AreLost schema set key (lost_values key lost Null) (lost_values key lost value)
   loses = record {
     lost = lost;
     is_set = is_lost.is_set;
     is_key = is_lost.is_key;
-    ones_allowed = all_from_members (λ prop. IsAllowed schema.model prop (lost_values key lost value prop)) (props_of schema.model first_type)
-        (chosen_allowed value (is_lost.declared, is_lost.told, inr is_lost.holds));
-    twos_allowed = all_from_members (λ prop. IsAllowed schema.model prop (lost_values key lost Null prop)) (props_of schema.model first_type)
+    ones_allowed = all_from_members (λ prop. IsAllowed schema.model prop (lost_values key lost Null prop)) (props_of schema.model first_type)
         (chosen_allowed Null (null_allowed lost is_lost.has_prop not_key));
+    twos_allowed = all_from_members (λ prop. IsAllowed schema.model prop (lost_values key lost value prop)) (props_of schema.model first_type)
+        (chosen_allowed value (is_lost.declared, is_lost.told, inr is_lost.holds));
     agree = All-weaker (λ (f : Fragment). All (λ (p : Pair). p.prop ≢ lost) f.pairs)
-        (λ (f : Fragment). All (λ (p : Pair). lost_values key lost value p.prop ≡ lost_values key lost Null p.prop) f.pairs)
-        (λ f. All-weaker (λ (p : Pair). p.prop ≢ lost) (λ (p : Pair). lost_values key lost value p.prop ≡ lost_values key lost Null p.prop)
-        (λ p. agree_elsewhere key lost value p.prop) f.pairs)
+        (λ (f : Fragment). All (λ (p : Pair). lost_values key lost Null p.prop ≡ lost_values key lost value p.prop) f.pairs)
+        (λ f. All-weaker (λ (p : Pair). p.prop ≢ lost) (λ (p : Pair). lost_values key lost Null p.prop ≡ lost_values key lost value p.prop)
+        (λ p away. sym (agree_elsewhere key lost value p.prop away)) f.pairs)
         schema.mapping.fragments is_lost.unwritten;
     has_prop = is_lost.has_prop;
     differ = λ same. let not_same : lost.index ≢ key.index = λ at_key. not_key (same_prop lost key at_key) in
-        let null : value ≡ Null = sym (value_at_lost key lost value lost not_same refl) ∙ (same ∙ value_at_lost key lost Null lost not_same refl) in
+        let null : value ≡ Null = sym (value_at_lost key lost value lost not_same refl) ∙ (sym same ∙ value_at_lost key lost Null lost not_same refl) in
         never_in_domain is_lost.declared.kind (subst (λ v. InDomain v is_lost.declared.kind) null is_lost.holds);
   }
 
-  -- an entity with the value fails by the one with null
-  pub value_fails : FailsAt schema Same (place_at set.name (Whole (pos 7) ∷ []) []) (state_by schema.model (lost_values key lost value)) (state_by schema.model (lost_values key lost Null))
+  -- an entity with null fails by the one with the value
+  pub value_fails : FailsAt schema Same (place_at set.name (Whole (pos 7) ∷ []) []) (state_by schema.model (lost_values key lost Null)) (state_by schema.model (lost_values key lost value))
   value_fails =
-      let fails = lost_fails schema form set key (lost_values key lost value) (lost_values key lost Null) loses in
-      subst (λ v. FailsAt schema Same (place_at set.name (v ∷ []) []) (state_by schema.model (lost_values key lost value)) (state_by schema.model (lost_values key lost Null)))
-      (value_at_key key lost value key refl) fails
+      let fails = lost_fails schema form set key (lost_values key lost Null) (lost_values key lost value) loses in
+      subst (λ v. FailsAt schema Same (place_at set.name (v ∷ []) []) (state_by schema.model (lost_values key lost Null)) (state_by schema.model (lost_values key lost value)))
+      (value_at_key key lost Null key refl) fails

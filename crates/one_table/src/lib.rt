@@ -32,8 +32,8 @@ pub fn accepts()
 {}
 
 /// The law that refuses: two choices of values that differ in a property that no pair writes give states with the same tables;
-/// so does a value against null, where every other property but the key may be null.
+/// so does null against a value, where every other property but the key may be null.
 pub fn refuses()
     ensures choices { (schema : Schema) → IsOneTable schema → (set : EntitySet) (key : PropId) (ones twos : PropId → Value) → AreLost schema set key ones twos → FailsAt schema Same (place_at set.name (ones key ∷ []) []) (state_by schema.model ones) (state_by schema.model twos) }
-    ensures value { (schema : Schema) → IsOneTable schema → (set : EntitySet) (key lost : PropId) (value : Value) → IsLost schema set key lost value → FailsAt schema Same (place_at set.name (Whole (pos 7) ∷ []) []) (state_by schema.model (lost_values key lost value)) (state_by schema.model (lost_values key lost Null)) }
+    ensures value { (schema : Schema) → IsOneTable schema → (set : EntitySet) (key lost : PropId) (value : Value) → IsLost schema set key lost value → FailsAt schema Same (place_at set.name (Whole (pos 7) ∷ []) []) (state_by schema.model (lost_values key lost Null)) (state_by schema.model (lost_values key lost value)) }
 {}

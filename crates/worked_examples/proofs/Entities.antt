@@ -1,15 +1,10 @@
 -- Facts on the entities of a model, by its properties and types.
-use Rattle.std.proofs.Common.{◌≡◌, ◌≢◌, ◌⊎◌, inr, ℕ, ◌≤◌, List, sym, subst, arith, IsTrue}
-use Rattle.std.proofs.lemmas.Int.{ints}
-use Rattle.std.specs.Prelude.{All, pos}
+use Rattle.std.proofs.Common.{◌≡◌, ◌≢◌, ◌≤◌, List, subst, arith}
+use Rattle.std.specs.Prelude.{All}
 use Rattle.std.specs.List.{AllByRecursion}
 use Rattle.std.proofs.lemmas.List.Elements.{All-from_recursion, All-weaker}
 use Rattle.emc_base.specs.declared.ids.TypeId.{TypeId}
 use Rattle.emc_base.specs.declared.ids.PropId.{PropId}
-use Rattle.emc_base.specs.declared.value.Value.{Value}
-use Rattle.emc_base.specs.declared.value.Value.TheVariants.{Null, Whole}
-use Rattle.emc_base.specs.declared.value.Kind.TheVariants as kind
-use Rattle.emc_base.specs.Domain.{InDomain}
 use Rattle.edm_types.specs.declared.model.EntityModel.{EntityModel}
 use Rattle.edm_types.specs.declared.model.EntitySet.{EntitySet}
 use Rattle.edm_types.specs.declared.model.Prop.{Prop}
@@ -19,6 +14,7 @@ use Rattle.edm_types.specs.IsA.{IsA, HasBase, same, base, chain}
 use Rattle.edm_types.specs.Entities.{props_of, value_of, key_of, IsEntity}
 use Rattle.round_trip.specs.Legal.{HasProp, HasFittingType, HasAllowedNulls, HasValuesInDomain, IsLegalSet}
 use Rattle.worked_examples.proofs.Small.{each_of, PairsByRecursion, all_pairs}
+use Rattle.worked_examples.proofs.Values.{FitsIn}
 
 -- where each type stands after its base type, it stands after each type that it is derived from
 pub IsA-after : (model : EntityModel) → ((t u : TypeId) → HasBase model t u → u.index ≤ t.index) → {t u : TypeId} → IsA model t u → u.index ≤ t.index
@@ -28,23 +24,18 @@ IsA-after model after (chain s t u below above) =
     let one : t.index ≤ s.index = IsA-after model after below in
     let two : u.index ≤ t.index = IsA-after model after above in omega arith
 
--- the value may stand in the property
-pub record FitsIn (declared : Prop) (value : Value) : Type 0 where
-  pub null : value ≡ Null → IsTrue declared.nullable
-  pub domain : (value ≡ Null) ⊎ InDomain value declared.kind
-
 -- the property is declared, and the entity's value may stand in it
 pub record FitsAt (model : EntityModel) (entity : Entity) (prop : PropId) : Type 0 where
   pub declared : Prop
   pub told : At model.props prop.index declared
-  pub fits : FitsIn declared (value_of model entity prop)
+  pub fits : FitsIn declared.kind declared.nullable (value_of model entity prop)
 
 module _ (model : EntityModel) (entity : Entity) (all : AllByRecursion (FitsAt model entity) (props_of model entity.ty)) where
-  fits : (prop : PropId) (declared : Prop) → HasProp model entity prop declared → FitsIn declared (value_of model entity prop)
+  fits : (prop : PropId) (declared : Prop) → HasProp model entity prop declared → FitsIn declared.kind declared.nullable (value_of model entity prop)
   fits prop declared has =
       let here : FitsAt model entity prop = each_of (FitsAt model entity) (props_of model entity.ty) prop all has.among in
       let one : here.declared ≡ declared = cc (here.told, has.told) in
-      subst (λ d. FitsIn d (value_of model entity prop)) one here.fits
+      subst (λ (d : Prop). FitsIn d.kind d.nullable (value_of model entity prop)) one here.fits
 
   pub nulls_fit : HasAllowedNulls model entity
   nulls_fit prop declared has = (fits prop declared has).null
@@ -76,10 +67,3 @@ module _ (model : EntityModel) (set : EntitySet) (entities : List Entity) (each 
     domains = All-weaker (MayStand model set) (HasValuesInDomain model) (λ entity may. domains_fit model entity may.fits) entities stand;
     keys = all_pairs (HaveOwnKeys model) entities own;
   }
-
--- a whole number is no null, and one that isn't negative is an Int32 where it isn't too large
-pub whole_fits : (declared : Prop) (n : ℕ) → declared.kind ≡ kind.Int32 → n ≤ 2147483647 → FitsIn declared (Whole (pos n))
-whole_fits declared n is below = record {
-  null = λ none. absurd (cc);
-  domain = inr (subst (λ k. InDomain (Whole (pos n)) k) (sym is) (omega (arith, ints), omega (arith, ints)));
-}

@@ -1,23 +1,21 @@
 -- One person and the row of this, by a fragment of any pairs and conditions.
-use Rattle.std.proofs.Common.{◌≡◌, inl, ℤ, List, [], ◌∷◌, length, refl, sym, subst, ◌∙◌}
+use Rattle.std.proofs.Common.{◌≡◌, inl, ℤ, List, [], ◌∷◌, refl}
 use Rattle.std.specs.Prelude.{All}
-use Rattle.std.proofs.lemmas.List.Elements.{All-from_recursion}
 use Rattle.emc_base.specs.declared.value.Value.{Value}
 use Rattle.edm_types.specs.declared.mapping.Fragment.{Fragment}
 use Rattle.edm_types.specs.declared.mapping.Pair.{Pair}
 use Rattle.edm_types.specs.declared.mapping.Cond.{Cond}
-use Rattle.edm_types.specs.declared.data.Row.{Row}
 use Rattle.edm_types.specs.State.{State}
-use Rattle.edm_types.specs.Rows.{Tables, cell_of}
+use Rattle.edm_types.specs.Rows.{Tables}
 use Rattle.edm_types.specs.Selected.{IsPicked, MetByEntity, Selects}
 use Rattle.round_trip.specs.Schema.{Schema}
-use Rattle.round_trip.specs.Demand.{Writing, Writes, Gives}
+use Rattle.round_trip.specs.Demand.{Writing, Writes}
 use Rattle.round_trip.specs.TablesAre.{TablesAre}
-use Rattle.worked_examples.specs.Ids.{type_id, table_id, just}
+use Rattle.worked_examples.specs.Ids.{type_id, just}
 use Rattle.worked_examples.specs.People.{people_by, people_fragment, people_table, people_model, person, person_row, only_people, only_rows}
 use Rattle.worked_examples.proofs.Small.{here, any_here}
-use Rattle.worked_examples.proofs.Writings.{entity_writing, each_writing, IsOnlyWriting, IsRowOf, AreApart, one_row}
-use Rattle.worked_examples.proofs.States.{stored_by_tables}
+use Rattle.worked_examples.proofs.Writings.{entity_writing, each_writing, IsRowOf}
+use Rattle.worked_examples.proofs.States.{one_row_stored}
 
 module _ (pairs : List Pair) (conds : List Cond) (id : ℤ) (name cell : Value) where
   abbrev pub the_fragment : Fragment
@@ -48,25 +46,7 @@ module _ (pairs : List Pair) (conds : List Cond) (id : ℤ) (name cell : Value) 
   is_only : (writing : Writing) → Writes the_schema the_state writing → writing ≡ the_writing
   is_only writing by = each_writing the_schema the_state (λ w. w ≡ the_writing) ((λ selected. refl, tt), tt) tt writing by
 
-  apart : IsRowOf the_schema people_table the_writing (person_row id cell) → AreApart the_schema the_state
-  apart made = record {
-    only = λ one two by_one by_two same. is_only one by_one ∙ sym (is_only two by_two);
-    value_at = λ w col. cell_of (person_row id cell) col;
-    given = λ writing by col value gives. sym (made.given col value (subst (λ w. Gives w col value) (is_only writing by) gives));
-  }
-
-  the_only : IsMet → IsOnlyWriting the_schema the_state (table_id 0) the_writing
-  the_only met = record { writes = writes met; to_table = refl; only = λ other by same. is_only other by }
-
-  abbrev HasTwoCells : Row → Type 0
-  HasTwoCells row = length row.cells ≡ 2
-
   -- where the row is made of what the person writes, it is all that the tables hold
   pub one_row_demanded : IsMet → IsRowOf the_schema people_table the_writing (person_row id cell) → TablesAre the_schema the_state the_rows
-  one_row_demanded met made = stored_by_tables the_schema the_state the_rows refl (apart made) (
-    record {
-      shape = All-from_recursion HasTwoCells (person_row id cell ∷ []) (refl, tt);
-      rows = one_row the_schema the_state (table_id 0) people_table the_writing (person_row id cell) (the_only met) made;
-    },
-    tt,
-  )
+  one_row_demanded met made = one_row_stored the_schema the_state people_table the_writing (person_row id cell)
+      (record { is_table = refl; to_table = refl; writes = writes met; only = is_only; made = made; count = refl })

@@ -1,6 +1,6 @@
 -- An order of a person who is no employee: the state is legal, and its tables have no row of an employee.
 use Rattle.std.proofs.Common.{◌≡◌, ◌≢◌, inl, inr, ℕ, ◌≤◌, [], ◌∷◌, length, refl, sym, ap, subst, arith}
-use Rattle.std.specs.Prelude.{All, pos, Some}
+use Rattle.std.specs.Prelude.{All, pos, Some, false}
 use Rattle.std.proofs.lemmas.List.Elements.{All-nil, All-from_recursion}
 use Rattle.emc_base.specs.declared.ids.TypeId.{TypeId}
 use Rattle.emc_base.specs.declared.ids.TableId.{TableId}
@@ -23,8 +23,9 @@ use Rattle.worked_examples.specs.People.{id_prop, name_prop, person_type, people
 use Rattle.worked_examples.specs.Owners.{employee_type, employees_table, order_id_prop, owner_id_prop, order_type, orders_set, owner, owner_constraint, owner_key}
 use Rattle.worked_examples.specs.Owners.{shop_model, orders_table, all_people, all_employees, orders, shop, order, owned_by_a_person, OwnerDangles}
 use Rattle.worked_examples.proofs.Small.{each_at, any_one}
-use Rattle.worked_examples.proofs.Entities.{IsA-after, MayStand, shaped_set, legal_set, whole_fits}
-use Rattle.worked_examples.proofs.Writings.{entity_writing, each_writing, each_given, IsOnlyWriting, IsRowOf, AreApart, one_row, no_row, row_made}
+use Rattle.worked_examples.proofs.Entities.{IsA-after, MayStand, shaped_set, legal_set}
+use Rattle.worked_examples.proofs.Values.{whole_fits}
+use Rattle.worked_examples.proofs.Writings.{entity_writing, each_writing, each_given, IsOnlyWriting, IsRowOf, AreApart, no_clash, one_row, no_row, row_made}
 use Rattle.worked_examples.proofs.States.{legal_by_parts, stored_by_tables}
 use Rattle.worked_examples.proofs.People.{no_name}
 
@@ -38,7 +39,7 @@ may_stand : MayStand shop_model people_set someone
 may_stand = record {
   shape = (person_type, refl, refl);
   type = record { concrete = (person_type, refl, refl); under = same (type_id 0) };
-  fits = (record { declared = id_prop; told = refl; fits = whole_fits id_prop 9 refl (omega arith) }, (record { declared = name_prop; told = refl; fits = no_name }, tt));
+  fits = (record { declared = id_prop; told = refl; fits = whole_fits false 9 (omega arith) }, (record { declared = name_prop; told = refl; fits = no_name }, tt));
 }
 
 may_be_ordered : MayStand shop_model orders_set ordered
@@ -46,8 +47,8 @@ may_be_ordered = record {
   shape = (order_type, refl, refl);
   type = record { concrete = (order_type, refl, refl); under = same (type_id 2) };
   fits = (
-    record { declared = order_id_prop; told = refl; fits = whole_fits order_id_prop 5 refl (omega arith) },
-    (record { declared = owner_id_prop; told = refl; fits = whole_fits owner_id_prop 9 refl (omega arith) }, tt),
+    record { declared = order_id_prop; told = refl; fits = whole_fits false 5 (omega arith) },
+    (record { declared = owner_id_prop; told = refl; fits = whole_fits false 9 (omega arith) }, tt),
   );
 }
 
@@ -185,7 +186,7 @@ abbrev HasOneCell : Row → Type 0
 HasOneCell row = length row.cells ≡ 1
 
 stored : TablesAre shop owned_by_a_person tables
-stored = stored_by_tables shop owned_by_a_person tables refl apart (
+stored = stored_by_tables shop owned_by_a_person tables refl (no_clash shop owned_by_a_person apart) (
   record {
     shape = All-from_recursion HasTwoCells (person_stored ∷ []) (refl, tt);
     rows = one_row shop owned_by_a_person (table_id 0) people_table person_writing person_stored only_person person_made;

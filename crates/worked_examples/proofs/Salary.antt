@@ -1,6 +1,6 @@
 -- A person who is no employee leaves the salary null.
 use Rattle.std.proofs.Common.{◌≡◌, ◌≢◌, inl, ℕ, [], ◌∷◌, refl, ap, ◌∙◌, arith}
-use Rattle.std.specs.Prelude.{pos, codes}
+use Rattle.std.specs.Prelude.{pos, codes, false}
 use Rattle.std.proofs.lemmas.List.Elements.{All-from_recursion}
 use Rattle.emc_base.specs.declared.ids.ColId.{ColId}
 use Rattle.emc_base.specs.declared.ids.TypeId.{TypeId}
@@ -17,7 +17,8 @@ use Rattle.worked_examples.specs.Ids.{type_id, table_id, col_id, just}
 use Rattle.worked_examples.specs.People.{id_prop, name_prop, person_type, people_set, person, only_people}
 use Rattle.worked_examples.specs.Salary.{staff, staff_model, staff_table, salary_column, persons, employees, kind_is, SalaryIsLeftNull}
 use Rattle.worked_examples.proofs.Small.{any_one}
-use Rattle.worked_examples.proofs.Entities.{MayStand, shaped_set, legal_set, whole_fits}
+use Rattle.worked_examples.proofs.Entities.{MayStand, shaped_set, legal_set}
+use Rattle.worked_examples.proofs.Values.{whole_fits}
 use Rattle.worked_examples.proofs.States.{legal_by_parts}
 use Rattle.worked_examples.proofs.Writings.{entity_writing, each_writing, each_given, OfCond}
 use Rattle.worked_examples.proofs.People.{no_name}
@@ -29,7 +30,7 @@ may_stand : MayStand staff_model people_set someone
 may_stand = record {
   shape = (person_type, refl, refl);
   type = record { concrete = (person_type, refl, refl); under = same (type_id 0) };
-  fits = (record { declared = id_prop; told = refl; fits = whole_fits id_prop 7 refl (omega arith) }, (record { declared = name_prop; told = refl; fits = no_name }, tt));
+  fits = (record { declared = id_prop; told = refl; fits = whole_fits false 7 (omega arith) }, (record { declared = name_prop; told = refl; fits = no_name }, tt));
 }
 
 legal : IsLegal staff_model (only_people (someone ∷ []))

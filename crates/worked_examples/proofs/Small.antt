@@ -1,10 +1,10 @@
 -- Facts on short lists, by their items.
-use Rattle.std.proofs.Common.{◌≡◌, ℕ, zero, suc, List, [], ◌∷◌, refl, subst, arith}
+use Rattle.std.proofs.Common.{◌≡◌, ℕ, zero, suc, List, [], ◌∷◌, refl, sym, ap, subst, arith}
 use Rattle.std.specs.Prelude.{⊤, slice_get, unwrap_or, Any, AllPairs, Contains}
 use Rattle.std.specs.List.{AllByRecursion}
 use Rattle.std.proofs.lemmas.List.Elements.{All-from_recursion, All-contains}
 use Rattle.std.proofs.lemmas.List.Kept.{AllPairs-cons}
-use Rattle.edm_types.specs.Lists.{At}
+use Rattle.edm_types.specs.Lists.{At, AtMostOne}
 
 -- Q of each place with its item
 abbrev pub EachAt : {X : Type 0} → (ℕ → X → Type 0) → List X → Type 0
@@ -50,3 +50,21 @@ PairsByRecursion R (x ∷ xs) = AllByRecursion (R x) xs × PairsByRecursion R xs
 pub all_pairs : {X : Type 0} (R : X → X → Type 0) (xs : List X) → PairsByRecursion R xs → AllPairs R xs
 all_pairs R [] all = λ i j d before below. absurd (omega arith)
 all_pairs R (x ∷ xs) all = AllPairs-cons R x xs (All-from_recursion (R x) xs all.0) (all_pairs R xs all.1)
+
+-- P of the item at a place
+pub item_at : {X : Type 0} (P : X → Type 0) (xs : List X) → AllByRecursion P xs → (i : ℕ) (x : X) → At xs i x → P x
+item_at P [] all i x at = let none : ⊥ = cc in absurd none
+item_at P (y ∷ ys) all zero x at = let same : y ≡ x = cc in subst P same all.0
+item_at P (y ∷ ys) all (suc i) x at = item_at P ys all.1 i x at
+
+-- where no two items both have P, at most one has it
+pub at_most_one : {X : Type 0} (P : X → Type 0) (xs : List X) → PairsByRecursion (λ x y. P x → ¬ P y) xs → AtMostOne P xs
+at_most_one P [] all i j x y at_x at_y has_x has_y = let none : ⊥ = cc in absurd none
+at_most_one P (z ∷ xs) all zero zero x y at_x at_y has_x has_y = refl
+at_most_one P (z ∷ xs) all zero (suc j) x y at_x at_y has_x has_y =
+    let same : z ≡ x = cc in
+    absurd (item_at (λ w. P z → ¬ P w) xs all.0 j y at_y (subst P (sym same) has_x) has_y)
+at_most_one P (z ∷ xs) all (suc i) zero x y at_x at_y has_x has_y =
+    let same : z ≡ y = cc in
+    absurd (item_at (λ w. P z → ¬ P w) xs all.0 i x at_x (subst P (sym same) has_y) has_x)
+at_most_one P (z ∷ xs) all (suc i) (suc j) x y at_x at_y has_x has_y = ap suc (at_most_one P xs all.1 i j x y at_x at_y has_x has_y)

@@ -1,22 +1,24 @@
 -- Legal states and tables of small schemas, set by set, association by association, table by table.
-use Rattle.std.proofs.Common.{◌≡◌, ℕ, length}
+use Rattle.std.proofs.Common.{◌≡◌, ℕ, [], ◌∷◌, length, sym, ap, subst, ◌∙◌}
 use Rattle.std.specs.Prelude.{All, Some}
 use Rattle.std.specs.List.{AllByRecursion}
-use Rattle.std.proofs.lemmas.List.Elements.{All-nil}
+use Rattle.std.proofs.lemmas.List.Elements.{All-nil, All-from_recursion}
 use Rattle.edm_types.specs.declared.model.EntityModel.{EntityModel}
 use Rattle.edm_types.specs.declared.model.EntitySet.{EntitySet}
 use Rattle.edm_types.specs.declared.model.Assoc.{Assoc}
 use Rattle.edm_types.specs.declared.model.Constraint.{Constraint}
 use Rattle.edm_types.specs.declared.store.Table.{Table}
+use Rattle.edm_types.specs.declared.data.Row.{Row}
 use Rattle.edm_types.specs.Entities.{IsEntity}
 use Rattle.edm_types.specs.State.{State, entities_in, links_in, IsLink, IsIndependent}
-use Rattle.edm_types.specs.Rows.{Tables, rows_in}
+use Rattle.edm_types.specs.Rows.{Tables, rows_in, cell_of}
 use Rattle.round_trip.specs.Schema.{Schema}
 use Rattle.round_trip.specs.Legal.{IsLegal, IsLegalSet, AreLegalLinks, HavePrincipals}
-use Rattle.round_trip.specs.TablesAre.{TablesAre, AreDemandedRows}
+use Rattle.round_trip.specs.Demand.{Writing, Writes, Gives}
+use Rattle.round_trip.specs.TablesAre.{TablesAre, HasNoClash, AreDemandedRows}
 use Rattle.worked_examples.specs.Ids.{set_id, assoc_id, table_id}
 use Rattle.worked_examples.proofs.Small.{EachAt, each_at, each_list}
-use Rattle.worked_examples.proofs.Writings.{AreApart, no_clash}
+use Rattle.worked_examples.proofs.Writings.{IsOnlyWriting, IsRowOf, AreApart, no_clash, one_row}
 
 module _ (model : EntityModel) (state : State) where
   -- what legality asks of the s-th set, and of the a-th association
@@ -54,9 +56,43 @@ module _ (schema : Schema) (state : State) (tables : Tables) where
     pub shape : All (λ row. length row.cells ≡ length table.cols) (rows_in tables (table_id t))
     pub rows : AreDemandedRows schema state (table_id t) table (rows_in tables (table_id t))
 
-  pub stored_by_tables : length tables ≡ length schema.store.tables → AreApart schema state → EachAt IsStoredAt schema.store.tables → TablesAre schema state tables
-  stored_by_tables count apart each = record {
+  pub stored_by_tables : length tables ≡ length schema.store.tables → HasNoClash schema state → EachAt IsStoredAt schema.store.tables → TablesAre schema state tables
+  stored_by_tables count no_clash each = record {
     shape = record { each = count; rows = λ t table at. (each_at IsStoredAt schema.store.tables each t.index table at).shape };
-    no_clash = no_clash schema state apart;
+    no_clash = no_clash;
     rows = λ t table at. (each_at IsStoredAt schema.store.tables each t.index table at).rows;
   }
+
+-- a state that writes to one row of the only table
+module _ (schema : Schema) (state : State) (table : Table) (writing : Writing) (row : Row) where
+  pub record IsOnlyRow : Type 0 where
+    pub is_table : table ∷ [] ≡ schema.store.tables
+    pub to_table : writing.table ≡ table_id 0
+    pub writes : Writes schema state writing
+    pub only : (other : Writing) → Writes schema state other → other ≡ writing
+    pub made : IsRowOf schema table writing row
+    pub count : length row.cells ≡ length table.cols
+
+  module _ (only : IsOnlyRow) where
+    apart : AreApart schema state
+    apart = record {
+      only = λ one two by_one by_two same. only.only one by_one ∙ sym (only.only two by_two);
+      value_at = λ w col. cell_of row col;
+      given = λ other by col value gives. sym (only.made.given col value (subst (λ w. Gives w col value) (only.only other by) gives));
+    }
+
+    the_only : IsOnlyWriting schema state (table_id 0) writing
+    the_only = record { writes = only.writes; to_table = only.to_table; only = λ other by same. only.only other by }
+
+    abbrev HasAllCells : Row → Type 0
+    HasAllCells r = length r.cells ≡ length table.cols
+
+    stored_at : IsStoredAt schema state ((row ∷ []) ∷ []) 0 table
+    stored_at = record {
+      shape = All-from_recursion HasAllCells (row ∷ []) (only.count, tt);
+      rows = one_row schema state (table_id 0) table writing row the_only only.made;
+    }
+
+    pub one_row_stored : TablesAre schema state ((row ∷ []) ∷ [])
+    one_row_stored = stored_by_tables schema state ((row ∷ []) ∷ []) (ap length only.is_table) (no_clash schema state apart)
+        (subst (EachAt (IsStoredAt schema state ((row ∷ []) ∷ []))) only.is_table (stored_at, tt))

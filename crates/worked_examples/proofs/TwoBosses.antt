@@ -1,95 +1,40 @@
 -- A person with two bosses: both stand in one cell.
-use Rattle.std.proofs.Common.{◌≡◌, ◌≢◌, inl, inr, ℕ, List, [], ◌∷◌, refl, ap, arith}
+use Rattle.std.proofs.Common.{inl, inr, ℕ, List, [], ◌∷◌, refl, arith}
 use Rattle.std.specs.Prelude.{Contains, pos}
-use Rattle.std.specs.List.{AllByRecursion}
-use Rattle.std.proofs.lemmas.List.Elements.{All-from_recursion}
-use Rattle.emc_base.specs.declared.value.Value.TheVariants.{Null, Whole}
-use Rattle.edm_types.specs.declared.model.EntityModel.{EntityModel}
-use Rattle.edm_types.specs.declared.data.Entity.{Entity}
+use Rattle.emc_base.specs.declared.value.Value.TheVariants.{Whole}
+use Rattle.edm_types.specs.declared.model.Mult.TheVariants.{Many}
 use Rattle.edm_types.specs.declared.data.Link.{Link}
-use Rattle.edm_types.specs.State.{IsLink}
 use Rattle.edm_types.specs.IsA.{same}
-use Rattle.round_trip.specs.Legal.{IsLegal, AreLegalLinks, HasEntityAt}
+use Rattle.round_trip.specs.Legal.{IsLegal}
 use Rattle.round_trip.specs.Demand.{DemandsCell}
 use Rattle.worked_examples.specs.Ids.{type_id, table_id, col_id}
-use Rattle.worked_examples.specs.People.{people_with, people_set, person}
-use Rattle.worked_examples.specs.TwoBosses.{boss, boss_of, boss_links, boss_column, bossed, bossed_table, two_bosses, TwoBossesClash}
-use Rattle.worked_examples.proofs.Small.{PairsByRecursion, all_pairs}
-use Rattle.worked_examples.proofs.Entities.{MayStand, HaveOwnKeys, shaped_set, legal_set}
-use Rattle.worked_examples.proofs.States.{legal_by_parts}
+use Rattle.worked_examples.specs.Bosses.{bosses, bossed, bossed_model, bossed_table, boss_column, boss_links, boss_of}
+use Rattle.worked_examples.specs.TwoBosses.{two_bosses, TwoBossesClash}
 use Rattle.worked_examples.proofs.Writings.{link_writing}
-use Rattle.worked_examples.proofs.People.{may_stand_with, no_name, ids_differ}
-
-abbrev model : EntityModel
-model = people_with (boss ∷ [])
-
-abbrev unnamed : ℕ → Entity
-unnamed id = person (pos id) Null
-
-abbrev three : List Entity
-three = unnamed 1 ∷ unnamed 2 ∷ unnamed 3 ∷ []
+use Rattle.worked_examples.proofs.Bosses.{links_differ, is_link, unnamed, three_unnamed, three_stand, three_own_keys, legal_bossed}
 
 abbrev links : List Link
 links = boss_of (pos 1) (pos 2) ∷ boss_of (pos 1) (pos 3) ∷ []
 
-each : AllByRecursion (MayStand model people_set) three
-each = (
-  may_stand_with (boss ∷ []) 1 Null (omega arith) no_name,
-  (may_stand_with (boss ∷ []) 2 Null (omega arith) no_name, (may_stand_with (boss ∷ []) 3 Null (omega arith) no_name, tt)),
-)
-
-differ : (one two : ℕ) → one ≢ two → HaveOwnKeys model (unnamed one) (unnamed two)
-differ one two other = ids_differ (boss ∷ []) one two Null Null other
-
-own_keys : PairsByRecursion (HaveOwnKeys model) three
-own_keys = ((differ 1 2 (omega arith), (differ 1 3 (omega arith), tt)), ((differ 2 3 (omega arith), tt), (tt, tt)))
-
--- both ends of a link stand
-abbrev HasEnds : Link → Type 0
-HasEnds link = HasEntityAt model two_bosses boss.first link.first × HasEntityAt model two_bosses boss.second link.second
-
-ends : AllByRecursion HasEnds links
-ends = (
-  ((0, unnamed 1, omega arith, refl, (same (type_id 0), refl)), (1, unnamed 2, omega arith, refl, (same (type_id 0), refl))),
-  (((0, unnamed 1, omega arith, refl, (same (type_id 0), refl)), (2, unnamed 3, omega arith, refl, (same (type_id 0), refl))), tt),
-)
-
-links_differ : boss_of (pos 1) (pos 2) ≢ boss_of (pos 1) (pos 3)
-links_differ equal = let second : Whole (pos 2) ∷ [] ≡ Whole (pos 3) ∷ [] = ap (λ (link : Link). link.second) equal in absurd (cc)
-
-legal_links : AreLegalLinks model two_bosses boss links
-legal_links = record {
-  ends = All-from_recursion HasEnds links ends;
-  once = all_pairs (λ link other. link ≢ other) links ((links_differ, tt), (tt, tt));
-  first_partners = λ k d below typed. tt;
-  second_partners = λ k d below typed. tt;
-}
-
-is_link : (one two : ℕ) → IsLink model boss (boss_of (pos one) (pos two))
-is_link one two = record { independent = refl; first = refl; second = refl }
-
-legal : IsLegal model two_bosses
-legal = legal_by_parts model two_bosses (record {
-  count = refl;
-  link_count = refl;
-  shapes = (shaped_set model people_set three each, tt);
-  sets = (legal_set model people_set three each own_keys, tt);
-  assocs = (
-    record {
-      shape = All-from_recursion (IsLink model boss) links (is_link 1 2, (is_link 1 3, tt));
-      links = λ independent. legal_links;
-      principals = λ constraint none. absurd (cc);
-    },
-    tt,
+legal : IsLegal (bossed_model Many) two_bosses
+legal = legal_bossed Many three_unnamed links (record {
+  stand = three_stand Many;
+  own_keys = three_own_keys Many;
+  shapes = (is_link Many 1 2, (is_link Many 1 3, tt));
+  ends = (
+    ((0, unnamed 1, omega arith, refl, (same (type_id 0), refl)), (1, unnamed 2, omega arith, refl, (same (type_id 0), refl))),
+    (((0, unnamed 1, omega arith, refl, (same (type_id 0), refl)), (2, unnamed 3, omega arith, refl, (same (type_id 0), refl))), tt),
   );
+  once = ((links_differ 1 2 1 3 (λ one. omega arith), tt), (tt, tt));
+  partners = (tt, (tt, (tt, tt)));
 })
 
 -- where the first of the people is linked to a boss, the boss is demanded
-demands : (id : ℕ) → Contains links (boss_of (pos 1) (pos id)) → DemandsCell bossed two_bosses (table_id 0) (Whole (pos 1) ∷ []) (col_id 2) (Whole (pos id))
+demands : (id : ℕ) → Contains links (boss_of (pos 1) (pos id)) → DemandsCell (bossed Many) two_bosses (table_id 0) (Whole (pos 1) ∷ []) (col_id 2) (Whole (pos id))
 demands id linked = (
-  link_writing bossed boss_links boss (boss_of (pos 1) (pos id)),
+  link_writing (bossed Many) boss_links (bosses Many) (boss_of (pos 1) (pos id)),
   record {
-    writes = inr (boss_links, boss, boss_of (pos 1) (pos id), record { mapped = (0, omega arith, refl); is_assoc = refl; stands = linked }, refl);
+    writes = inr (boss_links, bosses Many, boss_of (pos 1) (pos id), record { mapped = (0, omega arith, refl); is_assoc = refl; stands = linked }, refl);
     to_table = refl;
     to_key = refl;
   },

@@ -16,7 +16,8 @@ use Rattle.worked_examples.specs.Unwritten.{people_without_names, NameIsLost}
 use Rattle.worked_examples.proofs.Small.{each_of}
 use Rattle.worked_examples.proofs.Writings.{IsRowOf, row_made}
 use Rattle.worked_examples.proofs.OneRow.{IsMet, the_writing, one_row_demanded}
-use Rattle.worked_examples.proofs.People.{may_stand, no_name, a_name, text_a, legal_people}
+use Rattle.worked_examples.proofs.Values.{text_a}
+use Rattle.worked_examples.proofs.People.{may_stand, no_name, a_name, legal_people}
 
 abbrev ids : List Pair
 ids = pair_of 0 0 ∷ []

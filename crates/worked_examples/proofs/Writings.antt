@@ -48,6 +48,13 @@ module _ (schema : Schema) (state : State) (Q : Writing → Type 0) where
   abbrev pub OfLinkFragment : LinkFragment → Type 0
   OfLinkFragment fragment = (assoc : Assoc) → At schema.model.assocs fragment.assoc.index assoc → AllByRecursion (OfLink fragment assoc) (links_in state fragment.assoc)
 
+  -- Q of what the links of the fragment's association write
+  pub of_links : (fragment : LinkFragment) (assoc : Assoc) → At schema.model.assocs fragment.assoc.index assoc
+      → AllByRecursion (OfLink fragment assoc) (links_in state fragment.assoc) → OfLinkFragment fragment
+  of_links fragment assoc is all other at =
+      let same : assoc ≡ other = cc (is, at) in
+      subst (λ a. AllByRecursion (OfLink fragment a) (links_in state fragment.assoc)) same all
+
   -- Q of each writing
   pub each_writing : AllByRecursion OfFragment schema.mapping.fragments → AllByRecursion OfLinkFragment schema.mapping.links
       → (writing : Writing) → Writes schema state writing → Q writing

@@ -1,7 +1,16 @@
 pub mod Ids
 pub mod People
+pub mod LongName
 pub mod Unwritten
+pub mod LevelLost
 pub mod Salary
+pub mod ByKind
 pub mod NameShown
+pub mod Bosses
 pub mod TwoBosses
+pub mod OneBoss
+pub mod NeededBoss
+pub mod JoinedBosses
+pub mod BossLost
 pub mod Owners
+pub mod TypeLost

@@ -1,7 +1,29 @@
 //! Small mappings whose states are legal, or fail, just as is meant.
 #![tactic(auto)]
 
+ghost use Rattle.worked_examples.specs.BossLost.{BossIsLost};
+ghost use Rattle.worked_examples.specs.ByKind.{
+  EmployeeIsLegal,
+  EmployeeIsStored,
+  EmployeeRowIsLegal,
+  EmployeeRowSatisfies,
+};
+ghost use Rattle.worked_examples.specs.JoinedBosses.{
+  JoinedIsLegal,
+  JoinedIsStored,
+  JoinedTablesAreLegal,
+  JoinedTablesSatisfy,
+};
+ghost use Rattle.worked_examples.specs.LevelLost.{LevelIsLost};
+ghost use Rattle.worked_examples.specs.LongName.{LongNameIsTold};
 ghost use Rattle.worked_examples.specs.NameShown.{NullNameIsHidden};
+ghost use Rattle.worked_examples.specs.NeededBoss.{EachOthersBossIsLegal, MissingBossIsNot};
+ghost use Rattle.worked_examples.specs.OneBoss.{
+  CrewIsLegal,
+  CrewIsStored,
+  CrewTablesAreLegal,
+  CrewTablesSatisfy,
+};
 ghost use Rattle.worked_examples.specs.Owners.{OwnerDangles};
 ghost use Rattle.worked_examples.specs.People.{
   NoNameIsLegal,
@@ -14,6 +36,7 @@ ghost use Rattle.worked_examples.specs.People.{
 };
 ghost use Rattle.worked_examples.specs.Salary.{SalaryIsLeftNull};
 ghost use Rattle.worked_examples.specs.TwoBosses.{TwoBossesClash};
+ghost use Rattle.worked_examples.specs.TypeLost.{TypeIsLost};
 ghost use Rattle.worked_examples.specs.Unwritten.{NameIsLost};
 
 /// One person with a name: the state is legal, its tables have the one row, and they are legal and agree with the fragment.
@@ -35,14 +58,38 @@ pub fn counts_characters()
     ensures twenty_one { TwentyOneCharactersAreNot }
 {}
 
+/// Of a name that is too long, just this is told: the rule of domains, at the name.
+pub fn tells_a_long_name()
+    ensures told { LongNameIsTold }
+{}
+
 /// A property that is written nowhere is lost: two states have the same tables.
 pub fn loses_an_unwritten_name()
     ensures fails { NameIsLost }
 {}
 
+/// An entity that no fragment's conditions let through is lost: its tables are those of the state without it.
+pub fn loses_a_level()
+    ensures fails { LevelIsLost }
+{}
+
+/// The type is lost where one fragment picks two types and nothing is written that tells them apart.
+pub fn loses_a_type()
+    ensures fails { TypeIsLost }
+{}
+
 /// A column that can't be null is null where nothing writes it, here for an entity of another type.
 pub fn leaves_a_salary_null()
     ensures fails { SalaryIsLeftNull }
+{}
+
+/// An employee, told by a column: the state is legal, the row holds the column's constant, and the row is legal and agrees with
+/// the fragment of employees and with that of the others.
+pub fn stores_an_employee_by_kind()
+    ensures legal { EmployeeIsLegal }
+    ensures demanded { EmployeeIsStored }
+    ensures legal_tables { EmployeeRowIsLegal }
+    ensures satisfied { EmployeeRowSatisfies }
 {}
 
 /// A fragment that shows fewer rows than it writes disagrees with its table.
@@ -53,6 +100,35 @@ pub fn hides_a_null_name()
 /// Two links that are written to one cell clash.
 pub fn clashes_at_two_bosses()
     ensures fails { TwoBossesClash }
+{}
+
+/// At most one boss of each person, in a column of the person's row: the state is legal, two rows come of a person and of a link,
+/// and the tables are legal and agree with both fragments.
+pub fn stores_one_boss()
+    ensures legal { CrewIsLegal }
+    ensures demanded { CrewIsStored }
+    ensures legal_tables { CrewTablesAreLegal }
+    ensures satisfied { CrewTablesSatisfy }
+{}
+
+/// Where each person has exactly one boss, a person without a boss isn't legal.
+pub fn needs_a_boss()
+    ensures legal { EachOthersBossIsLegal }
+    ensures missing { MissingBossIsNot }
+{}
+
+/// Any number of bosses of each person, in a table of their own: the state is legal, each link is a row of both ids, and the tables
+/// are legal and agree with both fragments.
+pub fn joins_bosses()
+    ensures legal { JoinedIsLegal }
+    ensures demanded { JoinedIsStored }
+    ensures legal_tables { JoinedTablesAreLegal }
+    ensures satisfied { JoinedTablesSatisfy }
+{}
+
+/// A link that no fragment writes is lost: the place names the association set alone.
+pub fn loses_a_boss()
+    ensures fails { BossIsLost }
 {}
 
 /// A foreign key that points to a narrower table than the model's association dangles.

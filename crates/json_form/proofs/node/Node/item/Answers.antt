@@ -1,5 +1,5 @@
 use Rattle.std.proofs.Common.{option_map, ◌∙◌, ap}
-use Rattle.json_form.proofs.Trees.{at-items_in}
+use Rattle.json_form.proofs.Views.{at-items_in}
 use Rattle.json_form.specs.Nodes.{part_of}
 use Rattle.json_form.proofs.node.Node.item.Goals as goal
 

@@ -1,6 +1,6 @@
 use Rattle.std.proofs.Common.{◌∙◌, ap, sym, option_map, Some}
 use Rattle.serde_json.specs.Data.{Data}
-use Rattle.json_form.proofs.Trees.{slice_get-members_in, shown}
+use Rattle.json_form.proofs.Views.{slice_get-members_in, shown}
 use Rattle.json_form.specs.Nodes.{part_of}
 use Rattle.serde_json.specs.View.{view}
 use Rattle.json_form.proofs.node.Node.member_at.Goals as goal

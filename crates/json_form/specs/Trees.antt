@@ -1,0 +1,32 @@
+-- Values and keys as JSON trees, and objects made member by member.
+-- Source: RFC 8259; a byte list is told as the text of its bytes in two lower-case hexadecimal digits each.
+use Rattle.std.specs.Prelude.{ℕ, List, [], ◌∷◌, map}
+use Rattle.hex.specs.Hex.{encode_lower}
+use Rattle.serde_json.specs.Data.{Data, null, boolean, number, string, array, object, Members, no_members, put}
+use Rattle.serde_json.specs.Find.{of_integer}
+use Rattle.serde_json.specs.View.{items_of}
+use Rattle.emc_base.specs.declared.value.Value.{Value}
+use Rattle.emc_base.specs.declared.value.Value.TheVariants as value
+
+abbrev pub value_tree : Value → Data
+value_tree value.Null = null
+value_tree (value.Whole n) = number (of_integer n)
+value_tree (value.Flag flag) = boolean flag
+value_tree (value.Text text) = string text
+value_tree (value.Bytes bytes) = string (encode_lower bytes)
+
+-- an array of trees
+abbrev pub array_of : List Data → Data
+array_of trees = array (items_of trees)
+
+abbrev pub key_tree : List Value → Data
+key_tree key = array_of (map value_tree key)
+
+-- the members with these put in one after another, each at its place by its name
+abbrev pub put_all : Members → List (List ℕ × Data) → Members
+put_all members [] = members
+put_all members (entry ∷ entries) = put_all (put entry.0 entry.1 members) entries
+
+-- the object of these members
+abbrev pub object_of : List (List ℕ × Data) → Data
+object_of entries = object (put_all no_members entries)

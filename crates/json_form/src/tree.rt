@@ -1,0 +1,58 @@
+ghost use Rattle.std.specs.Prelude.{◌≡◌, IfOk, map};
+ghost use Rattle.serde_json.specs.Data.{string};
+ghost use Rattle.serde_json.specs.View.{items_of, items_view, members_view, view};
+ghost use Rattle.serde_json.specs.Data.{array, object};
+ghost use Rattle.json_form.specs.Trees.{key_tree, value_tree};
+
+use emc_base::{Key, Memory, Value};
+use serde_json::Map;
+use serde_json::Value as Tree;
+use std::alloc::Global;
+
+/// A value as a JSON tree.
+pub fn value_tree(alloc: Global, value: &Value) -> Result<Tree, Memory>
+    ensures { IfOk result (λ tree. view tree ≡ value_tree value.now) }
+{
+    match value {
+        Value::Null => Ok(Tree::Null),
+        Value::Whole(number) => Ok(Tree::from(*number)),
+        Value::Flag(flag) => Ok(Tree::Bool(*flag)),
+        Value::Text(text) => text_tree(alloc, text.as_str()),
+        Value::Bytes(bytes) => {
+            let text = hex::encode(alloc, bytes.as_slice())?;
+            Ok(Tree::String(text))
+        }
+    }
+}
+
+/// A text as a JSON tree.
+pub fn text_tree(alloc: Global, text: &str) -> Result<Tree, Memory>
+    ensures { IfOk result (λ tree. view tree ≡ string text.now) }
+{
+    Ok(Tree::String(String::from_str(alloc, text)?))
+}
+
+/// A key as an array of its values.
+pub fn key_tree(alloc: Global, key: &Key) -> Result<Tree, Memory>
+    ensures { IfOk result (λ tree. view tree ≡ key_tree key.now) }
+{
+    let mut trees = Vec::new(alloc);
+    for value in key.as_slice() {
+        trees.push(value_tree(alloc, value)?)?;
+    }
+    Ok(array_tree(trees))
+}
+
+/// The array of these trees.
+pub fn array_tree(trees: Vec<Tree>) -> Tree
+    ensures { view result ≡ array (items_of (map view trees.items)) }
+{
+    Tree::Array(trees)
+}
+
+/// The object of these members.
+pub fn object_tree(members: Map<String, Tree>) -> Tree
+    ensures { view result ≡ object (members_view members.entries) }
+{
+    Tree::Object(members)
+}

@@ -1,0 +1,6 @@
+-- The schema that an accepted mapping lends.
+use Rattle.round_trip.specs.Schema.{Schema}
+use Rattle.mapping_core.specs.declared.compiled.Parts.{Parts}
+
+abbrev pub schema_of : Parts → Schema
+schema_of parts = record { model = parts.model.now; store = parts.store.now; mapping = parts.mapping.now }

@@ -1,0 +1,64 @@
+ghost use Rattle.std.specs.Prelude.{◌≡◌};
+ghost use Rattle.round_trip.specs.RoundTrips.{KeepsEveryState, RoundTrips};
+ghost use Rattle.mapping_core.specs.Parts.{schema_of};
+
+use edm_types::{EntityModel, Mapping, StoreModel};
+use std::marker::Model;
+
+/// An accepted mapping, which contracts see as what its documents mean. Every legal state of its model has tables of its own.
+#[derive(Drop)]
+pub struct Compiled {
+    model: EntityModel,
+    store: StoreModel,
+    mapping: Mapping,
+}
+
+impl Model for Compiled {
+    ghost use Rattle.round_trip.specs.RoundTrips.{KeepsEveryState, RoundTrips};
+    ghost use Rattle.round_trip.specs.Schema.{Schema};
+    ghost use Rattle.std.specs.Coded.{codes};
+    ghost use Rattle.edm_types.specs.contracts.model.TypeNode as node;
+
+    ghost Value = { Schema };
+
+    ghost coded = { Prim.hlevel (codes, node.the_row.coded) };
+
+    ghost view = { λ c. record { model = c.model; store = c.store; mapping = c.mapping } };
+
+    ghost invariant = { λ c. RoundTrips (record { model = c.model; store = c.store; mapping = c.mapping }) × KeepsEveryState (record { model = c.model; store = c.store; mapping = c.mapping }) };
+}
+
+/// What an accepted mapping stands on.
+pub struct Parts<'a> {
+    pub model: &'a EntityModel,
+    pub store: &'a StoreModel,
+    pub mapping: &'a Mapping,
+}
+
+impl Compiled {
+    // What is accepted has to round-trip.
+    pub(crate) fn new(model: EntityModel, store: StoreModel, mapping: Mapping) -> Compiled
+        requires round_trips { RoundTrips (record { model = model; store = store; mapping = mapping }) }
+        requires keeps { KeepsEveryState (record { model = model; store = store; mapping = mapping }) }
+        ensures { result ≡ record { model = model; store = store; mapping = mapping } }
+    {
+        Compiled {
+            model,
+            store,
+            mapping,
+        }
+    }
+
+    /// Lends the model, the store and the mapping, of which the round trip holds.
+    pub fn parts(&self) -> Parts<'_>
+        ensures lends { schema_of result ≡ self.now }
+        ensures round_trips { RoundTrips self.now }
+        ensures keeps { KeepsEveryState self.now }
+    {
+        Parts {
+            model: &self.model,
+            store: &self.store,
+            mapping: &self.mapping,
+        }
+    }
+}

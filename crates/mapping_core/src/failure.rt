@@ -1,0 +1,111 @@
+ghost use Rattle.std.specs.Prelude.{◌≡◌, [], ◌∷◌, IfOk, map, pos};
+ghost use Rattle.one_table.specs.Lost.{lost_values};
+ghost use Rattle.mapping_core.specs.Witness.{Loses, shown_state};
+ghost use Rattle.first_form.specs.Samples.{sample_of};
+
+use crate::state::EntityState;
+use crate::verdict::Failure;
+use edm_types::{Entity, EntitySet, EntityType};
+use emc_base::{Kind, Memory, Place, PropId, Seq, Txt, TypeId, Value};
+use round_trip::FailKind;
+use std::alloc::Global;
+
+/// The number in the key of the entities that are shown.
+const SHOWN_KEY: i64 = 7;
+
+// The failure of a mapping that doesn't write this property of its type: two entities of one key, of which one holds null in the
+// property and the other a value.
+pub(crate) fn lost_failure(
+    alloc: Global,
+    set: &EntitySet,
+    declared: &EntityType,
+    key: PropId,
+    lost: PropId,
+    kind: &Kind,
+) -> Result<Failure, Memory>
+    ensures { IfOk result (Loses set.now declared.now key lost kind.now) }
+{
+    let props = declared.props.as_slice();
+    let state = state_with(alloc, props, key, lost, &Value::Null)?;
+    let value = sample_of(alloc, kind)?;
+    let other = state_with(alloc, props, key, lost, &value)?;
+    Ok(Failure {
+        kind: FailKind::Same,
+        place: shown_place(alloc, set)?,
+        state,
+        other: Some(other),
+    })
+}
+
+fn shown_place(alloc: Global, set: &EntitySet) -> Result<Place, Memory>
+    ensures { IfOk result (λ place. place ≡ record { name = set.now.name; key = Value.Whole (pos 7) ∷ []; part = [] }) }
+{
+    let mut key = Seq::empty(alloc);
+    key.push(Value::Whole(SHOWN_KEY))?;
+    Ok(Place {
+        name: set.name.copy(alloc)?,
+        key,
+        part: Txt::of(alloc, "")?,
+    })
+}
+
+// The state of one entity with the shown key, this value in the lost property, and null elsewhere.
+fn state_with(
+    alloc: Global,
+    props: &[PropId],
+    key: PropId,
+    lost: PropId,
+    value: &Value,
+) -> Result<EntityState, Memory>
+    ensures { IfOk result (λ state. state ≡ shown_state props.now (lost_values key lost value.now)) }
+{
+    let entity = Entity {
+        ty: TypeId { index: 0 },
+        values: values_with(alloc, props, key, lost, value)?,
+    };
+    EntityState::of_one(alloc, entity)
+}
+
+fn values_with(
+    alloc: Global,
+    props: &[PropId],
+    key: PropId,
+    lost: PropId,
+    value: &Value,
+) -> Result<Seq<Value>, Memory>
+    ensures { IfOk result (λ values. values ≡ map (lost_values key lost value.now) props.now) }
+{
+    let mut values = Seq::empty(alloc);
+    for prop in props {
+        values.push(value_with(alloc, *prop, key, lost, value)?)?;
+    }
+    Ok(values)
+}
+
+fn value_with(
+    alloc: Global,
+    prop: PropId,
+    key: PropId,
+    lost: PropId,
+    value: &Value,
+) -> Result<Value, Memory>
+    ensures { IfOk result (λ found. found ≡ lost_values key lost value.now prop) }
+{
+    if prop.index == key.index {
+        return Ok(Value::Whole(SHOWN_KEY));
+    }
+    if prop.index == lost.index {
+        return value.copy(alloc);
+    }
+    Ok(Value::Null)
+}
+
+// A small value of a kind of the first form.
+fn sample_of(alloc: Global, kind: &Kind) -> Result<Value, Memory>
+    ensures { IfOk result (λ value. value ≡ sample_of kind.now) }
+{
+    match kind {
+        Kind::Text(_) => Ok(Value::Text(Txt::of(alloc, "a")?)),
+        _ => Ok(Value::Whole(0)),
+    }
+}

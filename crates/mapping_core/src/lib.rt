@@ -1,0 +1,15 @@
+//! Compiles a mapping: three documents are accepted where every legal state round-trips, or the broken rule is named.
+#![tactic(auto)]
+
+mod compiled;
+mod compiling;
+mod failure;
+mod state;
+mod state_tree;
+mod verdict;
+
+pub use compiled::{Compiled, Parts};
+pub use compiling::{compile, model_of};
+pub use state::EntityState;
+pub use state_tree::state_text;
+pub use verdict::{Failure, Verdict};

@@ -1,0 +1,91 @@
+-- An item of level 3 is written nowhere, so its tables are those of no item.
+use Rattle.std.proofs.Common.{◌≡◌, ◌≢◌, inl, ℕ, List, [], ◌∷◌, length, refl, arith}
+use Rattle.std.specs.Prelude.{Contains, pos, false}
+use Rattle.std.specs.List.{AllByRecursion}
+use Rattle.std.proofs.lemmas.List.Elements.{All-nil}
+use Rattle.std.proofs.lemmas.List.Sorted.{IsPermutation-refl, Contains-permutation}
+use Rattle.emc_base.specs.declared.value.Value.TheVariants.{Null, Whole}
+use Rattle.edm_types.specs.declared.data.Entity.{Entity}
+use Rattle.edm_types.specs.declared.data.Row.{Row}
+use Rattle.edm_types.specs.IsA.{same}
+use Rattle.edm_types.specs.Rows.{Tables, rows_in}
+use Rattle.edm_types.specs.Selected.{Selects}
+use Rattle.edm_types.specs.State.{State}
+use Rattle.round_trip.specs.Legal.{IsLegal}
+use Rattle.round_trip.specs.Demand.{Writing, Writes}
+use Rattle.round_trip.specs.TablesAre.{TablesAre}
+use Rattle.worked_examples.specs.Ids.{type_id, set_id, table_id}
+use Rattle.worked_examples.specs.People.{id_prop}
+use Rattle.worked_examples.specs.LevelLost.{items, item_model, item_type, items_set, level_prop, item, only_items}
+use Rattle.worked_examples.specs.LevelLost.{level_is, of_level, level_one_table, level_two_table, LevelIsLost}
+use Rattle.worked_examples.proofs.Small.{PairsByRecursion}
+use Rattle.worked_examples.proofs.Values.{whole_fits}
+use Rattle.worked_examples.proofs.Entities.{MayStand, HaveOwnKeys, shaped_set, legal_set}
+use Rattle.worked_examples.proofs.Writings.{each_writing, no_row}
+use Rattle.worked_examples.proofs.States.{legal_by_parts, stored_by_tables}
+
+abbrev third : Entity
+third = item (pos 1) (pos 3)
+
+abbrev no_rows : Tables
+no_rows = [] ∷ [] ∷ []
+
+stands : MayStand item_model items_set third
+stands = record {
+  shape = (item_type, refl, refl);
+  type = record { concrete = (item_type, refl, refl); under = same (type_id 0) };
+  fits = (
+    record { declared = id_prop; told = refl; fits = whole_fits false 1 (omega arith) },
+    (record { declared = level_prop; told = refl; fits = whole_fits false 3 (omega arith) }, tt),
+  );
+}
+
+legal : (entities : List Entity) → AllByRecursion (MayStand item_model items_set) entities → PairsByRecursion (HaveOwnKeys item_model) entities
+    → IsLegal item_model (only_items entities)
+legal entities each own = legal_by_parts item_model (only_items entities) (record {
+  count = refl;
+  link_count = refl;
+  shapes = (shaped_set item_model items_set entities each, tt);
+  sets = (legal_set item_model items_set entities each own, tt);
+  assocs = tt;
+})
+
+not_selected : (place : List ℕ) (table level : ℕ) → 3 ≢ level → ¬ Selects item_model (of_level place table (pos level)) third
+not_selected place table level other selects =
+    let passes : (Whole (pos 3) ≡ Whole (pos level)) × (Whole (pos 3) ≢ Null) = selects.meets 0 (level_is (pos level)) (omega arith) in
+    other (cc (passes.0))
+
+third_unwritten : (writing : Writing) → ¬ Writes items (only_items (third ∷ [])) writing
+third_unwritten writing by = each_writing items (only_items (third ∷ [])) (λ w. ⊥)
+    ((λ selects. not_selected _ 0 1 (omega arith) selects, tt), ((λ selects. not_selected _ 1 2 (omega arith) selects, tt), tt)) tt writing by
+
+nothing_written : (writing : Writing) → ¬ Writes items (only_items []) writing
+nothing_written writing by = each_writing items (only_items []) (λ w. ⊥) (tt, (tt, tt)) tt writing by
+
+abbrev HasOneCell : Row → Type 0
+HasOneCell row = length row.cells ≡ 1
+
+-- a state that writes nothing has no rows
+stored : (state : State) → ((writing : Writing) → ¬ Writes items state writing) → TablesAre items state no_rows
+stored state none = stored_by_tables items state no_rows refl (λ t key col one two by_one by_two. absurd (none by_one.0 by_one.1.writes)) (
+  record { shape = All-nil HasOneCell; rows = no_row items state (table_id 0) level_one_table (λ writing by to. none writing by) },
+  (record { shape = All-nil HasOneCell; rows = no_row items state (table_id 1) level_two_table (λ writing by to. none writing by) }, tt),
+)
+
+nowhere : ¬ Contains [] third
+nowhere among = absurd (omega (arith, among.1))
+
+pub level_is_lost : LevelIsLost
+level_is_lost = record {
+  legal = legal (third ∷ []) (stands, tt) (tt, tt);
+  fails = record {
+    tables = no_rows;
+    other_tables = no_rows;
+    defined = stored (only_items (third ∷ [])) third_unwritten;
+    other_defined = stored (only_items []) nothing_written;
+    same_tables = λ t. IsPermutation-refl (rows_in no_rows t);
+    other_legal = legal [] tt tt;
+    different = λ equal. nowhere (Contains-permutation (third ∷ []) [] third (equal.entities (set_id 0)) (0, omega arith, refl));
+    differ = inl (set_id 0, items_set, Whole (pos 1) ∷ [], refl, inl (third, (0, omega arith, refl), refl, nowhere), refl);
+  };
+}

@@ -1,0 +1,56 @@
+-- Which values may stand in a property or a column, by its kind and whether it may be null.
+use Rattle.std.proofs.Common.{◌≡◌, ◌⊎◌, inl, inr, ℕ, ◌≤◌, List, Option, Some, Bool, refl, sym, ap, ◌∙◌, arith, IsTrue}
+use Rattle.std.proofs.lemmas.Int.{ints}
+use Rattle.std.proofs.lemmas.Str.{chars-encodes}
+use Rattle.std.specs.Prelude.{pos, true, codes, length, replicate}
+use Rattle.std.specs.Str.{chars}
+use Rattle.emc_base.specs.declared.value.Value.{Value}
+use Rattle.emc_base.specs.declared.value.Value.TheVariants.{Null, Whole, Text}
+use Rattle.emc_base.specs.declared.value.Kind.{Kind}
+use Rattle.emc_base.specs.declared.value.Kind.TheVariants as kind
+use Rattle.emc_base.specs.Domain.{InDomain, IsText}
+use Rattle.worked_examples.specs.People.{accented}
+
+-- the value may stand where values are of the kind, and null or not
+pub record FitsIn (kind : Kind) (nullable : Bool) (value : Value) : Type 0 where
+  pub null : value ≡ Null → IsTrue nullable
+  pub domain : (value ≡ Null) ⊎ InDomain value kind
+
+pub null_fits : (kind : Kind) → FitsIn kind true Null
+null_fits kind = record { null = λ none. refl; domain = inl refl }
+
+-- a whole number that isn't negative is an Int32 where it isn't too large
+pub whole_fits : (nullable : Bool) (n : ℕ) → n ≤ 2147483647 → FitsIn kind.Int32 nullable (Whole (pos n))
+whole_fits nullable n below = record { null = λ none. absurd (cc); domain = inr (omega (arith, ints), omega (arith, ints)) }
+
+pub text_fits : (nullable : Bool) (bound : Option ℕ) (bytes : List ℕ) → IsText bound bytes → FitsIn (kind.Text bound) nullable (Text bytes)
+text_fits nullable bound bytes text = record { null = λ none. absurd (cc); domain = inr text }
+
+pub text_a : IsText (Some 20) (codes "a")
+unfolding lib.Utf8.encode
+text_a = record { characters = codes "a"; scalar = refl; spelled = refl; within = omega arith }
+
+pub text_b : IsText (Some 20) (codes "b")
+unfolding lib.Utf8.encode
+text_b = record { characters = codes "b"; scalar = refl; spelled = refl; within = omega arith }
+
+pub text_c : IsText (Some 20) (codes "c")
+unfolding lib.Utf8.encode
+text_c = record { characters = codes "c"; scalar = refl; spelled = refl; within = omega arith }
+
+pub text_20 : IsText (Some 20) (accented 20)
+unfolding lib.Utf8.encode
+text_20 = record { characters = replicate 20 233; scalar = refl; spelled = refl; within = omega arith }
+
+pub no_text_21 : ¬ IsText (Some 20) (accented 21)
+unfolding chars
+no_text_21 text =
+    let spells : chars (accented 21) ≡ text.characters = ap chars (sym text.spelled) ∙ chars-encodes text.characters text.scalar in
+    let count : length (chars (accented 21)) ≡ length text.characters = ap length spells in
+    let within : length text.characters ≤ 20 = text.within in
+    absurd (omega arith)
+
+-- the letter of a kind
+pub text_e : IsText (Some 1) (codes "E")
+unfolding lib.Utf8.encode
+text_e = record { characters = codes "E"; scalar = refl; spelled = refl; within = omega arith }

@@ -1,0 +1,5 @@
+use Rattle.worked_examples.proofs.BossLost.{boss_is_lost}
+use Rattle.worked_examples.proofs.loses_a_boss.Goals as goal
+
+pub returns : goal.returns
+returns c = record { fails = boss_is_lost }

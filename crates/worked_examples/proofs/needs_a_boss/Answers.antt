@@ -1,0 +1,5 @@
+use Rattle.worked_examples.proofs.NeededBoss.{each_others_boss_is_legal, missing_boss_is_not}
+use Rattle.worked_examples.proofs.needs_a_boss.Goals as goal
+
+pub returns : goal.returns
+returns c = record { legal = each_others_boss_is_legal; missing = missing_boss_is_not }

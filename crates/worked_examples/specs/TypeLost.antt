@@ -1,0 +1,37 @@
+-- TypeLost: people and employees by one fragment that picks both, in a table with no column for the type. A person and an employee
+-- of one id have the same tables.
+use Rattle.std.specs.Prelude.{ℤ, pos, [], ◌∷◌, None, codes}
+use Rattle.emc_base.specs.declared.value.Value.{Value}
+use Rattle.emc_base.specs.declared.value.Value.TheVariants.{Null, Whole}
+use Rattle.edm_types.specs.declared.model.EntityModel.{EntityModel}
+use Rattle.edm_types.specs.declared.data.Entity.{Entity}
+use Rattle.round_trip.specs.declared.FailKind.TheVariants as kinds
+use Rattle.round_trip.specs.Schema.{Schema}
+use Rattle.round_trip.specs.Breaches.{place_at}
+use Rattle.round_trip.specs.FailsAt.{FailsAt}
+use Rattle.worked_examples.specs.Ids.{type_id, entity_of, stem}
+use Rattle.worked_examples.specs.People.{id_prop, name_prop, person_type, people_set, people_store, person, only_people}
+use Rattle.worked_examples.specs.Owners.{employee_type, all_people}
+
+-- an employee is a person with nothing more
+abbrev pub untold_model : EntityModel
+untold_model = record {
+  namespace = codes "N";
+  alias = None;
+  container = codes "C";
+  types = person_type ∷ employee_type ∷ [];
+  props = id_prop ∷ name_prop ∷ [];
+  forest = stem (type_id 0) (type_id 1) ∷ [];
+  sets = people_set ∷ [];
+  assocs = [];
+}
+
+abbrev pub untold : Schema
+untold = record { model = untold_model; store = people_store; mapping = record { fragments = all_people ∷ []; links = [] } }
+
+abbrev pub employee : ℤ → Value → Entity
+employee id name = entity_of (type_id 1) (Whole id ∷ name ∷ [])
+
+abbrev pub TypeIsLost : Type 0
+TypeIsLost = FailsAt untold kinds.Same (place_at (codes "People") (Whole (pos 7) ∷ []) [])
+    (only_people (person (pos 7) Null ∷ [])) (only_people (employee (pos 7) Null ∷ []))
