@@ -1,5 +1,9 @@
 -- What the files and the sink in memory keep.
-use Rattle.std.specs.Prelude.{ℕ, ◌+◌, List, ◌==◌, min, find, Option, option_map}
+use Rattle.std.specs.Prelude.{◌≡◌, Result, Ok, Err, ℕ, ◌+◌, List, ◌==◌, min, find, Option, option_map}
+use Rattle.emc_base.specs.declared.files.ReadFault.{ReadFault}
+use Rattle.emc_base.specs.declared.files.ReadFault.TheVariants as read
+use Rattle.emc_base.specs.declared.sink.SinkFault.{SinkFault}
+use Rattle.emc_base.specs.declared.sink.SinkFault.TheVariants as put
 use Rattle.emc_base.specs.Faults.{last_count}
 use Rattle.emc_base.specs.Files.{FileMap}
 
@@ -20,6 +24,20 @@ pub record KeptSink : Type 0 where
 -- one more, up to the last value
 abbrev pub one_more : ℕ → ℕ
 one_more count = min (count + 1) last_count
+
+-- A call on files is counted, and a fault too; one that finds no memory changes nothing.
+abbrev pub CountsFiles : KeptFiles → KeptFiles → Result (List ℕ) ReadFault → Type 0
+CountsFiles before now (Ok bytes) = now.calls ≡ one_more before.calls
+CountsFiles before now (Err read.Missing) = now.calls ≡ one_more before.calls
+CountsFiles before now (Err read.TooLarge) = now.calls ≡ one_more before.calls
+CountsFiles before now (Err read.Failed) = (now.calls ≡ one_more before.calls) × (now.faults ≡ one_more before.faults)
+CountsFiles before now (Err read.Memory) = now ≡ before
+
+-- the same of a call on a sink
+abbrev pub CountsSink : KeptSink → KeptSink → Result (Unit {0}) SinkFault → Type 0
+CountsSink before now (Ok done) = now.calls ≡ one_more before.calls
+CountsSink before now (Err put.Failed) = (now.calls ≡ one_more before.calls) × (now.faults ≡ one_more before.faults)
+CountsSink before now (Err put.Memory) = now ≡ before
 
 -- how many bytes a failing call still takes; none where the call doesn't fail
 abbrev pub taken_at : List (ℕ × ℕ) → ℕ → Option ℕ

@@ -3,6 +3,8 @@
 
 mod bin;
 mod disk_files;
+#[cfg(test)]
+mod fake;
 mod files;
 mod ids;
 mod mem_files;
@@ -12,6 +14,8 @@ mod out_sink;
 mod place;
 mod seq;
 mod sink;
+#[cfg(test)]
+mod tests;
 mod txt;
 mod value;
 

@@ -1,7 +1,7 @@
 ghost use Rattle.std.specs.Prelude.{◌≡◌, ◌≢◌, ◌≤◌, ◌↔◌, List, ℕ, Contains, IfOk, OnOk, OnErr, Some, length, []};
 ghost use Rattle.std.specs.BTreeMap.{get_by_text};
 ghost use Rattle.emc_base.specs.Files.{FileMap, Tells, CountsRead, PutsFile, HoldsNothing};
-ghost use Rattle.emc_base.specs.InMemory.{one_more};
+ghost use Rattle.emc_base.specs.InMemory.{CountsFiles, one_more};
 ghost use Rattle.emc_base.specs.MemFiles.{kept_files};
 
 use crate::bin::Bin;
@@ -65,7 +65,7 @@ impl Files for MemFiles {
         // It fails at the calls that were named, and at no other.
         ensures named { (result ≡ Err ReadFault.Failed) ↔ Contains (kept_files self.old).failing (one_more (kept_files self.old).calls) }
         ensures failing { (kept_files self.new).failing ≡ (kept_files self.old).failing }
-        ensures memory { result ≡ Err ReadFault.Memory → kept_files self.new ≡ kept_files self.old }
+        ensures counts { CountsFiles (kept_files self.old) (kept_files self.new) result }
     {
         let call = self.calls.saturating_add(1);
         if self.failing.as_slice().contains(&call) {

@@ -1,6 +1,6 @@
 ghost use Rattle.std.specs.Prelude.{◌≡◌, ◌≢◌, ◌++◌, [], ℕ, List, take, Some, MatchOption, IsErr};
 ghost use Rattle.emc_base.specs.Sink.{Puts, CountsPut};
-ghost use Rattle.emc_base.specs.InMemory.{one_more, taken_at, KeptSink};
+ghost use Rattle.emc_base.specs.InMemory.{CountsSink, one_more, taken_at, KeptSink};
 
 use crate::seq::Seq;
 use crate::sink::{Sink, SinkFault};
@@ -64,7 +64,7 @@ impl Sink for MemSink {
             (result ≢ Err SinkFault.Failed)
             (λ count. (IsErr result) × ((result ≡ Err SinkFault.Failed) → self.new.written ≡ self.old.written ++ take count bytes.now)) }
         ensures failing { self.new.failing ≡ self.old.failing }
-        ensures memory { result ≡ Err SinkFault.Memory → self.new ≡ self.old }
+        ensures counts { CountsSink self.old self.new result }
     {
         let call = self.calls.saturating_add(1);
         let failing_after = taken_by(self.failing.as_slice(), call);

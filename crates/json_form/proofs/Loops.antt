@@ -18,8 +18,9 @@ pub list_all-take_none : {X : Type 0} (p : X → Bool) (items : List X) (i : ℕ
     → list_all p (take i items) ≡ true → list_all p (take (i + 1) items) ≡ true
 list_all-take_none p items i none before =
     elim (slice_get_cases items i).1 [
-      inl found ↦ let is : Some found.0 ≡ None = sym found.2 ∙ none in cc
-    | inr past ↦ let end : length items ≤ i + 1 = omega (arith, past.0) in ap (list_all p) (take_all (i + 1) items end ∙ sym (take_all i items past.0)) ∙ before ]
+      | inl found ↦ let is : Some found.0 ≡ None = sym found.2 ∙ none in cc
+      | inr past ↦ let end : length items ≤ i + 1 = omega (arith, past.0) in ap (list_all p) (take_all (i + 1) items end ∙ sym (take_all i items past.0)) ∙ before
+    ]
 
 -- an item that doesn't pass decides
 pub list_all-fails : {X : Type 0} (p : X → Bool) (items : List X) (i : ℕ) (item : X) → slice_get items i ≡ Some item → p item ≡ false

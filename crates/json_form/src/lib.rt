@@ -3,6 +3,8 @@
 
 mod doc;
 mod node;
+#[cfg(test)]
+mod tests;
 mod tree;
 
 pub use doc::{Doc, DocFault};

@@ -5,8 +5,7 @@ ghost use Rattle.serde_json.specs.Data.{array, object};
 ghost use Rattle.json_form.specs.Trees.{key_tree, value_tree};
 
 use emc_base::{Key, Memory, Value};
-use serde_json::Map;
-use serde_json::Value as Tree;
+use serde_json::{Map, Value as Tree};
 use std::alloc::Global;
 
 /// A value as a JSON tree.

@@ -1,0 +1,196 @@
+use crate::fake::{FakeDisk, FakeOutput};
+use crate::{
+    Bin, DiskFiles, Files, Key, Kind, MemFiles, MemSink, OutSink, ReadFault, Seq, Sink, SinkFault,
+    Txt, Value, compare, compare_keys, in_domain,
+};
+use std::alloc::Global;
+use std::cell::RefCell;
+use std::cmp::Ordering;
+use std::test::Fail;
+
+// The three documents of a mapping.
+const CSDL: &str =
+    r#"{"Namespace":"N","EntityContainer":{"Name":"C","EntitySet":[{"Name":"People","EntityType":"N.Person"}]},"EntityType":[{"Name":"Person","Key":["Id"],"Property":[{"Name":"Id","Type":"Int32","Nullable":false},{"Name":"Name","Type":"String","MaxLength":20}]}]}"#;
+
+const SSDL: &str =
+    r#"{"Namespace":"S","EntityContainer":{"Name":"D","EntitySet":[{"Name":"People","EntityType":"S.People"}]},"EntityType":[{"Name":"People","Key":["Id"],"Property":[{"Name":"Id","Type":"int","Nullable":false},{"Name":"Name","Type":"nvarchar","MaxLength":20}]}]}"#;
+
+const MSL: &str =
+    r#"{"EntityContainerMapping":{"StorageEntityContainer":"D","CdmEntityContainer":"C","EntitySetMapping":[{"Name":"People","EntityTypeMapping":[{"TypeName":"N.Person","MappingFragment":[{"StoreEntitySet":"People","ScalarProperty":[{"Name":"Id","ColumnName":"Id"},{"Name":"Name","ColumnName":"Name"}]}]}]}]}}"#;
+
+// The files by name.
+const CONTENTS: [(&str, &str); 3] = [("M.json", CSDL), ("S.json", SSDL), ("P.json", MSL)];
+
+// A value of each sort, in their order.
+fn a_value_of_each_sort(alloc: Global) -> Result<Key, Fail> {
+    let mut key = Seq::empty(alloc);
+    key.push(Value::Null)?;
+    key.push(Value::Whole(-7))?;
+    key.push(Value::Flag(true))?;
+    key.push(Value::Text(Txt::of(alloc, "Kåre")?))?;
+    key.push(Value::Bytes(Bin::of(alloc, &[0, 255])?))?;
+    Ok(key)
+}
+
+#[test]
+fn words_are_read_back(rt: HostRuntime) -> Result<(), Fail> {
+    let mut words = Seq::empty(rt.alloc());
+    for word in ["check", "M.json", "S.json", "P.json"] {
+        words.push(Txt::of(rt.alloc(), word)?)?;
+    }
+    assert_eq!(rt; words.len(), 4);
+    let first: &Txt = words.get(0).ok_or("no first word")?;
+    assert_eq!(rt; first.as_str(), "check");
+    let last: &Txt = words.get(3).ok_or("no last word")?;
+    assert_eq!(rt; last.as_str(), "P.json");
+    Ok(())
+}
+
+#[test]
+fn files_are_read_back(rt: HostRuntime) -> Result<(), Fail> {
+    let mut files = MemFiles::new(rt.alloc(), Seq::empty(rt.alloc()));
+    for (name, content) in CONTENTS {
+        let name = Txt::of(rt.alloc(), name)?;
+        let bytes = Bin::of(rt.alloc(), content.as_bytes())?;
+        files.add(name.copy(rt.alloc())?, bytes)?;
+        let read = files.read(rt.alloc(), &name, 1000)?;
+        assert_eq!(rt; read.as_slice(), content.as_bytes());
+    }
+    let model = files.read(rt.alloc(), &Txt::of(rt.alloc(), "M.json")?, 1000)?;
+    assert_eq!(rt; model.as_slice(), CSDL.as_bytes());
+    let missing = files
+        .read(rt.alloc(), &Txt::of(rt.alloc(), "check")?, 1000)
+        .err();
+    assert_eq!(rt; missing, Some(ReadFault::Missing));
+    assert_eq!(rt; files.faults(), 0);
+    Ok(())
+}
+
+#[test]
+fn named_reads_fail(rt: HostRuntime) -> Result<(), Fail> {
+    let failing = Seq::from_vec(vec![in rt.alloc(); 2u64]?)?;
+    let mut files = MemFiles::new(rt.alloc(), failing);
+    let name = Txt::from_string(String::from_str(rt.alloc(), "M.json")?);
+    let content = Bin::from_vec(vec![in rt.alloc(); 1u8, 2, 3]?);
+    files.add(name.copy(rt.alloc())?, content)?;
+    let first = files.read(rt.alloc(), &name, 2).err();
+    assert_eq!(rt; first, Some(ReadFault::TooLarge));
+    let second = files.read(rt.alloc(), &name, 3).err();
+    assert_eq!(rt; second, Some(ReadFault::Failed));
+    assert_eq!(rt; files.faults(), 1);
+    let third = files.read(rt.alloc(), &name, 3)?;
+    assert_eq!(rt; third.as_slice(), [1u8, 2, 3].as_slice());
+    Ok(())
+}
+
+#[test]
+fn named_writes_fail(rt: HostRuntime) -> Result<(), Fail> {
+    let failing = Seq::from_vec(vec![in rt.alloc(); (2u64, 1u64)]?)?;
+    let mut sink = MemSink::new(rt.alloc(), failing);
+    sink.put(b"accepted\n")?;
+    assert_eq!(rt; sink.put(b"again").err(), Some(SinkFault::Failed));
+    assert_eq!(rt; sink.faults(), 1);
+    assert_eq!(rt; sink.written(), b"accepted\na".as_slice());
+    Ok(())
+}
+
+#[test]
+fn copies_are_equal(rt: HostRuntime) -> Result<(), Fail> {
+    let text = Txt::of(rt.alloc(), "Kåre")?;
+    assert_eq!(rt; text.copy(rt.alloc())?.as_str(), "Kåre");
+    let bytes = Bin::of(rt.alloc(), &[0, 255])?;
+    assert_eq!(rt; bytes.copy(rt.alloc())?.as_slice(), [0u8, 255].as_slice());
+    let key = a_value_of_each_sort(rt.alloc())?;
+    let copied = key.copy(rt.alloc())?;
+    assert_eq!(rt; copied.len(), 5);
+    assert_eq!(rt; compare_keys(&key, &copied), Ordering::Equal);
+    for value in key.as_slice() {
+        let copied = value.copy(rt.alloc())?;
+        assert_eq!(rt; compare(value, &copied), Ordering::Equal);
+    }
+    Ok(())
+}
+
+#[test]
+fn a_bound_counts_characters(rt: HostRuntime) -> Result<(), Fail> {
+    let text = Value::Text(Txt::of(rt.alloc(), "Kåre")?);
+    for (most, want) in [(3u32, false), (4, true), (5, true)] {
+        assert_eq!(rt;
+            in_domain(&text, &Kind::Text(Some(most))),
+            want,
+            "at {most}"
+        );
+    }
+    Ok(())
+}
+
+#[test]
+fn a_byte_ends_at_255(rt: HostRuntime) -> Result<(), Fail> {
+    for (number, want) in [(-1i64, false), (0, true), (255, true), (256, false)] {
+        let value = Value::Whole(number);
+        assert_eq!(rt; in_domain(&value, &Kind::Byte), want, "at {number}");
+    }
+    Ok(())
+}
+
+#[test]
+fn disk_files_keep_to_the_limit(rt: HostRuntime) -> Result<(), Fail> {
+    let name = Txt::of(rt.alloc(), "M.json")?;
+    let mut disk = DiskFiles::new(FakeDisk {
+        length: 4,
+        fault_at: None,
+    });
+    let bytes = disk.read(rt.alloc(), &name, 4)?;
+    assert_eq!(rt; bytes.as_slice(), [0u8, 1, 2, 3].as_slice());
+    let large = disk.read(rt.alloc(), &name, 3).err();
+    assert_eq!(rt; large, Some(ReadFault::TooLarge));
+    let other = Txt::of(rt.alloc(), "S.json")?;
+    let missing = disk.read(rt.alloc(), &other, 4).err();
+    assert_eq!(rt; missing, Some(ReadFault::Missing));
+    assert_eq!(rt; disk.faults(), 0);
+    let mut broken = DiskFiles::new(FakeDisk {
+        length: 4,
+        fault_at: Some(2),
+    });
+    let failed = broken.read(rt.alloc(), &name, 4).err();
+    assert_eq!(rt; failed, Some(ReadFault::Failed));
+    assert_eq!(rt; broken.faults(), 1);
+    Ok(())
+}
+
+// Nothing past the limit and one byte is read: a fault there isn't met.
+#[test]
+fn disk_files_read_no_further(rt: HostRuntime) -> Result<(), Fail> {
+    let name = Txt::of(rt.alloc(), "M.json")?;
+    let mut disk = DiskFiles::new(FakeDisk {
+        length: 9,
+        fault_at: Some(5),
+    });
+    let large = disk.read(rt.alloc(), &name, 3).err();
+    assert_eq!(rt; large, Some(ReadFault::TooLarge));
+    assert_eq!(rt; disk.faults(), 0);
+    Ok(())
+}
+
+#[test]
+fn the_output_is_written_piece_by_piece(rt: HostRuntime) -> Result<(), Fail> {
+    let wide = FakeOutput {
+        written: RefCell::new(Vec::new(rt.alloc())),
+        most: 9,
+    };
+    let mut sink = OutSink::new(&wide);
+    sink.put(b"accepted\n")?;
+    assert_eq!(rt; sink.faults(), 0);
+    let held = wide.written.try_borrow()?;
+    assert_eq!(rt; held.as_slice(), b"accepted\n".as_slice());
+    let narrow = FakeOutput {
+        written: RefCell::new(Vec::new(rt.alloc())),
+        most: 1,
+    };
+    let mut sink = OutSink::new(&narrow);
+    assert_eq!(rt; sink.put(b"accepted\n").err(), Some(SinkFault::Failed));
+    assert_eq!(rt; sink.faults(), 1);
+    let held = narrow.written.try_borrow()?;
+    assert_eq!(rt; held.as_slice(), b"a".as_slice());
+    Ok(())
+}
