@@ -1,3 +1,10 @@
 pub mod Members
 pub mod Places
+pub mod Samples
 pub mod Ids
+pub mod Lists
+pub mod Holding
+pub mod Named
+pub mod Pairs
+pub mod OneTable
+pub mod FirstExample

@@ -4,7 +4,7 @@ use Rattle.std.specs.Prelude.{◌&&◌, ◌||◌, ◌==◌, ℕ, ℤ, pos, negsu
 use Rattle.std.specs.List.{list_any, list_all}
 use Rattle.std.specs.Str.{bytes_eq}
 use Rattle.serde_json.specs.Data.{Data}
-use Rattle.serde_json.specs.Find.{get, as_bool}
+use Rattle.serde_json.specs.Find.{get, pointer, as_bool}
 use Rattle.json_form.specs.Parts.{whole_of}
 use Rattle.emc_base.specs.declared.value.Kind.{Kind}
 use Rattle.emc_base.specs.declared.value.Kind.TheVariants as kind
@@ -39,9 +39,10 @@ bound_of d = option_and_then short_number (whole_of (part_at (codes "/MaxLength"
 -- what a property or column is declared as
 abbrev pub column_of : Vocabulary → Data → Column
 column_of vocabulary d = record {
-    name = text_at (codes "/Name") d;
-    kind = if bytes_eq (text_at (codes "/Type") d) (text_word vocabulary) then kind.Text (bound_of d) else kind.Int32;
-    nullable = unwrap_or (as_bool (part_at (codes "/Nullable") d)) true }
+  name = text_at (codes "/Name") d;
+  kind = if bytes_eq (text_at (codes "/Type") d) (text_word vocabulary) then kind.Text (bound_of d) else kind.Int32;
+  nullable = unwrap_or (as_bool (part_at (codes "/Nullable") d)) true;
+}
 
 -- the full name of the one type
 abbrev pub reference_in : Data → List ℕ
@@ -50,14 +51,15 @@ reference_in d = text_at (codes "/Namespace") d ++ 46 ∷ text_at (codes "/Entit
 -- the names that stand in the document, and its properties or columns
 unfoldable pub declared_in : Vocabulary → Data → Declared
 declared_in vocabulary d = record {
-    namespace = text_at (codes "/Namespace") d;
-    container = text_at (codes "/EntityContainer/Name") d;
-    set = text_at (codes "/EntityContainer/EntitySet/0/Name") d;
-    element = text_at (codes "/EntityContainer/EntitySet/0/EntityType") d;
-    type_name = text_at (codes "/EntityType/0/Name") d;
-    reference = reference_in d;
-    key = text_at (codes "/EntityType/0/Key/0") d;
-    columns = map (column_of vocabulary) (items_at (codes "/EntityType/0/Property") d) }
+  namespace = text_at (codes "/Namespace") d;
+  container = text_at (codes "/EntityContainer/Name") d;
+  set = text_at (codes "/EntityContainer/EntitySet/0/Name") d;
+  element = text_at (codes "/EntityContainer/EntitySet/0/EntityType") d;
+  type_name = text_at (codes "/EntityType/0/Name") d;
+  reference = reference_in d;
+  key = text_at (codes "/EntityType/0/Key/0") d;
+  columns = map (column_of vocabulary) (items_at (codes "/EntityType/0/Property") d);
+}
 
 -- a bound from 1 to 1,048,576
 abbrev pub is_bound : Option ℕ → Bool
@@ -66,7 +68,7 @@ is_bound (Some bound) = nat_le 1 bound && nat_le bound 1048576
 
 -- a whole number without MaxLength, or a text with a MaxLength that is allowed or none
 abbrev pub has_known_type : Vocabulary → Data → Bool
-has_known_type vocabulary d = if is_some (get (codes "MaxLength") d)
+has_known_type vocabulary d = if is_some (pointer (codes "/MaxLength") d)
     then bytes_eq (text_at (codes "/Type") d) (text_word vocabulary) && is_bound (bound_of d)
     else bytes_eq (text_at (codes "/Type") d) (text_word vocabulary) || bytes_eq (text_at (codes "/Type") d) (whole_word vocabulary)
 

@@ -125,12 +125,13 @@ named_pair_of d = record { property = text_at (codes "/Name") d; column = text_a
 -- the names that stand in the document
 unfoldable pub mapped_in : Data → Mapped
 mapped_in d = record {
-    store_container = text_at (path_of part.StoreContainer) d;
-    model_container = text_at (path_of part.ModelContainer) d;
-    set = text_at (path_of part.SetName) d;
-    type_name = text_at (path_of part.TypeName) d;
-    table = text_at (path_of part.TableName) d;
-    pairs = map named_pair_of (items_at (path_of part.Pairs) d) }
+  store_container = text_at (path_of part.StoreContainer) d;
+  model_container = text_at (path_of part.ModelContainer) d;
+  set = text_at (path_of part.SetName) d;
+  type_name = text_at (path_of part.TypeName) d;
+  table = text_at (path_of part.TableName) d;
+  pairs = map named_pair_of (items_at (path_of part.Pairs) d);
+}
 
 -- an MSL document of the first form
 unfoldable pub is_mapping : Data → Bool
@@ -180,10 +181,11 @@ has_good_pairs model store pairs = list_all (λ pair. pair_fits (slice_get model
 -- what stands in the three documents
 abbrev pub content_in : Data → Data → Data → Content
 content_in csdl ssdl msl = record {
-    model = declared_in Model csdl;
-    store = declared_in Store ssdl;
-    mapped = mapped_in msl;
-    pairs = pairs_of (declared_in Model csdl) (declared_in Store ssdl) (mapped_in msl) }
+  model = declared_in Model csdl;
+  store = declared_in Store ssdl;
+  mapped = mapped_in msl;
+  pairs = pairs_of (declared_in Model csdl) (declared_in Store ssdl) (mapped_in msl);
+}
 
 -- the mapping is between the two, and its pairs are good
 abbrev pub does_content_fit : Content → Bool

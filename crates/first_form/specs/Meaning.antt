@@ -32,35 +32,45 @@ ids_from first (column ∷ columns) = record { index = first } ∷ ids_from (fir
 -- one set of one concrete type with these properties, and no association
 unfoldable pub model_of : Declared → EntityModel
 model_of declared = record {
-    namespace = declared.namespace;
-    alias = None;
-    container = declared.container;
-    types = record { name = declared.type_name; base = None; is_abstract = false;
-        key = record { index = place_of declared.key declared.columns } ∷ []; props = ids_from 0 declared.columns; navs = [] } ∷ [];
-    props = map prop_of declared.columns;
-    forest = roll-TypeNode (record { id = record { index = 0 }; is_abstract = false; children = [] }) ∷ [];
-    sets = record { name = declared.set; element = record { index = 0 } } ∷ [];
-    assocs = [] }
+  namespace = declared.namespace;
+  alias = None;
+  container = declared.container;
+  types = record {
+    name = declared.type_name;
+    base = None;
+    is_abstract = false;
+    key = record { index = place_of declared.key declared.columns } ∷ [];
+    props = ids_from 0 declared.columns;
+    navs = [];
+  } ∷ [];
+  props = map prop_of declared.columns;
+  forest = roll-TypeNode (record { id = record { index = 0 }; is_abstract = false; children = [] }) ∷ [];
+  sets = record { name = declared.set; element = record { index = 0 } } ∷ [];
+  assocs = [];
+}
 
 -- one table with these columns, and no foreign key
 unfoldable pub store_of : Declared → StoreModel
 store_of declared = record {
-    namespace = declared.namespace;
-    container = declared.container;
-    tables = record { name = declared.set; cols = declared.columns; key = record { index = place_of declared.key declared.columns } ∷ [] } ∷ [];
-    keys = [] }
+  namespace = declared.namespace;
+  container = declared.container;
+  tables = record { name = declared.set; cols = declared.columns; key = record { index = place_of declared.key declared.columns } ∷ [] } ∷ [];
+  keys = [];
+}
 
 -- one fragment of the one type, without conditions
 unfoldable pub mapping_of : List Pair → Mapping
 mapping_of pairs = record {
-    fragments = record {
-        place = path_of part.Fragment;
-        set = record { index = 0 };
-        picks = record { ty = record { index = 0 }; below = false } ∷ [];
-        table = record { index = 0 };
-        pairs = pairs;
-        conds = [] } ∷ [];
-    links = [] }
+  fragments = record {
+    place = path_of part.Fragment;
+    set = record { index = 0 };
+    picks = record { ty = record { index = 0 }; below = false } ∷ [];
+    table = record { index = 0 };
+    pairs = pairs;
+    conds = [];
+  } ∷ [];
+  links = [];
+}
 
 -- what the three documents mean
 abbrev pub meaning_of : Content → Schema

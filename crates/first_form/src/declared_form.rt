@@ -57,7 +57,11 @@ impl Vocabulary {
 }
 
 /// Reads what a document declares. What isn't there is told as the empty text, or left out.
-pub(crate) fn read_declared(alloc: Global, vocabulary: Vocabulary, root: &Node<'_>) -> Result<Declared, Memory>
+pub(crate) fn read_declared(
+    alloc: Global,
+    vocabulary: Vocabulary,
+    root: &Node<'_>,
+) -> Result<Declared, Memory>
     ensures { IfOk result (λ declared. declared ≡ declared_in vocabulary (part_of root.now)) }
 {
     Ok(Declared {
@@ -92,7 +96,11 @@ fn read_columns_at(
     read_columns(alloc, vocabulary, items_at(root, path))
 }
 
-fn read_columns(alloc: Global, vocabulary: Vocabulary, items: &[Value]) -> Result<Seq<Column>, Memory>
+fn read_columns(
+    alloc: Global,
+    vocabulary: Vocabulary,
+    items: &[Value],
+) -> Result<Seq<Column>, Memory>
     ensures { IfOk result (λ columns. columns ≡ map (column_of vocabulary) (map view items.now)) }
 {
     let mut columns = Seq::empty(alloc);
@@ -151,7 +159,9 @@ fn are_properties(vocabulary: Vocabulary, items: &[Value]) -> bool
 fn are_all_properties(vocabulary: Vocabulary, items: &[Value]) -> bool
     ensures { result ≡ list_all (λ item. is_property vocabulary (view item)) items.now }
 {
-    items.iter().all(|item| is_property(vocabulary, &Node::new(item)))
+    items
+        .iter()
+        .all(|item| is_property(vocabulary, &Node::new(item)))
 }
 
 fn is_property(vocabulary: Vocabulary, node: &Node<'_>) -> bool
@@ -181,7 +191,7 @@ fn has_known_type(vocabulary: Vocabulary, node: &Node<'_>) -> bool
     ensures { result ≡ has_known_type vocabulary (part_of node.now) }
 {
     let word = str_at(node, "/Type");
-    if node.member("MaxLength").is_some() {
+    if node.pointer("/MaxLength").is_some() {
         word == vocabulary.text_word() && is_bound(bound_of(node))
     } else {
         word == vocabulary.text_word() || word == vocabulary.whole_word()

@@ -110,7 +110,9 @@ pub(crate) fn place_of(name: &str, columns: &[Column]) -> usize
 fn position_of(name: &str, columns: &[Column]) -> Option<usize>
     ensures { result ≡ position (λ column. bytes_eq column.name name.now) columns.now }
 {
-    columns.iter().position(|column| column.name.as_str() == name)
+    columns
+        .iter()
+        .position(|column| column.name.as_str() == name)
 }
 
 fn are_key_or_nullable(key: &str, columns: &[Column]) -> bool
@@ -204,7 +206,9 @@ pub(crate) fn has_good_pairs(model: &Declared, store: &Declared, pairs: &[Pair])
 fn do_pairs_fit(properties: &[Column], columns: &[Column], pairs: &[Pair]) -> bool
     ensures { result ≡ list_all (λ pair. pair_fits (slice_get properties.now pair.prop.index) (slice_get columns.now pair.col.index)) pairs.now }
 {
-    pairs.iter().all(|pair| does_pair_fit(properties, columns, pair))
+    pairs
+        .iter()
+        .all(|pair| does_pair_fit(properties, columns, pair))
 }
 
 fn does_pair_fit(properties: &[Column], columns: &[Column], pair: &Pair) -> bool
@@ -251,15 +255,12 @@ fn name_each_once(pairs: &[Pair]) -> bool
 fn names_either(pairs: &[Pair], pair: Pair) -> bool
     ensures { result ≡ list_any (λ other. other.prop.index == pair.prop.index || other.col.index == pair.col.index) pairs.now }
 {
-    pairs
-        .iter()
-        .any(|other| other.prop.index == pair.prop.index || other.col.index == pair.col.index)
+    pairs.iter().any(|other| other.prop.index == pair.prop.index
+        || other.col.index == pair.col.index)
 }
 
 fn has_pair_at(pairs: &[Pair], prop: usize, col: usize) -> bool
     ensures { result ≡ list_any (λ pair. pair.prop.index == prop && pair.col.index == col) pairs.now }
 {
-    pairs
-        .iter()
-        .any(|pair| pair.prop.index as usize == prop && pair.col.index as usize == col)
+    pairs.iter().any(|pair| pair.prop.index as usize == prop && pair.col.index as usize == col)
 }

@@ -3,15 +3,19 @@
 
 mod content;
 mod declared_form;
+mod example;
 mod form;
 mod mapped_form;
 mod meaning;
 mod names;
 mod parts;
 mod shape;
+mod unwritten;
 
 pub use content::Content;
 pub use declared_form::{Declared, Vocabulary};
+pub use example::first_example;
 pub use mapped_form::{Mapped, MappingPart, NamedPair};
 pub use meaning::{Meaning, read_first_form};
 pub use shape::Shape;
+pub use unwritten::first_unwritten;

@@ -1,8 +1,10 @@
-ghost use Rattle.std.specs.Prelude.{◌≡◌, ◌<◌, ◌^◌, [], ◌∷◌, IfOk, length, map, option_map};
+ghost use Rattle.std.specs.Prelude.{◌≡◌, ◌<◌, ◌^◌, [], ◌∷◌, IfOk, IfSome, length, map, option_map};
 ghost use Rattle.json_form.specs.Documents.{tree_of};
 ghost use Rattle.json_form.specs.Nodes.{part_of};
 ghost use Rattle.first_form.specs.Meaning.{first_form_meaning, ids_from, mapping_of, meaning_of, model_of, prop_of, store_of};
+ghost use Rattle.first_form.specs.Samples.{AllowsSamples};
 ghost use Rattle.first_form.specs.Schemas.{schema_of};
+ghost use Rattle.one_table.specs.OneTable.{IsOneTable};
 
 use crate::content::{Content, is_first_form, read_content};
 use crate::declared_form::Declared;
@@ -31,7 +33,9 @@ pub fn read_first_form(
     ssdl: &Doc,
     msl: &Doc,
 ) -> Result<Option<Meaning>, Memory>
-    ensures { IfOk result (λ found. option_map schema_of found ≡ first_form_meaning (tree_of csdl.now) (tree_of ssdl.now) (tree_of msl.now)) }
+    ensures meaning { IfOk result (λ found. option_map schema_of found ≡ first_form_meaning (tree_of csdl.now) (tree_of ssdl.now) (tree_of msl.now)) }
+    ensures one_table { IfOk result (λ found. IfSome found (λ meaning. IsOneTable (schema_of meaning))) }
+    ensures samples { IfOk result (λ found. IfSome found (λ meaning. AllowsSamples meaning.model)) }
 {
     let (csdl, ssdl, msl) = (csdl.root(), ssdl.root(), msl.root());
     let content = read_content(alloc, &csdl, &ssdl, &msl)?;

@@ -35,7 +35,11 @@ impl Shape {
             Shape::Type => &["Key", "Name", "Property"],
             Shape::Property => &["Name", "Type"],
             Shape::Mapping => &["EntityContainerMapping"],
-            Shape::ContainerMapping => &["CdmEntityContainer", "EntitySetMapping", "StorageEntityContainer"],
+            Shape::ContainerMapping => &[
+                "CdmEntityContainer",
+                "EntitySetMapping",
+                "StorageEntityContainer",
+            ],
             Shape::SetMapping => &["EntityTypeMapping", "Name"],
             Shape::TypeMapping => &["MappingFragment", "TypeName"],
             Shape::Fragment => &["ScalarProperty", "StoreEntitySet"],

@@ -58,9 +58,9 @@ pub record LinkWrites (schema : Schema) (state : State) (fragment : LinkFragment
 abbrev pub Writes : Schema → State → Writing → Type 0
 Writes schema state writing =
     ((fragment : Fragment) × (entity : Entity) × EntityWrites schema state fragment entity
-        × (writing ≡ record { table = fragment.table; cells = entity_cells schema.model fragment entity; conds = fragment.conds }))
+    × (writing ≡ record { table = fragment.table; cells = entity_cells schema.model fragment entity; conds = fragment.conds }))
     ⊎ ((fragment : LinkFragment) × (assoc : Assoc) × (link : Link) × LinkWrites schema state fragment assoc link
-        × (writing ≡ record { table = fragment.table; cells = link_cells schema.model assoc fragment link; conds = fragment.conds }))
+    × (writing ≡ record { table = fragment.table; cells = link_cells schema.model assoc fragment link; conds = fragment.conds }))
 
 -- the value that is written to a column
 abbrev pub written_to : List (ColId × Value) → ColId → Value

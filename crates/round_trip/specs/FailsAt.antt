@@ -95,11 +95,11 @@ pub record Disagrees (schema : Schema) (state : State) (place : Place) : Type 0 
   pub defined : TablesAre schema state tables
   pub tuple : List Value
   pub broken : ((fragment : Fragment) × Contains schema.mapping.fragments fragment
-          × IsInOneOnly (IsWrittenTuple schema state fragment) (IsShownTuple tables fragment) tuple
-          × (place ≡ place_at fragment.place (key_in_tuple schema.model (element_of schema.model fragment.set) fragment.pairs tuple) []))
+      × IsInOneOnly (IsWrittenTuple schema state fragment) (IsShownTuple tables fragment) tuple
+      × (place ≡ place_at fragment.place (key_in_tuple schema.model (element_of schema.model fragment.set) fragment.pairs tuple) []))
       ⊎ ((fragment : LinkFragment) × (assoc : Assoc) × Contains schema.mapping.links fragment × At schema.model.assocs fragment.assoc.index assoc
-          × IsInOneOnly (IsWrittenLinkTuple schema state fragment) (IsShownLinkTuple tables fragment) tuple
-          × (place ≡ place_at fragment.place (keys_in_tuple schema.model assoc fragment tuple) []))
+      × IsInOneOnly (IsWrittenLinkTuple schema state fragment) (IsShownLinkTuple tables fragment) tuple
+      × (place ≡ place_at fragment.place (keys_in_tuple schema.model assoc fragment tuple) []))
 
 -- Dangling: a row refers by a foreign key and finds no row. The place is the table, the row's key and the key's name.
 pub record Dangles (schema : Schema) (state : State) (place : Place) : Type 0 where
@@ -131,7 +131,7 @@ HasHostedLinkOnly schema set key c d = (fragment : LinkFragment) × (assoc : Ass
     × Contains schema.mapping.links fragment × At schema.model.assocs fragment.assoc.index assoc
     × Contains (links_in c fragment.assoc) link × (¬ Contains (links_in d fragment.assoc) link)
     × ((IsHostedAt schema fragment.table fragment.first × (assoc.first.set ≡ set) × (link.first ≡ key))
-        ⊎ (IsHostedAt schema fragment.table fragment.second × (assoc.second.set ≡ set) × (link.second ≡ key)))
+    ⊎ (IsHostedAt schema fragment.table fragment.second × (assoc.second.set ≡ set) × (link.second ≡ key)))
 
 -- an independent association set that no link fragment maps
 pub record IsUnmapped (schema : Schema) (a : AssocId) (assoc : Assoc) : Type 0 where
@@ -144,13 +144,13 @@ pub record IsUnmapped (schema : Schema) (a : AssocId) (assoc : Assoc) : Type 0 w
 abbrev pub DifferAt : Schema → State → State → Place → Type 0
 DifferAt schema c d place =
     ((s : SetId) × (set : EntitySet) × (key : List Value) × At schema.model.sets s.index set
-        × (HasEntityOnly schema.model s key c d ⊎ HasEntityOnly schema.model s key d c
-            ⊎ HasHostedLinkOnly schema s key c d ⊎ HasHostedLinkOnly schema s key d c)
-        × (place ≡ place_at set.name key []))
+    × (HasEntityOnly schema.model s key c d ⊎ HasEntityOnly schema.model s key d c
+    ⊎ HasHostedLinkOnly schema s key c d ⊎ HasHostedLinkOnly schema s key d c)
+    × (place ≡ place_at set.name key []))
     ⊎ ((a : AssocId) × (assoc : Assoc) × IsUnmapped schema a assoc
-        × (((link : Link) × Contains (links_in c a) link × ¬ Contains (links_in d a) link)
-            ⊎ ((link : Link) × Contains (links_in d a) link × ¬ Contains (links_in c a) link))
-        × (place ≡ place_at assoc.set_name [] []))
+    × (((link : Link) × Contains (links_in c a) link × ¬ Contains (links_in d a) link)
+    ⊎ ((link : Link) × Contains (links_in d a) link × ¬ Contains (links_in c a) link))
+    × (place ≡ place_at assoc.set_name [] []))
 
 -- Same: another legal state has the same tables. The place is one at which the two states differ.
 pub record IsSameAs (schema : Schema) (c d : State) (place : Place) : Type 0 where

@@ -1,0 +1,154 @@
+-- What documents of the first form mean is a mapping of one set of one type to one table.
+use Rattle.std.proofs.Common.{◌≡◌, ◌&&◌, List, [], ◌∷◌, codes, Bool, true, false, None, refl, sym, ap, subst, ◌∙◌, slice_get}
+use Rattle.std.specs.List.{list_all}
+use Rattle.std.proofs.lemmas.Bool.{and_parts}
+use Rattle.std.proofs.lemmas.List.Sums.{AllPass-from_list_all}
+use Rattle.std.proofs.lemmas.List.Elements.{All-weaker}
+use Rattle.std.proofs.lemmas.Option.{slice_get_within}
+use Rattle.serde_json.specs.Data.{Data}
+use Rattle.emc_base.specs.declared.ids.ColId.{ColId}
+use Rattle.emc_base.specs.declared.ids.PropId.{PropId}
+use Rattle.edm_types.specs.Lists.{At}
+use Rattle.edm_types.specs.declared.model.EntitySet.{EntitySet}
+use Rattle.edm_types.specs.declared.model.EntityType.{EntityType}
+use Rattle.edm_types.specs.declared.mapping.Fragment.{Fragment}
+use Rattle.edm_types.specs.declared.mapping.Pair.{Pair}
+use Rattle.edm_types.specs.declared.store.Column.{Column}
+use Rattle.edm_types.specs.declared.store.Table.{Table}
+use Rattle.round_trip.specs.Schema.{Schema}
+use Rattle.one_table.specs.OneTable.{IsFittingPair, IsOneTable, IsOneType, IsOnlyFragment, IsOnlyTable}
+use Rattle.first_form.specs.declared.content.Content.{Content}
+use Rattle.first_form.specs.declared.declared_form.Declared.{Declared}
+use Rattle.first_form.specs.declared.declared_form.Vocabulary.{Vocabulary}
+use Rattle.first_form.specs.declared.declared_form.Vocabulary.TheVariants.{Model, Store}
+use Rattle.first_form.specs.declared.mapped_form.MappingPart.TheVariants as part
+use Rattle.first_form.specs.Declaring.{declared_in, is_property}
+use Rattle.first_form.specs.Parts.{items_at}
+use Rattle.first_form.specs.Form.{content_in, does_content_fit, has_container_layout, has_good_columns, has_good_names, has_good_pairs, has_set_layout, has_type_layout, is_declaring, is_first_form, is_mapping, names_both, pair_fits, path_of, place_of}
+use Rattle.first_form.specs.Meaning.{ids_from, mapping_of, meaning_of, model_of, prop_of, store_of}
+use Rattle.first_form.proofs.Ids.{different_ids, has_id, prop_at, told_ids}
+use Rattle.first_form.proofs.Holding.{kind_holds}
+use Rattle.first_form.proofs.Lists.{item_at}
+use Rattle.first_form.proofs.Named.{AreGood, are_good, key_not_null, only_key}
+use Rattle.first_form.proofs.Pairs.{ArePaired, Fits, are_paired, cols_once, has_pair, pair_that_fits, props_once}
+
+-- the key property of the one type, and the key column of the one table
+abbrev prop_key : Declared → PropId
+prop_key declared = record { index = place_of declared.key declared.columns }
+
+abbrev col_key : Declared → ColId
+col_key declared = record { index = place_of declared.key declared.columns }
+
+abbrev type_of : Declared → EntityType
+type_of declared = record { name = declared.type_name; base = None; is_abstract = false; key = prop_key declared ∷ []; props = ids_from 0 declared.columns; navs = [] }
+
+abbrev set_of : Declared → EntitySet
+set_of declared = record { name = declared.set; element = record { index = 0 } }
+
+abbrev table_of : Declared → Table
+table_of declared = record { name = declared.set; cols = declared.columns; key = col_key declared ∷ [] }
+
+abbrev fragment_of : List Pair → Fragment
+fragment_of pairs = record { place = path_of part.Fragment; set = record { index = 0 }; picks = record { ty = record { index = 0 }; below = false } ∷ []; table = record { index = 0 }; pairs = pairs; conds = [] }
+
+is_one_type : (declared : Declared) → AreGood declared → IsOneType (model_of declared) (type_of declared) (prop_key declared)
+unfolding model_of
+is_one_type declared good =
+    let key = item_at declared.columns (place_of declared.key declared.columns) good.has_key in
+    record {
+      set = set_of declared;
+      key_declared = prop_of key.0;
+      types = refl;
+      sets = refl;
+      assocs = refl;
+      element = refl;
+      concrete = refl;
+      declared = told_ids declared.columns;
+      different = different_ids declared.columns;
+      one_key = refl;
+      has_key = has_id declared.columns (place_of declared.key declared.columns) good.has_key;
+      key_told = prop_at declared.columns (place_of declared.key declared.columns) key.0 key.1;
+      key_not_null = key_not_null declared good key.0 key.1;
+    }
+
+is_only_table : (declared : Declared) → AreGood declared → IsOnlyTable (store_of declared) (table_of declared) (col_key declared)
+unfolding store_of
+is_only_table declared good =
+    let key = item_at declared.columns (place_of declared.key declared.columns) good.has_key in
+    record {
+      key_column = key.0;
+      tables = refl;
+      keys = refl;
+      one_key = refl;
+      has_key = key.1;
+      others_nullable = λ col column here required. let place = only_key declared good col.index column here required in λ i. record { index = place i };
+    }
+
+-- the pair's property is one of the type's, and its column can hold each of the property's values
+fitting : (model store : Declared) (pair : Pair) → Fits model.columns store.columns pair → IsFittingPair (model_of model) (type_of model) (table_of store) pair
+unfolding model_of
+fitting model store pair fit = record {
+  declared = prop_of fit.property;
+  column = fit.column;
+  has_prop = has_id model.columns pair.prop.index (slice_get_within model.columns pair.prop.index fit.property fit.has_property);
+  told = prop_at model.columns pair.prop.index fit.property fit.has_property;
+  has_column = fit.has_column;
+  holds = kind_holds fit.property.kind fit.column.kind fit.fits;
+}
+
+is_only_fragment : (content : Content) → ArePaired content.model content.store content.pairs
+    → IsOnlyFragment (meaning_of content) (type_of content.model) (table_of content.store) (prop_key content.model) (col_key content.store) (fragment_of content.pairs)
+unfolding mapping_of
+is_only_fragment content paired =
+    let fits : Pair → Bool = λ pair. pair_fits (slice_get content.model.columns pair.prop.index) (slice_get content.store.columns pair.col.index) in
+    record {
+      fragments = refl;
+      links = refl;
+      set = refl;
+      table_is = refl;
+      picks = refl;
+      conds = refl;
+      pairs = All-weaker (λ pair. fits pair ≡ true) (IsFittingPair (model_of content.model) (type_of content.model) (table_of content.store))
+          (λ pair passed. fitting content.model content.store pair (pair_that_fits content.model.columns content.store.columns pair passed))
+          content.pairs (AllPass-from_list_all fits content.pairs paired.fit);
+      keys = has_pair content.pairs (place_of content.model.key content.model.columns) (place_of content.store.key content.store.columns) paired.keys;
+      props_once = props_once content.pairs paired.once;
+      cols_once = cols_once content.pairs paired.once;
+    }
+
+-- good columns and good pairs make a mapping of one table
+one_table_of : (content : Content) → AreGood content.model → AreGood content.store → ArePaired content.model content.store content.pairs → IsOneTable (meaning_of content)
+one_table_of content model store paired = record {
+  type = type_of content.model;
+  table = table_of content.store;
+  fragment = fragment_of content.pairs;
+  key = prop_key content.model;
+  key_col = col_key content.store;
+  one_type = is_one_type content.model model;
+  only_table = is_only_table content.store store;
+  only_fragment = is_only_fragment content paired;
+}
+
+-- a document of the form has good columns
+good_in : (vocabulary : Vocabulary) (d : Data) → is_declaring vocabulary d ≡ true → AreGood (declared_in vocabulary d)
+unfolding is_declaring
+good_in vocabulary d form = are_good (declared_in vocabulary d)
+    (and_parts (has_container_layout d && has_set_layout d && has_type_layout d && list_all (is_property vocabulary) (items_at (codes "/EntityType/0/Property") d)
+    && has_good_names vocabulary (declared_in vocabulary d)) (has_good_columns (declared_in vocabulary d)) form).1
+
+-- documents of the first form mean a mapping of one table
+one_table : (csdl ssdl msl : Data) → is_first_form csdl ssdl msl ≡ true → IsOneTable (meaning_of (content_in csdl ssdl msl))
+unfolding is_first_form
+one_table csdl ssdl msl form =
+    let content : Content = content_in csdl ssdl msl in
+    let all = and_parts (is_declaring Model csdl && is_declaring Store ssdl && is_mapping msl) (does_content_fit content) form in
+    let three = and_parts (is_declaring Model csdl && is_declaring Store ssdl) (is_mapping msl) all.0 in
+    let two = and_parts (is_declaring Model csdl) (is_declaring Store ssdl) three.0 in
+    let fits = and_parts (names_both content.model content.store content.mapped) (has_good_pairs content.model content.store content.pairs) all.1 in
+    one_table_of content (good_in Model csdl two.0) (good_in Store ssdl two.1) (are_paired content.model content.store content.pairs fits.1)
+
+-- the same of what is read of them
+pub one_table_read : (csdl ssdl msl : Data) (content : Content) (schema : Schema) → is_first_form csdl ssdl msl ≡ true → content ≡ content_in csdl ssdl msl
+    → schema ≡ meaning_of content → IsOneTable schema
+one_table_read csdl ssdl msl content schema form read means =
+    subst IsOneTable (sym (means ∙ ap meaning_of read)) (one_table csdl ssdl msl form)

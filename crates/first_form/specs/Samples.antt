@@ -1,0 +1,34 @@
+-- Values that a model of the first form allows, with which a state can be shown.
+use Rattle.std.specs.Prelude.{◌≡◌, ◌⊎◌, ◌∷◌, [], Contains, IsTrue, pos, codes}
+use Rattle.emc_base.specs.declared.ids.PropId.{PropId}
+use Rattle.emc_base.specs.declared.value.Value.{Value}
+use Rattle.emc_base.specs.declared.value.Value.TheVariants as value
+use Rattle.emc_base.specs.declared.value.Kind.{Kind}
+use Rattle.emc_base.specs.declared.value.Kind.TheVariants as kind
+use Rattle.emc_base.specs.Domain.{InDomain}
+use Rattle.edm_types.specs.declared.model.EntityModel.{EntityModel}
+use Rattle.edm_types.specs.declared.model.Prop.{Prop}
+use Rattle.edm_types.specs.Lists.{At}
+use Rattle.edm_types.specs.Entities.{props_of, key_props}
+use Rattle.one_table.specs.OneTable.{first_type}
+
+-- a small value of a kind of the first form
+abbrev pub sample_of : Kind → Value
+sample_of (kind.Text bound) = value.Text (codes "a")
+sample_of kind.Byte = value.Whole (pos 0)
+sample_of kind.Int16 = value.Whole (pos 0)
+sample_of kind.Int32 = value.Whole (pos 0)
+sample_of kind.Int64 = value.Whole (pos 0)
+sample_of kind.Boolean = value.Whole (pos 0)
+sample_of (kind.Binary bound) = value.Whole (pos 0)
+
+-- prop is a property of the one type, declared as told
+pub record IsDeclared (model : EntityModel) (prop : PropId) (declared : Prop) : Type 0 where
+  pub has_prop : Contains (props_of model first_type) prop
+  pub told : At model.props prop.index declared
+
+-- The key may be 7, each property may hold a sample of its kind, and each but the key may be null.
+pub record AllowsSamples (model : EntityModel) : Type 0 where
+  pub seven : (prop : PropId) (declared : Prop) → IsDeclared model prop declared → Contains (key_props model first_type) prop → InDomain (value.Whole (pos 7)) declared.kind
+  pub samples : (prop : PropId) (declared : Prop) → IsDeclared model prop declared → InDomain (sample_of declared.kind) declared.kind
+  pub nullable : (prop : PropId) (declared : Prop) → IsDeclared model prop declared → Contains (key_props model first_type) prop ⊎ IsTrue declared.nullable

@@ -1,0 +1,51 @@
+ghost use Rattle.std.specs.Prelude.{◌≡◌, ◌↔◌, All, Any, Contains, IfNone, IfSome, IsTrue};
+ghost use Rattle.one_table.specs.OneTable.{WritesEveryProperty};
+ghost use Rattle.first_form.specs.Schemas.{schema_of};
+ghost use Rattle.first_form.specs.Unwritten.{IsNamedIn, IsNowhereNamed, IsUnwritten};
+
+use crate::meaning::Meaning;
+use edm_types::{Fragment, Pair};
+use emc_base::PropId;
+
+/// The first property, in the order of the model's types and their properties, that no pair of the mapping names.
+pub fn first_unwritten(meaning: &Meaning) -> Option<PropId>
+    ensures written { IfNone result (WritesEveryProperty (schema_of meaning.now)) }
+    ensures lost { IfSome result (λ prop. IsUnwritten (schema_of meaning.now) prop) }
+{
+    let fragments = meaning.mapping.fragments.as_slice();
+    for declared in meaning.model.types.as_slice() {
+        let Some(prop) = first_unnamed(declared.props.as_slice(), fragments) else {
+            continue;
+        };
+        return Some(prop);
+    }
+    None
+}
+
+// The first of these properties that no pair names.
+fn first_unnamed(props: &[PropId], fragments: &[Fragment]) -> Option<PropId>
+    ensures named { IfNone result (All (IsNamedIn fragments.now) props.now) }
+    ensures contained { IfSome result (λ prop. Contains props.now prop) }
+    ensures unnamed { IfSome result (λ prop. IsNowhereNamed fragments.now prop) }
+{
+    for prop in props {
+        if !is_named_in(fragments, *prop) {
+            return Some(*prop);
+        }
+    }
+    None
+}
+
+fn is_named_in(fragments: &[Fragment], prop: PropId) -> bool
+    ensures { IsTrue result ↔ IsNamedIn fragments.now prop }
+{
+    fragments
+        .iter()
+        .any(|fragment| is_named(fragment.pairs.as_slice(), prop))
+}
+
+fn is_named(pairs: &[Pair], prop: PropId) -> bool
+    ensures { IsTrue result ↔ Any (λ pair. pair.prop ≡ prop) pairs.now }
+{
+    pairs.iter().any(|pair| pair.prop == prop)
+}
