@@ -1,0 +1,20 @@
+use Rattle.std.proofs.Common.{refl, ◌∙◌}
+use Rattle.mapping_cli.specs.World.{world}
+use Rattle.mapping_cli.proofs.Endings.{all_written, none_written}
+use Rattle.mapping_cli.proofs.commands.run.Goals as goal
+
+pub returns-then-is_empty : goal.returns-then-is_empty
+returns-then-is_empty g c = record {
+  headline = none_written c.args.words.now
+      (world (g.F.Files.held c.args.files.now) (g.F.Files.fault_count c.args.files.now) (g.W.Sink.written_to c.args.out.now) (g.W.Sink.fault_count c.args.out.now))
+      (world (g.F.Files.held c.answer_of.new.files) (g.F.Files.fault_count c.answer_of.new.files) (g.W.Sink.written_to c.args.out.now) (g.W.Sink.fault_count c.args.out.now))
+      c.in-Ok.answer.text c.as_str.result.now c.in-Ok.answer.status c.in-Ok.ensures.ends c.as_str.ensures.text refl c.answer_of.ensures.same c.if-is_empty.ensures refl;
+}
+
+pub returns-in-Ok-put : goal.returns-in-Ok-put
+returns-in-Ok-put g c = record {
+  headline = all_written c.args.words.now
+      (world (g.F.Files.held c.args.files.now) (g.F.Files.fault_count c.args.files.now) (g.W.Sink.written_to c.args.out.now) (g.W.Sink.fault_count c.args.out.now))
+      (world (g.F.Files.held c.answer_of.new.files) (g.F.Files.fault_count c.answer_of.new.files) (g.W.Sink.written_to c.put.new.self) (g.W.Sink.fault_count c.put.new.self))
+      c.in-Ok.answer.text c.as_bytes.result.now c.in-Ok.answer.status c.in-Ok.ensures.ends (c.as_bytes.ensures.value ∙ c.as_str-2.ensures.text) c.in-Ok-put.ensures.cause c.answer_of.ensures.same c.in-Ok-put.ensures.writes;
+}

@@ -1,0 +1,12 @@
+-- What the program reads from and writes to, as far as it is told, with the two counts of faults.
+use Rattle.std.specs.Prelude.{◌≡◌, ℕ, List, Option}
+use Rattle.emc_base.specs.Files.{FileMap}
+
+pub record World : Type 0 where
+  pub held : Option FileMap
+  pub file_faults : ℕ
+  pub written : Option (List ℕ)
+  pub sink_faults : ℕ
+
+abbrev pub world : Option FileMap → ℕ → Option (List ℕ) → ℕ → World
+world held file_faults written sink_faults = record { held = held; file_faults = file_faults; written = written; sink_faults = sink_faults }

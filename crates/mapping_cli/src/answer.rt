@@ -1,0 +1,28 @@
+use crate::status::Status;
+use emc_base::Txt;
+
+/// What a run prints, and how it ends where that is written.
+#[derive(Drop)]
+pub(crate) struct Answer {
+    pub text: Txt,
+    pub status: Status,
+}
+
+/// Why a command stopped before its verdict.
+#[derive(Drop)]
+pub(crate) enum Halt {
+    /// This is printed in place of it.
+    Tells(Answer),
+    Memory,
+}
+
+impl From<emc_base::Memory> for Halt {
+    ghost use Rattle.std.specs.Prelude.{◌≡◌};
+    ghost use Rattle.mapping_cli.specs.declared.answer.Halt.TheVariants.{Memory};
+
+    ghost from_gives = { λ _ halt. halt ≡ Memory };
+
+    fn from(_memory: emc_base::Memory) -> Halt {
+        Halt::Memory
+    }
+}

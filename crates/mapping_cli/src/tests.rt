@@ -1,0 +1,273 @@
+use crate::commands::run;
+use crate::forms::{CSDL, FORMS, LOSING_MSL, MSL, SSDL};
+use emc_base::{Bin, MemFiles, MemSink, Seq, Txt};
+use std::alloc::Global;
+use std::process::Abort;
+
+const LOST: &str =
+    "fails same\nat {\"key\":[7],\"name\":\"People\",\"part\":\"\"}\nstate {\"People\":[{\"$type\":\"N.Person\",\"Id\":7,\"Name\":null}]}\nother {\"People\":[{\"$type\":\"N.Person\",\"Id\":7,\"Name\":\"a\"}]}\n";
+
+const USAGE: &str =
+    "usage: check M S P | views M S P | store M S P ENTITIES | load M S P TABLES | save M S P TABLES CHANGES OUT | drill SEED COUNT\n";
+
+const CHECK: [&str; 4] = ["check", "M", "S", "P"];
+
+/// The numbers of the reads that fail, and of the writes that fail with the bytes that each still takes.
+#[derive(Drop)]
+struct Faults<'a> {
+    reads: &'a [u64],
+    writes: &'a [(u64, u64)],
+}
+
+const NO_FAULTS: Faults<'static> = Faults {
+    reads: &[],
+    writes: &[],
+};
+
+// Files of these names and contents.
+fn files_of(rt: &impl Abort, alloc: Global, held: &[(&str, &[u8])], failing: &[u64]) -> MemFiles {
+    let mut numbers = Vec::new(alloc);
+    numbers.extend_from_slice(failing).expect(rt, "memory");
+    let mut files = MemFiles::new(alloc, Seq::from_vec(numbers).expect(rt, "memory"));
+    for (name, content) in held {
+        let name = Txt::of(alloc, name).expect(rt, "memory");
+        let content = Bin::of(alloc, content).expect(rt, "memory");
+        files.add(name, content).expect(rt, "memory");
+    }
+    files
+}
+
+fn texts_of(rt: &impl Abort, alloc: Global, words: &[&str]) -> Vec<Txt> {
+    let mut texts = Vec::new(alloc);
+    for word in words {
+        let word = Txt::of(alloc, word).expect(rt, "memory");
+        texts.push(word).expect(rt, "memory");
+    }
+    texts
+}
+
+// Runs the words over files in memory: what is written, and the number it ends with.
+fn prints(
+    rt: &impl Abort,
+    alloc: Global,
+    words: &[&str],
+    held: &[(&str, &[u8])],
+    faults: &Faults<'_>,
+    (text, number): (&str, u8),
+) {
+    let words = texts_of(rt, alloc, words);
+    let mut files = files_of(rt, alloc, held, faults.reads);
+    let mut numbers = Vec::new(alloc);
+    numbers
+        .extend_from_slice(faults.writes)
+        .expect(rt, "memory");
+    let mut out = MemSink::new(alloc, Seq::from_vec(numbers).expect(rt, "memory"));
+    let status = run(alloc, words.as_slice(), &mut files, &mut out);
+    assert_eq!(rt; out.written(), text.as_bytes());
+    assert_eq!(rt; status.number(), number);
+}
+
+// What `check` prints of three documents.
+fn tells(rt: &impl Abort, alloc: Global, documents: [&str; 3], answer: (&str, u8)) {
+    let [csdl, ssdl, msl] = documents;
+    let held = [
+        ("M", csdl.as_bytes()),
+        ("S", ssdl.as_bytes()),
+        ("P", msl.as_bytes()),
+    ];
+    prints(rt, alloc, &CHECK, &held, &NO_FAULTS, answer);
+}
+
+#[test]
+fn accepts_the_first_example(rt: HostRuntime) {
+    tells(&rt, rt.alloc(), [CSDL, SSDL, MSL], ("accepted\n", 0));
+}
+
+#[test]
+fn shows_two_states_of_one_table(rt: HostRuntime) {
+    tells(&rt, rt.alloc(), [CSDL, SSDL, LOSING_MSL], (LOST, 1));
+}
+
+#[test]
+fn reads_the_first_form_alone(rt: HostRuntime) {
+    for (documents, answer) in FORMS {
+        tells(&rt, rt.alloc(), documents, answer);
+    }
+}
+
+#[test]
+fn names_the_first_file_that_is_not_json(rt: HostRuntime) {
+    let start = r#"{"Namespac"#;
+    tells(&rt, rt.alloc(), ["", SSDL, MSL], ("rule V1 csdl \"\"\n", 1));
+    tells(
+        &rt,
+        rt.alloc(),
+        [start, SSDL, MSL],
+        ("rule V1 csdl \"\"\n", 1),
+    );
+    tells(&rt, rt.alloc(), [CSDL, "x", ""], ("rule V1 ssdl \"\"\n", 1));
+    tells(&rt, rt.alloc(), [CSDL, SSDL, ""], ("rule V1 msl \"\"\n", 1));
+}
+
+#[test]
+fn tells_the_words_when_there_is_no_command(rt: HostRuntime) {
+    let lists: [&[&str]; 6] = [
+        &[],
+        &["check"],
+        &["check", "M", "S"],
+        &["check", "M", "S", "P", "P"],
+        &["checks", "M", "S", "P"],
+        &["drill", "1", "100001"],
+    ];
+    for words in lists {
+        prints(&rt, rt.alloc(), words, &[], &NO_FAULTS, (USAGE, 3));
+    }
+}
+
+#[test]
+fn names_the_first_file_that_is_missing(rt: HostRuntime) {
+    let held: [(&str, &[u8]); 1] = [("P", MSL.as_bytes())];
+    let words = ["check", "a\"b", "S", "P"];
+    let answer = ("file missing \"a\\\"b\"\n", 4);
+    prints(&rt, rt.alloc(), &words, &held, &NO_FAULTS, answer);
+    let words = ["check", "P", "S", "P"];
+    let answer = ("file missing \"S\"\n", 4);
+    prints(&rt, rt.alloc(), &words, &held, &NO_FAULTS, answer);
+}
+
+// A file of so many spaces.
+fn spaces(rt: &impl Abort, alloc: Global, count: usize) -> Vec<u8> {
+    let mut bytes = Vec::new(alloc);
+    bytes.resize(count, b' ').expect(rt, "memory");
+    bytes
+}
+
+#[test]
+fn keeps_to_the_largest_file(rt: HostRuntime) {
+    let largest = spaces(&rt, rt.alloc(), 16_777_216);
+    let held: [(&str, &[u8]); 1] = [("M", largest.as_slice())];
+    let words = ["check", "M", "M", "M"];
+    let answer = ("rule V1 csdl \"\"\n", 1);
+    prints(&rt, rt.alloc(), &words, &held, &NO_FAULTS, answer);
+    let larger = spaces(&rt, rt.alloc(), 16_777_217);
+    let held: [(&str, &[u8]); 1] = [("M", larger.as_slice())];
+    let answer = ("file toolarge \"M\"\n", 4);
+    prints(&rt, rt.alloc(), &words, &held, &NO_FAULTS, answer);
+}
+
+#[test]
+fn tells_a_read_or_a_write_that_failed(rt: HostRuntime) {
+    let held = [
+        ("M", CSDL.as_bytes()),
+        ("S", SSDL.as_bytes()),
+        ("P", MSL.as_bytes()),
+    ];
+    let first = Faults {
+        reads: &[1],
+        writes: &[],
+    };
+    prints(
+        &rt,
+        rt.alloc(),
+        &CHECK,
+        &held,
+        &first,
+        ("file failed \"M\"\n", 4),
+    );
+    let second = Faults {
+        reads: &[2],
+        writes: &[],
+    };
+    prints(
+        &rt,
+        rt.alloc(),
+        &CHECK,
+        &held,
+        &second,
+        ("file failed \"S\"\n", 4),
+    );
+    let broken = Faults {
+        reads: &[],
+        writes: &[(1, 3)],
+    };
+    prints(&rt, rt.alloc(), &CHECK, &held, &broken, ("acc", 5));
+}
+
+// Bytes of a CSDL file that is no JSON.
+fn is_not_json(rt: &impl Abort, alloc: Global, bytes: &[u8]) {
+    let held = [("M", bytes), ("S", SSDL.as_bytes()), ("P", MSL.as_bytes())];
+    let answer = ("rule V1 csdl \"\"\n", 1);
+    prints(rt, alloc, &CHECK, &held, &NO_FAULTS, answer);
+}
+
+#[test]
+fn refuses_each_proper_prefix(rt: HostRuntime) {
+    let bytes = CSDL.as_bytes();
+    for end in 0..bytes.len() {
+        is_not_json(&rt, rt.alloc(), &bytes[..end]);
+    }
+}
+
+#[test]
+fn refuses_hostile_bytes(rt: HostRuntime) {
+    let texts: [&[u8]; 9] = [
+        b"\xef\xbb\xbf{}",
+        b"\"\\ud800\"",
+        b"\"\xc0\xaf\"",
+        b"\"\xe2\x82\"",
+        b"\"\xed\xa0\x80\"",
+        b"1e999",
+        b"01",
+        b"[1] [2]",
+        b"nul",
+    ];
+    for text in texts {
+        is_not_json(&rt, rt.alloc(), text);
+    }
+}
+
+// So many opening brackets, and as many closing ones where they are closed.
+fn nested(rt: &impl Abort, alloc: Global, depth: usize, closed: bool) -> Vec<u8> {
+    let mut bytes = Vec::new(alloc);
+    bytes.resize(depth, b'[').expect(rt, "memory");
+    if closed {
+        let length = depth.saturating_mul(2);
+        bytes.resize(length, b']').expect(rt, "memory");
+    }
+    bytes
+}
+
+#[test]
+fn refuses_deep_nesting(rt: HostRuntime) {
+    let deep = nested(&rt, rt.alloc(), 128, true);
+    is_not_json(&rt, rt.alloc(), deep.as_slice());
+    let open = nested(&rt, rt.alloc(), 1_048_576, false);
+    is_not_json(&rt, rt.alloc(), open.as_slice());
+    let allowed = nested(&rt, rt.alloc(), 127, true);
+    let held: [(&str, &[u8]); 1] = [("M", allowed.as_slice())];
+    let words = ["check", "M", "M", "M"];
+    let answer = ("rule V99 msl \"\"\n", 1);
+    prints(&rt, rt.alloc(), &words, &held, &NO_FAULTS, answer);
+}
+
+#[test]
+fn reads_other_json(rt: HostRuntime) {
+    let texts = [
+        "-0",
+        "9223372036854775807",
+        "9223372036854775808",
+        "-9223372036854775808",
+        "-9223372036854775809",
+        "18446744073709551615",
+        "18446744073709551616",
+        r#"{"Namespace":"N","Namespace":"N"}"#,
+    ];
+    for text in texts {
+        tells(
+            &rt,
+            rt.alloc(),
+            [text, SSDL, MSL],
+            ("rule V99 msl \"\"\n", 1),
+        );
+    }
+}
