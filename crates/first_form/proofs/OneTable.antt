@@ -25,7 +25,7 @@ use Rattle.first_form.specs.declared.mapped_form.MappingPart.TheVariants as part
 use Rattle.first_form.specs.Declaring.{declared_in, is_property}
 use Rattle.first_form.specs.Parts.{items_at}
 use Rattle.first_form.specs.Form.{content_in, does_content_fit, has_container_layout, has_good_columns, has_good_names, has_good_pairs, has_set_layout, has_type_layout, is_declaring, is_first_form, is_mapping, names_both, pair_fits, path_of, place_of}
-use Rattle.first_form.specs.Meaning.{ids_from, mapping_of, meaning_of, model_of, prop_of, store_of}
+use Rattle.first_form.specs.Meaning.{fragment_of, mapping_of, meaning_of, model_of, prop_of, set_of, store_of, table_of, type_of}
 use Rattle.first_form.proofs.Ids.{different_ids, has_id, prop_at, told_ids}
 use Rattle.first_form.proofs.Holding.{kind_holds}
 use Rattle.first_form.proofs.Lists.{item_at}
@@ -38,18 +38,6 @@ prop_key declared = record { index = place_of declared.key declared.columns }
 
 abbrev col_key : Declared → ColId
 col_key declared = record { index = place_of declared.key declared.columns }
-
-abbrev type_of : Declared → EntityType
-type_of declared = record { name = declared.type_name; base = None; is_abstract = false; key = prop_key declared ∷ []; props = ids_from 0 declared.columns; navs = [] }
-
-abbrev set_of : Declared → EntitySet
-set_of declared = record { name = declared.set; element = record { index = 0 } }
-
-abbrev table_of : Declared → Table
-table_of declared = record { name = declared.set; cols = declared.columns; key = col_key declared ∷ [] }
-
-abbrev fragment_of : List Pair → Fragment
-fragment_of pairs = record { place = path_of part.Fragment; set = record { index = 0 }; picks = record { ty = record { index = 0 }; below = false } ∷ []; table = record { index = 0 }; pairs = pairs; conds = [] }
 
 is_one_type : (declared : Declared) → AreGood declared → IsOneType (model_of declared) (type_of declared) (prop_key declared)
 unfolding model_of

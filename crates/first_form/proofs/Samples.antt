@@ -16,7 +16,7 @@ use Rattle.first_form.specs.declared.declared_form.Vocabulary.{Vocabulary}
 use Rattle.first_form.specs.Declaring.{bound_of, column_of, has_known_type, is_bound, text_word, whole_word}
 use Rattle.first_form.specs.Form.{is_whole}
 use Rattle.first_form.specs.Samples.{AllowsSamples, sample_of}
-use Rattle.first_form.specs.Parts.{items_at, text_at}
+use Rattle.first_form.specs.Parts.{items_at, part_at, text_at}
 use Rattle.std.proofs.Common.{nat_le, not, unwrap_or, zero, suc, ◌<◌}
 use Rattle.std.specs.Option.{option_and_then}
 use Rattle.std.proofs.lemmas.Bool.Decides.{nat_tests}
@@ -60,6 +60,7 @@ letter_allowed bound within = record { characters = 97 ∷ []; scalar = refl; sp
 
 -- without MaxLength there is no bound
 unbounded : (stands : Option Data) (d : Data) → pointer (codes "/MaxLength") d ≡ stands → is_some stands ≡ false → bound_of d ≡ None
+unfolding part_at
 unbounded None d is none = ap (λ part. option_and_then short_number (whole_of (unwrap_or part null))) is
 unbounded (Some part) d is none = cc
 

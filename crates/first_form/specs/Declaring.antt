@@ -45,7 +45,7 @@ column_of vocabulary d = record {
 }
 
 -- the full name of the one type
-abbrev pub reference_in : Data → List ℕ
+unfoldable pub reference_in : Data → List ℕ
 reference_in d = text_at (codes "/Namespace") d ++ 46 ∷ text_at (codes "/EntityType/0/Name") d
 
 -- the names that stand in the document, and its properties or columns

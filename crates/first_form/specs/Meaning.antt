@@ -5,11 +5,15 @@ use Rattle.std.specs.List.{list_any, list_all}
 use Rattle.serde_json.specs.Data.{Data}
 use Rattle.emc_base.specs.declared.ids.PropId.{PropId}
 use Rattle.edm_types.specs.declared.model.EntityModel.{EntityModel}
+use Rattle.edm_types.specs.declared.model.EntitySet.{EntitySet}
+use Rattle.edm_types.specs.declared.model.EntityType.{EntityType}
 use Rattle.edm_types.specs.declared.model.Prop.{Prop}
 use Rattle.edm_types.specs.declared.model.TypeNode.{TypeNode, roll-TypeNode}
 use Rattle.edm_types.specs.declared.store.StoreModel.{StoreModel}
 use Rattle.edm_types.specs.declared.store.Column.{Column}
+use Rattle.edm_types.specs.declared.store.Table.{Table}
 use Rattle.edm_types.specs.declared.mapping.Mapping.{Mapping}
+use Rattle.edm_types.specs.declared.mapping.Fragment.{Fragment}
 use Rattle.edm_types.specs.declared.mapping.Pair.{Pair}
 use Rattle.round_trip.specs.Schema.{Schema}
 use Rattle.first_form.specs.declared.declared_form.Declared.{Declared}
@@ -29,56 +33,64 @@ abbrev pub ids_from : ℕ → List Column → List PropId
 ids_from first [] = []
 ids_from first (column ∷ columns) = record { index = first } ∷ ids_from (first + 1) columns
 
+-- the one type: concrete, with these properties and their key
+abbrev pub type_of : Declared → EntityType
+type_of declared = record {
+  name = declared.type_name;
+  base = None;
+  is_abstract = false;
+  key = record { index = place_of declared.key declared.columns } ∷ [];
+  props = ids_from 0 declared.columns;
+  navs = [];
+}
+
+-- the forest of the one type
+abbrev pub one_tree : List TypeNode
+one_tree = roll-TypeNode (record { id = record { index = 0 }; is_abstract = false; children = [] }) ∷ []
+
+-- the one set, of that type
+abbrev pub set_of : Declared → EntitySet
+set_of declared = record { name = declared.set; element = record { index = 0 } }
+
 -- one set of one concrete type with these properties, and no association
 unfoldable pub model_of : Declared → EntityModel
 model_of declared = record {
   namespace = declared.namespace;
   alias = None;
   container = declared.container;
-  types = record {
-    name = declared.type_name;
-    base = None;
-    is_abstract = false;
-    key = record { index = place_of declared.key declared.columns } ∷ [];
-    props = ids_from 0 declared.columns;
-    navs = [];
-  } ∷ [];
+  types = type_of declared ∷ [];
   props = map prop_of declared.columns;
-  forest = roll-TypeNode (record { id = record { index = 0 }; is_abstract = false; children = [] }) ∷ [];
-  sets = record { name = declared.set; element = record { index = 0 } } ∷ [];
+  forest = one_tree;
+  sets = set_of declared ∷ [];
   assocs = [];
 }
 
+-- the one table, with these columns and their key
+abbrev pub table_of : Declared → Table
+table_of declared = record { name = declared.set; cols = declared.columns; key = record { index = place_of declared.key declared.columns } ∷ [] }
+
 -- one table with these columns, and no foreign key
 unfoldable pub store_of : Declared → StoreModel
-store_of declared = record {
-  namespace = declared.namespace;
-  container = declared.container;
-  tables = record { name = declared.set; cols = declared.columns; key = record { index = place_of declared.key declared.columns } ∷ [] } ∷ [];
-  keys = [];
+store_of declared = record { namespace = declared.namespace; container = declared.container; tables = table_of declared ∷ []; keys = [] }
+
+-- the one fragment, of the one type, without conditions
+abbrev pub fragment_of : List Pair → Fragment
+fragment_of pairs = record {
+  place = path_of part.Fragment;
+  set = record { index = 0 };
+  picks = record { ty = record { index = 0 }; below = false } ∷ [];
+  table = record { index = 0 };
+  pairs = pairs;
+  conds = [];
 }
 
--- one fragment of the one type, without conditions
+-- the mapping of one fragment
 unfoldable pub mapping_of : List Pair → Mapping
-mapping_of pairs = record {
-  fragments = record {
-    place = path_of part.Fragment;
-    set = record { index = 0 };
-    picks = record { ty = record { index = 0 }; below = false } ∷ [];
-    table = record { index = 0 };
-    pairs = pairs;
-    conds = [];
-  } ∷ [];
-  links = [];
-}
+mapping_of pairs = record { fragments = fragment_of pairs ∷ []; links = [] }
 
 -- what the three documents mean
 abbrev pub meaning_of : Content → Schema
 meaning_of content = record { model = model_of content.model; store = store_of content.store; mapping = mapping_of content.pairs }
-
--- the property stands in some pair
-abbrev pub is_written : List Pair → PropId → Bool
-is_written pairs prop = list_any (λ pair. pair.prop.index == prop.index) pairs
 
 -- what they mean, where they are of the first form
 abbrev pub first_form_meaning : Data → Data → Data → Option Schema

@@ -8,15 +8,15 @@ use Rattle.serde_json.specs.Find.{get, pointer, as_str, as_bool, as_object}
 use Rattle.json_form.specs.Parts.{items_in, members_in}
 
 -- the part that a pointer leads to; null where there is none
-abbrev pub part_at : List ℕ → Data → Data
+unfoldable pub part_at : List ℕ → Data → Data
 part_at path d = unwrap_or (pointer path d) null
 
 -- the text there; the empty one where there is none
-abbrev pub text_at : List ℕ → Data → List ℕ
+unfoldable pub text_at : List ℕ → Data → List ℕ
 text_at path d = unwrap_or (as_str (part_at path d)) []
 
 -- the items there
-abbrev pub items_at : List ℕ → Data → List Data
+unfoldable pub items_at : List ℕ → Data → List Data
 items_at path d = items_in (part_at path d)
 
 -- the text is among these

@@ -28,16 +28,36 @@ pub(crate) fn read_content(
 ) -> Result<Content, Memory>
     ensures { IfOk result (λ content. content ≡ content_in (part_of csdl.now) (part_of ssdl.now) (part_of msl.now)) }
 {
-    let model = read_declared(alloc, Vocabulary::Model, csdl)?;
-    let store = read_declared(alloc, Vocabulary::Store, ssdl)?;
     let mapped = read_mapped(alloc, msl)?;
-    let pairs = read_pairs(alloc, &model, &store, &mapped)?;
-    Ok(Content {
-        model,
-        store,
-        mapped,
-        pairs,
-    })
+    let model = match read_declared(alloc, Vocabulary::Model, csdl) {
+        Ok(model) => model,
+        Err(fault) => {
+            drop(mapped);
+            return Err(fault);
+        }
+    };
+    let store = match read_declared(alloc, Vocabulary::Store, ssdl) {
+        Ok(store) => store,
+        Err(fault) => {
+            drop(mapped);
+            drop(model);
+            return Err(fault);
+        }
+    };
+    match read_pairs(alloc, &model, &store, &mapped) {
+        Ok(pairs) => Ok(Content {
+            model,
+            store,
+            mapped,
+            pairs,
+        }),
+        Err(fault) => {
+            drop(mapped);
+            drop(model);
+            drop(store);
+            Err(fault)
+        }
+    }
 }
 
 #[tactic(auto, unfolding(crate::specs::Form::pairs_of))]

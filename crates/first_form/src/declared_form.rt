@@ -7,7 +7,7 @@ ghost use Rattle.first_form.specs.Parts.{items_at, part_at, text_at};
 ghost use Rattle.first_form.specs.Declaring.{bound_of, column_of, declared_in, has_known_nullable, has_known_type, is_bound, is_given_name, is_property, is_typed, reference_in, short_number, text_word, whole_word};
 
 use crate::names::{is_name, is_plain_name};
-use crate::parts::{items_at, str_at, text_at};
+use crate::parts::{items_at, str_at, text_at, two_texts_at};
 use crate::shape::{Shape, has_shape};
 use edm_types::Column;
 use emc_base::{Kind, Memory, Seq, Txt};
@@ -64,15 +64,25 @@ pub(crate) fn read_declared(
 ) -> Result<Declared, Memory>
     ensures { IfOk result (λ declared. declared ≡ declared_in vocabulary (part_of root.now)) }
 {
+    let columns = read_columns_at(alloc, vocabulary, root, "/EntityType/0/Property")?;
+    let (namespace, container) = two_texts_at(alloc, root, "/Namespace", "/EntityContainer/Name")?;
+    let (set, element) = two_texts_at(
+        alloc,
+        root,
+        "/EntityContainer/EntitySet/0/Name",
+        "/EntityContainer/EntitySet/0/EntityType",
+    )?;
+    let (type_name, key) = two_texts_at(alloc, root, "/EntityType/0/Name", "/EntityType/0/Key/0")?;
+    let reference = reference_in(alloc, root)?;
     Ok(Declared {
-        namespace: text_at(alloc, root, "/Namespace")?,
-        container: text_at(alloc, root, "/EntityContainer/Name")?,
-        set: text_at(alloc, root, "/EntityContainer/EntitySet/0/Name")?,
-        element: text_at(alloc, root, "/EntityContainer/EntitySet/0/EntityType")?,
-        type_name: text_at(alloc, root, "/EntityType/0/Name")?,
-        reference: reference_in(alloc, root)?,
-        key: text_at(alloc, root, "/EntityType/0/Key/0")?,
-        columns: read_columns_at(alloc, vocabulary, root, "/EntityType/0/Property")?,
+        namespace,
+        container,
+        set,
+        element,
+        type_name,
+        reference,
+        key,
+        columns,
     })
 }
 
@@ -125,12 +135,14 @@ fn read_column(alloc: Global, vocabulary: Vocabulary, node: &Node<'_>) -> Result
     })
 }
 
+#[tactic(auto, unfolding(crate::specs::Parts::part_at))]
 fn flag_at(node: &Node<'_>, path: &str) -> Option<bool>
     ensures { result ≡ as_bool (part_at path.now (part_of node.now)) }
 {
     node.pointer(path)?.flag()
 }
 
+#[tactic(auto, unfolding(crate::specs::Parts::part_at))]
 fn bound_of(node: &Node<'_>) -> Option<u32>
     ensures { result ≡ bound_of (part_of node.now) }
 {

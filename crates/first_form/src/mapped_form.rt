@@ -5,7 +5,7 @@ ghost use Rattle.json_form.specs.Nodes.{part_of};
 ghost use Rattle.first_form.specs.Parts.{items_at, text_at};
 ghost use Rattle.first_form.specs.Form.{has_fragment_layout, has_set_mapping_layout, has_type_mapping_layout, is_mapping, is_named_pair, mapped_in, named_pair_of, path_of};
 
-use crate::parts::{has_one_item_at, items_at, text_at};
+use crate::parts::{has_one_item_at, items_at, text_at, two_texts_at};
 use crate::shape::{Shape, has_shape, has_shape_at};
 use emc_base::{Memory, Seq, Txt};
 use json_form::Node;
@@ -86,14 +86,40 @@ pub struct NamedPair {
 pub(crate) fn read_mapped(alloc: Global, root: &Node<'_>) -> Result<Mapped, Memory>
     ensures { IfOk result (λ mapped. mapped ≡ mapped_in (part_of root.now)) }
 {
+    let pairs = read_pairs_at(alloc, root)?;
+    let (store_container, model_container) = two_part_texts(
+        alloc,
+        root,
+        MappingPart::StoreContainer,
+        MappingPart::ModelContainer,
+    )?;
+    let (set, type_name) = two_part_texts(
+        alloc,
+        root,
+        MappingPart::SetName,
+        MappingPart::TypeName,
+    )?;
+    let table = part_text(alloc, root, MappingPart::TableName)?;
     Ok(Mapped {
-        store_container: part_text(alloc, root, MappingPart::StoreContainer)?,
-        model_container: part_text(alloc, root, MappingPart::ModelContainer)?,
-        set: part_text(alloc, root, MappingPart::SetName)?,
-        type_name: part_text(alloc, root, MappingPart::TypeName)?,
-        table: part_text(alloc, root, MappingPart::TableName)?,
-        pairs: read_pairs_at(alloc, root)?,
+        store_container,
+        model_container,
+        set,
+        type_name,
+        table,
+        pairs,
     })
+}
+
+fn two_part_texts(
+    alloc: Global,
+    root: &Node<'_>,
+    first: MappingPart,
+    second: MappingPart,
+) -> Result<(Txt, Txt), Memory>
+    ensures first { IfOk result (λ texts. texts.0 ≡ text_at (path_of first) (part_of root.now)) }
+    ensures second { IfOk result (λ texts. texts.1 ≡ text_at (path_of second) (part_of root.now)) }
+{
+    two_texts_at(alloc, root, first.path(), second.path())
 }
 
 fn part_text(alloc: Global, root: &Node<'_>, part: MappingPart) -> Result<Txt, Memory>

@@ -1,7 +1,8 @@
 ghost use Rattle.std.specs.Prelude.{◌≡◌, ◌<◌, ◌^◌, [], ◌∷◌, IfOk, IfSome, length, map, option_map};
 ghost use Rattle.json_form.specs.Documents.{tree_of};
 ghost use Rattle.json_form.specs.Nodes.{part_of};
-ghost use Rattle.first_form.specs.Meaning.{first_form_meaning, ids_from, mapping_of, meaning_of, model_of, prop_of, store_of};
+ghost use Rattle.first_form.specs.Form.{content_in};
+ghost use Rattle.first_form.specs.Meaning.{first_form_meaning, fragment_of, ids_from, mapping_of, meaning_of, model_of, one_tree, prop_of, set_of, store_of, table_of, type_of};
 ghost use Rattle.first_form.specs.Samples.{AllowsSamples};
 ghost use Rattle.first_form.specs.Schemas.{schema_of};
 ghost use Rattle.one_table.specs.OneTable.{IsOneTable};
@@ -15,7 +16,7 @@ use edm_types::{
     Table, TypeNode,
 };
 use emc_base::{ColId, Memory, PropId, Seq, SetId, TableId, Txt, TypeId};
-use json_form::Doc;
+use json_form::{Doc, Node};
 use std::alloc::Global;
 
 /// What three documents mean together.
@@ -38,59 +39,121 @@ pub fn read_first_form(
     ensures samples { IfOk result (λ found. IfSome found (λ meaning. AllowsSamples meaning.model)) }
 {
     let (csdl, ssdl, msl) = (csdl.root(), ssdl.root(), msl.root());
-    let content = read_content(alloc, &csdl, &ssdl, &msl)?;
-    if !is_first_form(&csdl, &ssdl, &msl, &content) {
+    match read_content(alloc, &csdl, &ssdl, &msl) {
+        Ok(content) => {
+            let found = meaning_in(alloc, &csdl, &ssdl, &msl, &content);
+            drop(content);
+            found
+        }
+        Err(fault) => Err(fault),
+    }
+}
+
+// What the documents mean in which this stands.
+fn meaning_in(
+    alloc: Global,
+    csdl: &Node<'_>,
+    ssdl: &Node<'_>,
+    msl: &Node<'_>,
+    content: &Content,
+) -> Result<Option<Meaning>, Memory>
+    requires { content.now ≡ content_in (part_of csdl.now) (part_of ssdl.now) (part_of msl.now) }
+    ensures meaning { IfOk result (λ found. option_map schema_of found ≡ first_form_meaning (part_of csdl.now) (part_of ssdl.now) (part_of msl.now)) }
+    ensures one_table { IfOk result (λ found. IfSome found (λ meaning. IsOneTable (schema_of meaning))) }
+    ensures samples { IfOk result (λ found. IfSome found (λ meaning. AllowsSamples meaning.model)) }
+{
+    if !is_first_form(csdl, ssdl, msl, content) {
         return Ok(None);
     }
     let meaning = meaning_of(alloc, content)?;
     Ok(Some(meaning))
 }
 
-fn meaning_of(alloc: Global, content: Content) -> Result<Meaning, Memory>
-    ensures { IfOk result (λ meaning. schema_of meaning ≡ meaning_of content) }
+fn meaning_of(alloc: Global, content: &Content) -> Result<Meaning, Memory>
+    ensures { IfOk result (λ meaning. schema_of meaning ≡ meaning_of content.now) }
 {
-    Ok(Meaning {
-        model: model_of(alloc, &content.model)?,
-        store: store_of(alloc, &content.store)?,
-        mapping: mapping_of(alloc, &content.pairs)?,
-    })
+    let model = model_of(alloc, &content.model)?;
+    let store = match store_of(alloc, &content.store) {
+        Ok(store) => store,
+        Err(fault) => {
+            drop(model);
+            return Err(fault);
+        }
+    };
+    match mapping_of(alloc, &content.pairs) {
+        Ok(mapping) => Ok(Meaning {
+            model,
+            store,
+            mapping,
+        }),
+        Err(fault) => {
+            drop(model);
+            drop(store);
+            Err(fault)
+        }
+    }
 }
 
 #[tactic(auto, unfolding(crate::specs::Meaning::model_of))]
 fn model_of(alloc: Global, declared: &Declared) -> Result<EntityModel, Memory>
     ensures { IfOk result (λ model. model ≡ model_of declared.now) }
 {
-    let columns = declared.columns.as_slice();
-    let key = PropId {
-        index: short_place_of(declared.key.as_str(), columns),
-    };
-    let declared_type = EntityType {
+    Ok(EntityModel {
+        namespace: declared.namespace.copy(alloc)?,
+        alias: None,
+        container: declared.container.copy(alloc)?,
+        types: types_of(alloc, declared)?,
+        props: props_of(alloc, declared.columns.as_slice())?,
+        forest: one_tree(alloc)?,
+        sets: sets_of(alloc, declared)?,
+        assocs: Seq::empty(alloc),
+    })
+}
+
+fn types_of(alloc: Global, declared: &Declared) -> Result<Seq<EntityType>, Memory>
+    ensures { IfOk result (λ types. types ≡ type_of declared.now ∷ []) }
+{
+    let declared_type = type_of(alloc, declared)?;
+    single(alloc, declared_type)
+}
+
+fn type_of(alloc: Global, declared: &Declared) -> Result<EntityType, Memory>
+    ensures { IfOk result (λ declared_type. declared_type ≡ type_of declared.now) }
+{
+    Ok(EntityType {
         name: declared.type_name.copy(alloc)?,
         base: None,
         is_abstract: false,
-        key: single(alloc, key)?,
-        props: ids_of(alloc, columns)?,
+        key: key_of(alloc, declared)?,
+        props: ids_of(alloc, declared.columns.as_slice())?,
         navs: Seq::empty(alloc),
-    };
+    })
+}
+
+fn key_of(alloc: Global, declared: &Declared) -> Result<Seq<PropId>, Memory>
+    ensures { IfOk result (λ key. key ≡ (type_of declared.now).key) }
+{
+    let index = short_place_of(declared.key.as_str(), declared.columns.as_slice());
+    single(alloc, PropId { index })
+}
+
+fn one_tree(alloc: Global) -> Result<Seq<TypeNode>, Memory>
+    ensures { IfOk result (λ forest. forest ≡ one_tree) }
+{
     let root = TypeNode {
         id: TypeId { index: 0 },
         is_abstract: false,
         children: Seq::empty(alloc),
     };
-    let set = EntitySet {
-        name: declared.set.copy(alloc)?,
-        element: TypeId { index: 0 },
-    };
-    Ok(EntityModel {
-        namespace: declared.namespace.copy(alloc)?,
-        alias: None,
-        container: declared.container.copy(alloc)?,
-        types: single(alloc, declared_type)?,
-        props: props_of(alloc, columns)?,
-        forest: single(alloc, root)?,
-        sets: single(alloc, set)?,
-        assocs: Seq::empty(alloc),
-    })
+    single(alloc, root)
+}
+
+fn sets_of(alloc: Global, declared: &Declared) -> Result<Seq<EntitySet>, Memory>
+    ensures { IfOk result (λ sets. sets ≡ set_of declared.now ∷ []) }
+{
+    let name = declared.set.copy(alloc)?;
+    let element = TypeId { index: 0 };
+    single(alloc, EntitySet { name, element })
 }
 
 fn ids_of(alloc: Global, columns: &[Column]) -> Result<Seq<PropId>, Memory>
@@ -129,20 +192,36 @@ fn prop_of(alloc: Global, column: &Column) -> Result<Prop, Memory>
 fn store_of(alloc: Global, declared: &Declared) -> Result<StoreModel, Memory>
     ensures { IfOk result (λ store. store ≡ store_of declared.now) }
 {
-    let key = ColId {
-        index: short_place_of(declared.key.as_str(), declared.columns.as_slice()),
-    };
-    let table = Table {
-        name: declared.set.copy(alloc)?,
-        cols: copies_of(alloc, declared.columns.as_slice())?,
-        key: single(alloc, key)?,
-    };
     Ok(StoreModel {
         namespace: declared.namespace.copy(alloc)?,
         container: declared.container.copy(alloc)?,
-        tables: single(alloc, table)?,
+        tables: tables_of(alloc, declared)?,
         keys: Seq::empty(alloc),
     })
+}
+
+fn tables_of(alloc: Global, declared: &Declared) -> Result<Seq<Table>, Memory>
+    ensures { IfOk result (λ tables. tables ≡ table_of declared.now ∷ []) }
+{
+    let table = table_of(alloc, declared)?;
+    single(alloc, table)
+}
+
+fn table_of(alloc: Global, declared: &Declared) -> Result<Table, Memory>
+    ensures { IfOk result (λ table. table ≡ table_of declared.now) }
+{
+    Ok(Table {
+        name: declared.set.copy(alloc)?,
+        cols: copies_of(alloc, declared.columns.as_slice())?,
+        key: table_key_of(alloc, declared)?,
+    })
+}
+
+fn table_key_of(alloc: Global, declared: &Declared) -> Result<Seq<ColId>, Memory>
+    ensures { IfOk result (λ key. key ≡ (table_of declared.now).key) }
+{
+    let index = short_place_of(declared.key.as_str(), declared.columns.as_slice());
+    single(alloc, ColId { index })
 }
 
 fn copies_of(alloc: Global, columns: &[Column]) -> Result<Seq<Column>, Memory>
@@ -169,21 +248,27 @@ fn copy_of(alloc: Global, column: &Column) -> Result<Column, Memory>
 fn mapping_of(alloc: Global, pairs: &Seq<Pair>) -> Result<Mapping, Memory>
     ensures { IfOk result (λ mapping. mapping ≡ mapping_of pairs.now) }
 {
+    let fragment = fragment_of(alloc, pairs)?;
+    Ok(Mapping {
+        fragments: single(alloc, fragment)?,
+        links: Seq::empty(alloc),
+    })
+}
+
+fn fragment_of(alloc: Global, pairs: &Seq<Pair>) -> Result<Fragment, Memory>
+    ensures { IfOk result (λ fragment. fragment ≡ fragment_of pairs.now) }
+{
     let pick = Pick {
         ty: TypeId { index: 0 },
         below: false,
     };
-    let fragment = Fragment {
+    Ok(Fragment {
         place: Txt::of(alloc, MappingPart::Fragment.path())?,
         set: SetId { index: 0 },
         picks: single(alloc, pick)?,
         table: TableId { index: 0 },
         pairs: copies_of_pairs(alloc, pairs.as_slice())?,
         conds: Seq::empty(alloc),
-    };
-    Ok(Mapping {
-        fragments: single(alloc, fragment)?,
-        links: Seq::empty(alloc),
     })
 }
 

@@ -14,6 +14,7 @@ use serde_json::Value;
 use std::alloc::Global;
 
 // The text at a pointer; the empty one where there is none.
+#[tactic(auto, unfolding(crate::specs::Parts::text_at, crate::specs::Parts::part_at))]
 pub(crate) fn str_at<'a>(node: &Node<'a>, path: &str) -> &'a str
     ensures { result.now ≡ text_at path.now (part_of node.now) }
 {
@@ -30,7 +31,21 @@ pub(crate) fn text_at(alloc: Global, node: &Node<'_>, path: &str) -> Result<Txt,
     Txt::of(alloc, str_at(node, path))
 }
 
+// Copies of the texts at two pointers.
+pub(crate) fn two_texts_at(
+    alloc: Global,
+    node: &Node<'_>,
+    first: &str,
+    second: &str,
+) -> Result<(Txt, Txt), Memory>
+    ensures first { IfOk result (λ texts. texts.0 ≡ text_at first.now (part_of node.now)) }
+    ensures second { IfOk result (λ texts. texts.1 ≡ text_at second.now (part_of node.now)) }
+{
+    Ok((text_at(alloc, node, first)?, text_at(alloc, node, second)?))
+}
+
 // The items at a pointer.
+#[tactic(auto, unfolding(crate::specs::Parts::items_at, crate::specs::Parts::part_at))]
 pub(crate) fn items_at<'a>(node: &Node<'a>, path: &str) -> &'a [Value]
     ensures { map view result.now ≡ items_at path.now (part_of node.now) }
 {
@@ -41,6 +56,7 @@ pub(crate) fn items_at<'a>(node: &Node<'a>, path: &str) -> &'a [Value]
 }
 
 // Whether the part at a pointer is an array of one item.
+#[tactic(auto, unfolding(crate::specs::Parts::part_at))]
 pub(crate) fn has_one_item_at(node: &Node<'_>, path: &str) -> bool
     ensures { result ≡ has_one_item (part_at path.now (part_of node.now)) }
 {
@@ -57,7 +73,7 @@ fn has_one_item(node: &Node<'_>) -> bool
 }
 
 // Whether the part at a pointer is an object that has these members, and beside them at most the allowed ones.
-#[tactic(auto, unfolding(crate::specs::Parts::has_members))]
+#[tactic(auto, unfolding(crate::specs::Parts::has_members, crate::specs::Parts::part_at))]
 pub(crate) fn has_members_at(node: &Node<'_>, path: &str, needed: &[&str], allowed: &[&str]) -> bool
     ensures { result ≡ has_members (texts needed.now) (texts allowed.now) (part_at path.now (part_of node.now)) }
 {

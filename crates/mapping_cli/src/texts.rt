@@ -4,11 +4,9 @@ ghost use Rattle.serde_json.specs.View.{view};
 ghost use Rattle.serde_json.specs.Written.{compact_text};
 ghost use Rattle.mapping_cli.specs.Texts.{accepted_text, fail_text, file_text, file_word, kind_word, line, other_line, place_tree, quote, rule_text, state_line, usage_text};
 
-use edm_types::{EntityModel, RuleFault, VocabFile};
 use emc_base::{Memory, Place, Txt};
 use json_form::{key_tree, object_tree, text_tree};
-use mapping_core::{EntityState, Failure, state_text};
-use round_trip::FailKind;
+use mapping_core::{EntityModel, EntityState, FailKind, Failure, RuleFault, VocabFile, state_text};
 use serde_json::{Map, Value as Tree};
 use std::alloc::Global;
 

@@ -25,7 +25,8 @@ const NOT_JSON: u8 = 1;
 /// The number of the rule that the documents are of the form that is built so far.
 const UNBUILT: u8 = 99;
 
-/// Compiles the three documents of a mapping: `Ok` where every legal entity state of what they mean has tables of its own.
+/// Compiles the three documents of a mapping: `Ok` where every legal entity state of what they mean has tables of its own; `Rule`
+/// where a rule of the documents is broken, `Fails` where none is and a legal state fails, `Memory` where memory ran out.
 pub fn compile(alloc: Global, csdl: &Bin, ssdl: &Bin, msl: &Bin) -> Result<Compiled, Verdict>
     ensures { Compiles csdl.now ssdl.now msl.now result }
 {

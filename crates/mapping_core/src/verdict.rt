@@ -19,6 +19,7 @@ pub enum Verdict {
     Rule(RuleFault),
     /// No rule is broken, and a legal state fails.
     Fails(Failure),
+    /// Memory ran out.
     Memory,
 }
 

@@ -12,5 +12,5 @@ same_declared one two namespace container set element type_name reference key co
 pub returns : goal.returns
 unfolding declared_in
 returns c = same_declared _ (declared_in c.args.vocabulary (part_of c.args.root.now))
-    c.in_ok-text_at.ensures c.in_ok-text_at-2.ensures c.in_ok-text_at-3.ensures c.in_ok-text_at-4.ensures
-    c.in_ok-text_at-5.ensures c.in_ok-reference_in.ensures c.in_ok-text_at-6.ensures c.in_ok-read_columns_at.ensures
+    c.in_ok-namespace.ensures.first c.in_ok-namespace.ensures.second c.in_ok-set.ensures.first c.in_ok-set.ensures.second
+    c.in_ok-type_name.ensures.first c.in_ok-reference.ensures c.in_ok-type_name.ensures.second c.in_ok-columns.ensures

@@ -12,5 +12,5 @@ same_mapped one two store_container model_container set type_name table pairs =
 pub returns : goal.returns
 unfolding mapped_in
 returns c = same_mapped _ (mapped_in (part_of c.args.root.now))
-    c.in_ok-part_text.ensures c.in_ok-part_text-2.ensures c.in_ok-part_text-3.ensures c.in_ok-part_text-4.ensures
-    c.in_ok-part_text-5.ensures c.in_ok-read_pairs_at.ensures
+    c.in_ok-store_container.ensures.first c.in_ok-store_container.ensures.second
+    c.in_ok-set.ensures.first c.in_ok-set.ensures.second c.in_ok-table.ensures c.in_ok-pairs.ensures
