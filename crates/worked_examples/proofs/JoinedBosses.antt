@@ -46,11 +46,11 @@ link staff manager = boss_of (pos staff) (pos manager)
 abbrev links : List Link
 links = link 1 2 ∷ link 1 3 ∷ link 2 3 ∷ []
 
-abbrev row : ℕ → Row
-row id = person_row (pos id) Null
+abbrev unnamed_row : ℕ → Row
+unnamed_row id = person_row (pos id) Null
 
 abbrev rows : List Row
-rows = row 1 ∷ row 2 ∷ row 3 ∷ []
+rows = unnamed_row 1 ∷ unnamed_row 2 ∷ unnamed_row 3 ∷ []
 
 abbrev joined_row : ℕ → ℕ → Row
 joined_row staff manager = link_row (pos staff) (pos manager)
@@ -109,7 +109,7 @@ row_for t key = row_at t.index key
 
 in_rows : (writing : Writing) → Writes joined joined_state writing → IsInItsRow joined joined_state row_for writing
 in_rows writing by = each (IsInItsRow joined joined_state row_for)
-    (λ id among col value gives. each_given (of_person id) (λ c v. v ≡ cell_of (row id) c) (refl, (refl, tt)) tt col value gives)
+    (λ id among col value gives. each_given (of_person id) (λ c v. v ≡ cell_of (unnamed_row id) c) (refl, (refl, tt)) tt col value gives)
     (λ staff manager among col value gives. each_given (of_link staff manager) (λ c v. v ≡ cell_of (joined_row staff manager) c) (refl, (refl, tt)) tt col value gives)
     writing by
 
@@ -123,7 +123,7 @@ person_writes id among = record {
   to_key = refl;
 }
 
-person_demanded : (id : ℕ) → Contains three_unnamed (unnamed id) → IsPersonRow (row id)
+person_demanded : (id : ℕ) → Contains three_unnamed (unnamed id) → IsPersonRow (unnamed_row id)
 person_demanded id among = record {
   demanded = (of_person id, person_writes id among);
   for_key = refl;
@@ -163,13 +163,13 @@ HasLinkRow l = Any (λ r. row_key joined_table r ≡ l.first ++ l.second) joined
 
 person_has_row : (id : ℕ) → Contains three_unnamed (unnamed id) → HasPersonRow (unnamed id)
 person_has_row id among = each_of HasPersonRow three_unnamed (unnamed id)
-    ((0, row 1, omega arith, refl, refl), ((1, row 2, omega arith, refl, refl), ((2, row 3, omega arith, refl, refl), tt))) among
+    ((0, unnamed_row 1, omega arith, refl, refl), ((1, unnamed_row 2, omega arith, refl, refl), ((2, unnamed_row 3, omega arith, refl, refl), tt))) among
 
 link_has_row : (staff manager : ℕ) → Contains links (link staff manager) → HasLinkRow (link staff manager)
 link_has_row staff manager among = each_of HasLinkRow links (link staff manager)
     ((0, joined_row 1 2, omega arith, refl, refl), ((1, joined_row 1 3, omega arith, refl, refl), ((2, joined_row 2 3, omega arith, refl, refl), tt))) among
 
-rows_differ : (one two : ℕ) → one ≢ two → HaveOwnRowKeys people_table (row one) (row two)
+rows_differ : (one two : ℕ) → one ≢ two → HaveOwnRowKeys people_table (unnamed_row one) (unnamed_row two)
 rows_differ one two differ equal = differ (cc)
 
 joined_rows_differ : (a b c d : ℕ) → (a ≡ c → b ≢ d) → HaveOwnRowKeys joined_table (joined_row a b) (joined_row c d)
@@ -214,17 +214,17 @@ stored = stored_by_tables joined joined_state joined_tables refl (no_clash_by_ke
 -- both people of a link stand
 keeps_staff : KeepsForeignKey joined_tables staff_key
 keeps_staff = All-from_recursion (λ r. Refers staff_key r → FindsRow joined_tables staff_key r) joined_rows (
-  (λ refers. (0, row 1, omega arith, refl, refl)),
-  ((λ refers. (0, row 1, omega arith, refl, refl)), ((λ refers. (1, row 2, omega arith, refl, refl)), tt)),
+  (λ refers. (0, unnamed_row 1, omega arith, refl, refl)),
+  ((λ refers. (0, unnamed_row 1, omega arith, refl, refl)), ((λ refers. (1, unnamed_row 2, omega arith, refl, refl)), tt)),
 )
 
 keeps_manager : KeepsForeignKey joined_tables manager_key
 keeps_manager = All-from_recursion (λ r. Refers manager_key r → FindsRow joined_tables manager_key r) joined_rows (
-  (λ refers. (1, row 2, omega arith, refl, refl)),
-  ((λ refers. (2, row 3, omega arith, refl, refl)), ((λ refers. (2, row 3, omega arith, refl, refl)), tt)),
+  (λ refers. (1, unnamed_row 2, omega arith, refl, refl)),
+  ((λ refers. (2, unnamed_row 3, omega arith, refl, refl)), ((λ refers. (2, unnamed_row 3, omega arith, refl, refl)), tt)),
 )
 
-row_fits : (id : ℕ) → id ≤ 2147483647 → FitsTable people_table (row id)
+row_fits : (id : ℕ) → id ≤ 2147483647 → FitsTable people_table (unnamed_row id)
 row_fits id below = (whole_fits false id below, (no_name, tt))
 
 joined_row_fits : (staff manager : ℕ) → staff ≤ 2147483647 → manager ≤ 2147483647 → FitsTable joined_table (joined_row staff manager)
@@ -247,8 +247,8 @@ shows r = All-nil (λ cond. MetByRow r cond.on cond.test)
 
 people_agree : Agrees joined joined_state joined_tables all_people
 people_agree = agrees joined joined_state joined_tables all_people (
-  (λ s. (row 1, (0, omega arith, refl), shows (row 1), refl)),
-  ((λ s. (row 2, (1, omega arith, refl), shows (row 2), refl)), ((λ s. (row 3, (2, omega arith, refl), shows (row 3), refl)), tt)),
+  (λ s. (unnamed_row 1, (0, omega arith, refl), shows (unnamed_row 1), refl)),
+  ((λ s. (unnamed_row 2, (1, omega arith, refl), shows (unnamed_row 2), refl)), ((λ s. (unnamed_row 3, (2, omega arith, refl), shows (unnamed_row 3), refl)), tt)),
 ) (
   (λ s. (unnamed 1, (0, omega arith, refl), selected 1, refl)),
   ((λ s. (unnamed 2, (1, omega arith, refl), selected 2, refl)), ((λ s. (unnamed 3, (2, omega arith, refl), selected 3, refl)), tt)),
