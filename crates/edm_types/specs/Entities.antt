@@ -9,7 +9,7 @@ use Rattle.emc_base.specs.declared.value.Value.TheVariants.{Null}
 use Rattle.edm_types.specs.declared.model.EntityModel.{EntityModel}
 use Rattle.edm_types.specs.declared.model.EntityType.{EntityType}
 use Rattle.edm_types.specs.declared.data.Entity.{Entity}
-use Rattle.edm_types.specs.Lists.{At}
+use Rattle.emc_base.specs.Lists.{At}
 
 abbrev pub type_at : EntityModel → TypeId → Option EntityType
 type_at model t = slice_get model.types t.index

@@ -4,7 +4,7 @@ use Rattle.std.specs.Prelude.{◌≡◌, Some, false}
 use Rattle.emc_base.specs.declared.ids.TypeId.{TypeId}
 use Rattle.edm_types.specs.declared.model.EntityModel.{EntityModel}
 use Rattle.edm_types.specs.declared.model.EntityType.{EntityType}
-use Rattle.edm_types.specs.Lists.{At}
+use Rattle.emc_base.specs.Lists.{At}
 
 -- u is the BaseType of t
 abbrev pub HasBase : EntityModel → TypeId → TypeId → Type 0

@@ -1,4 +1,3 @@
-pub mod Lists
 pub mod IsA
 pub mod Entities
 pub mod State

@@ -8,7 +8,7 @@ use Rattle.emc_base.specs.declared.value.Value.TheVariants.{Null}
 use Rattle.edm_types.specs.declared.store.StoreModel.{StoreModel}
 use Rattle.edm_types.specs.declared.store.Table.{Table}
 use Rattle.edm_types.specs.declared.data.Row.{Row}
-use Rattle.edm_types.specs.Lists.{At}
+use Rattle.emc_base.specs.Lists.{At}
 
 -- rows for each table
 abbrev pub Tables : Type 0

@@ -1,6 +1,6 @@
 -- Which entities a fragment selects, and which rows it shows.
 -- Source: MSL version 3, MappingFragment and Condition; the select-project queries of Melnik, Adya and Bernstein, SIGMOD 2007.
-use Rattle.std.specs.Prelude.{◌≡◌, ◌≢◌, ◌++◌, Bool, true, false, All, Any, MatchBool, ⊤}
+use Rattle.std.specs.Prelude.{◌≡◌, ◌≢◌, ◌++◌, true, false, All, Any, MatchBool, ⊤}
 use Rattle.emc_base.specs.declared.ids.TypeId.{TypeId}
 use Rattle.emc_base.specs.declared.value.Value.{Value}
 use Rattle.emc_base.specs.declared.value.Value.TheVariants.{Null}
@@ -8,7 +8,6 @@ use Rattle.edm_types.specs.declared.model.EntityModel.{EntityModel}
 use Rattle.edm_types.specs.declared.mapping.Fragment.{Fragment}
 use Rattle.edm_types.specs.declared.mapping.LinkFragment.{LinkFragment}
 use Rattle.edm_types.specs.declared.mapping.Pick.{Pick}
-use Rattle.edm_types.specs.declared.mapping.Cond.{Cond}
 use Rattle.edm_types.specs.declared.mapping.CondOn.{CondOn}
 use Rattle.edm_types.specs.declared.mapping.CondOn.TheVariants as on
 use Rattle.edm_types.specs.declared.mapping.Test.{Test}

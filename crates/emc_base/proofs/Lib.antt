@@ -1,1 +1,4 @@
 mod Texts
+pub mod Lists
+pub mod Permutations
+pub mod Loops

@@ -1,4 +1,5 @@
 pub mod formers
+pub mod Lists
 pub mod Domain
 pub mod Order
 pub mod Faults

@@ -4,7 +4,7 @@ use crate::memory::Memory;
 use std::alloc::Global;
 use std::marker::Model;
 
-/// A list of bytes.
+/// A list of bytes, which contracts see as the list of these numbers, each from 0 to 255.
 #[derive(Clone, Debug, Drop)]
 pub struct Bin {
     bytes: Vec<u8>,
@@ -22,6 +22,7 @@ impl Model for Bin {
 }
 
 impl Bin {
+    /// A copy of the bytes. `Memory` comes where there is none for it.
     pub fn of(alloc: Global, s: &[u8]) -> Result<Bin, Memory>
         ensures { IfOk result (λ bytes. bytes ≡ s.now) }
     {
@@ -29,12 +30,14 @@ impl Bin {
         Ok(Bin { bytes })
     }
 
+    /// The bytes of a vector, which are moved and not copied.
     pub fn from_vec(bytes: Vec<u8>) -> Bin
         ensures { result ≡ bytes.items }
     {
         Bin { bytes }
     }
 
+    /// Lends the bytes.
     pub fn as_slice(&self) -> &[u8]
         ensures bytes { result.now ≡ self.now }
         ensures small { All (λ b. b < 256) self.now }
@@ -42,6 +45,7 @@ impl Bin {
         as_bytes(self.bytes.as_slice())
     }
 
+    /// An equal list. `Memory` comes where there is none for it.
     pub fn copy(&self, alloc: Global) -> Result<Bin, Memory>
         ensures { IfOk result (λ bytes. bytes ≡ self.now) }
     {

@@ -7,17 +7,27 @@ use crate::txt::Txt;
 use std::alloc::Global;
 use std::io;
 use std::io::Read;
+use std::marker::Model;
 
-/// The files of the disk, by their paths. It tells nothing of what they hold.
+/// The files of the disk, by their paths. It tells nothing of what they hold: contracts see it as how often a read failed.
 #[derive(Drop)]
 pub struct DiskFiles<R: std::rt::Files + Drop> {
     rt: R,
     faults: u64,
 }
 
+impl<R: std::rt::Files + Drop> Model for DiskFiles<R> {
+    ghost use Rattle.std.specs.Prelude.{ℕ};
+
+    ghost Value = { ℕ };
+
+    ghost view = { λ f. f.faults };
+}
+
 impl<R: std::rt::Files + Drop> DiskFiles<R> {
+    /// The files that this runtime reaches. No read has failed.
     pub fn new(rt: R) -> DiskFiles<R>
-        ensures { result.faults ≡ 0 }
+        ensures { result ≡ 0 }
     {
         DiskFiles { rt, faults: 0 }
     }
@@ -26,8 +36,9 @@ impl<R: std::rt::Files + Drop> DiskFiles<R> {
 impl<R: std::rt::Files + Drop> Files for DiskFiles<R> {
     ghost held = { λ _. None };
 
-    ghost fault_count = { λ f. f.faults };
+    ghost fault_count = { λ faults. faults };
 
+    /// Reads at most `limit` and one byte. What the path names is read anew at each call.
     fn read(&mut self, alloc: Global, name: &Txt, limit: u64) -> Result<Bin, ReadFault> {
         let bytes = match read_at_most(alloc, &self.rt, name.as_str(), limit.saturating_add(1)) {
             Ok(bytes) => bytes,

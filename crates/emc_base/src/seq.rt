@@ -63,6 +63,7 @@ impl<T> Seq<T> {
         Ok(())
     }
 
+    /// How many items there are.
     pub fn len(&self) -> usize
         ensures count { result ≡ length self.now }
         ensures bound { result < 2 ^ 32 }
@@ -70,12 +71,14 @@ impl<T> Seq<T> {
         self.items.len()
     }
 
+    /// Whether there is no item.
     pub fn is_empty(&self) -> bool
         ensures { IsTrue result ↔ (self.now ≡ []) }
     {
         self.items.is_empty()
     }
 
+    /// Lends the item at a place, counted from 0; `None` exactly where the list isn't longer than that.
     pub fn get(&self, i: usize) -> Option<&T>
         ensures item { option_copied result ≡ slice_get self.now i }
         ensures inside { IsSome result ↔ (i < length self.now) }
@@ -83,6 +86,7 @@ impl<T> Seq<T> {
         self.items.get(i)
     }
 
+    /// Lends all items in their order.
     pub fn as_slice(&self) -> &[T]
         ensures items { result.now ≡ self.now }
         ensures bound { length self.now < 2 ^ 32 }

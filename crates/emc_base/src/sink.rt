@@ -6,8 +6,10 @@ use thiserror::Error;
 /// Why bytes were not written whole.
 #[derive(Clone, Copy, Debug, PartialEq, Eq, Error)]
 pub enum SinkFault {
+    /// Some of the first bytes were written, and not all that were to be; the count of faults rose, where it could.
     #[error("the output could not be written")]
     Failed,
+    /// Memory ran out; nothing was written.
     #[error("out of memory")]
     Memory,
 }
@@ -20,7 +22,8 @@ pub trait Sink {
     /// How often a call has failed. It stays at the last value of a `u64` once it is there.
     ghost fault_count: { Self → ℕ };
 
-    /// Writes the bytes. After `Failed` some of the first of them are written; after `Memory` none.
+    /// Writes the bytes. After `Failed` some of the first of them are written; after `Memory` none. `Failed` comes only where the
+    /// count of faults rose in the call or stands at its last value.
     fn put(&mut self, bytes: &[u8]) -> Result<(), SinkFault>
         ensures writes { Puts (written_to self.old) (written_to self.new) bytes.now result }
         ensures cause { CountsPut (fault_count self.old) (fault_count self.new) result };

@@ -22,6 +22,7 @@ impl Model for Txt {
 }
 
 impl Txt {
+    /// A copy of the text. `Memory` comes where there is none for it.
     pub fn of(alloc: Global, s: &str) -> Result<Txt, Memory>
         ensures { IfOk result (λ text. text ≡ s.now) }
     {
@@ -29,18 +30,21 @@ impl Txt {
         Ok(Txt { text })
     }
 
+    /// The text of a string, which is moved and not copied.
     pub fn from_string(text: String) -> Txt
         ensures { result ≡ string_bytes text }
     {
         Txt { text }
     }
 
+    /// The same text as a string, which is moved and not copied.
     pub fn into_string(self) -> String
         ensures { string_bytes result ≡ self }
     {
         self.text
     }
 
+    /// Lends the text.
     pub fn as_str(&self) -> &str
         ensures text { result.now ≡ self.now }
         ensures utf8 { IsUtf8 self.now }
@@ -48,6 +52,7 @@ impl Txt {
         self.text.as_str()
     }
 
+    /// An equal text. `Memory` comes where there is none for it.
     pub fn copy(&self, alloc: Global) -> Result<Txt, Memory>
         ensures { IfOk result (λ text. text ≡ self.now) }
     {

@@ -14,23 +14,34 @@ use std::cmp::Ordering;
 /// A value of a property or a cell.
 #[derive(Clone, Drop)]
 pub enum Value {
+    /// No value.
     Null,
+    /// A whole number: of the kinds `Byte`, `Int16`, `Int32` and `Int64`.
     Whole(i64),
+    /// True or false.
     Flag(bool),
+    /// A text, compared by its code points.
     Text(Txt),
+    /// A byte list.
     Bytes(Bin),
 }
 
-/// What a property or a column may hold. The number is the bound: the most Unicode scalar values of a text, the most
-/// bytes of a byte list.
+/// What a property or a column may hold, null aside. Source: the simple types of CSDL and the column types of SSDL, version 3.
 #[derive(Clone, Drop)]
 pub enum Kind {
+    /// A whole number from 0 to 255; the column type `tinyint`.
     Byte,
+    /// A whole number of 16 bits with a sign; `smallint`.
     Int16,
+    /// A whole number of 32 bits with a sign; `int`.
     Int32,
+    /// A whole number of 64 bits with a sign; `bigint`.
     Int64,
+    /// True or false; `bit`.
     Boolean,
+    /// A text of at most so many Unicode scalar values; `nvarchar`. No number is no bound.
     Text(Option<u32>),
+    /// A list of at most so many bytes; `varbinary`. No number is no bound.
     Binary(Option<u32>),
 }
 
@@ -38,6 +49,7 @@ pub enum Kind {
 pub type Key = Seq<Value>;
 
 impl Value {
+    /// An equal value. `Memory` comes where there is none for it.
     pub fn copy(&self, alloc: Global) -> Result<Value, Memory>
         ensures { IfOk result (λ value. value ≡ self.now) }
     {
@@ -50,6 +62,7 @@ impl Value {
 }
 
 impl Seq<Value> {
+    /// An equal key. `Memory` comes where there is none for it.
     pub fn copy(&self, alloc: Global) -> Result<Key, Memory>
         ensures { IfOk result (λ key. key ≡ self.now) }
     {

@@ -5,7 +5,7 @@ use Rattle.emc_base.specs.declared.value.Value.{Value}
 use Rattle.emc_base.specs.declared.value.Value.TheVariants as value
 use Rattle.emc_base.specs.declared.value.Kind.{Kind}
 use Rattle.emc_base.specs.declared.value.Kind.TheVariants as kind
-use Rattle.emc_base.specs.Domain.{InDomain, IsText, IsWithin}
+use Rattle.emc_base.specs.Domain.{InDomain, IsWithin}
 use Rattle.first_form.specs.Form.{is_wide_enough, kind_fits}
 
 -- what is within a bound is within a wider one

@@ -2,11 +2,11 @@
 use Rattle.std.proofs.Common.{◌≡◌, ◌≢◌, ℕ, zero, suc, ◌+◌, ◌<◌, List, [], ◌∷◌, ◌++◌, length, map, take, get_or, option_map, All, AllPairs, Contains, refl, sym, ap, subst, ◌∙◌, arith}
 use Rattle.std.proofs.lemmas.Option.{slice_get-map}
 use Rattle.emc_base.specs.declared.ids.PropId.{PropId}
-use Rattle.edm_types.specs.Lists.{At}
+use Rattle.emc_base.specs.Lists.{At}
 use Rattle.edm_types.specs.declared.model.Prop.{Prop}
 use Rattle.edm_types.specs.declared.store.Column.{Column}
 use Rattle.first_form.specs.Meaning.{ids_from, prop_of}
-use Rattle.first_form.proofs.Lists.{item_at}
+use Rattle.emc_base.proofs.Lists.{item_at}
 
 -- one more column, one more id
 pub ids_from-take : (first : ℕ) (columns : List Column) (i : ℕ) → i < length columns

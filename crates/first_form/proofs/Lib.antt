@@ -2,7 +2,6 @@ pub mod Members
 pub mod Places
 pub mod Samples
 pub mod Ids
-pub mod Lists
 pub mod Holding
 pub mod Named
 pub mod Pairs

@@ -1,22 +1,23 @@
 -- Columns by their names: the one that is named as the key, and that it is the only one of that name.
-use Rattle.std.proofs.Common.{◌≡◌, ◌≢◌, ◌&&◌, ℕ, ◌<◌, List, length, get_or, AllPairs, Bool, true, false, not, nat_le, refl, sym, ap, ◌∙◌, if◌then◌else◌}
-use Rattle.std.specs.List.{list_all, list_any}
+use Rattle.std.proofs.Common.{◌≡◌, ◌≢◌, ◌&&◌, ℕ, ◌<◌, List, length, AllPairs, Bool, true, false, not, nat_le, refl, sym, ap, ◌∙◌}
+use Rattle.std.specs.List.{list_all}
 use Rattle.std.specs.Str.{bytes_eq}
 use Rattle.std.proofs.lemmas.Bool.{and_parts, not-true, both_ways, ltb-true, cond-true, cond-false, true_from_ne_false}
 use Rattle.std.proofs.lemmas.List.Sums.{passes_at_first}
-use Rattle.std.proofs.lemmas.Option.{slice_get-get_or, get_or_from_slice_get}
+use Rattle.std.proofs.lemmas.Option.{get_or_from_slice_get}
 use Rattle.std.proofs.lemmas.Slice.Eq.{bytes_eq-Decides}
-use Rattle.edm_types.specs.Lists.{At}
+use Rattle.emc_base.specs.Lists.{At}
 use Rattle.edm_types.specs.declared.store.Column.{Column}
 use Rattle.first_form.specs.declared.declared_form.Declared.{Declared}
 use Rattle.first_form.specs.Form.{has_column, has_good_columns, have_different_names, is_key_or_nullable, is_whole, place_of}
-use Rattle.first_form.proofs.Lists.{apart_by_test, item_at, passes_at, same_place}
+use Rattle.emc_base.proofs.Lists.{apart_by_test, item_at, passes_at, same_place}
 
 -- what has_good_columns tells of the names
 pub record AreGood (declared : Declared) : Type 0 where
   pub different : AllPairs (λ (one other : Column). one.name ≢ other.name) declared.columns
   pub has_key : place_of declared.key declared.columns < length declared.columns
   pub nullable : list_all (is_key_or_nullable declared.key) declared.columns ≡ true
+  pub few : nat_le (length declared.columns) 16 ≡ true
 
 -- no two columns have one name
 different_names : (columns : List Column) → have_different_names columns ≡ true → AllPairs (λ (one other : Column). one.name ≢ other.name) columns
@@ -31,7 +32,7 @@ are_good declared good =
     let all = and_parts (count && have_different_names columns && has_column declared.key columns) (list_all (is_key_or_nullable declared.key) columns) good in
     let keyed = and_parts (count && have_different_names columns) (has_column declared.key columns) all.0 in
     let apart = and_parts count (have_different_names columns) keyed.0 in
-    record { different = different_names columns apart.1; has_key = ltb-true (place_of declared.key columns) (length columns) keyed.1; nullable = all.1 }
+    record { different = different_names columns apart.1; has_key = ltb-true (place_of declared.key columns) (length columns) keyed.1; nullable = all.1; few = (and_parts (nat_le 1 (length columns)) (nat_le (length columns) 16) apart.0).1 }
 
 -- a column of the key's name isn't nullable, and a column that isn't nullable has the key's name
 not_null_named : (key : List ℕ) (column : Column) → is_key_or_nullable key column ≡ true → bytes_eq column.name key ≡ true → column.nullable ≡ false

@@ -1,34 +1,28 @@
 -- What documents of the first form mean is a mapping of one set of one type to one table.
-use Rattle.std.proofs.Common.{◌≡◌, ◌&&◌, List, [], ◌∷◌, codes, Bool, true, false, None, refl, sym, ap, subst, ◌∙◌, slice_get}
+use Rattle.std.proofs.Common.{◌≡◌, ◌&&◌, codes, Bool, true, false, refl, sym, ap, subst, ◌∙◌, slice_get, nat_le}
 use Rattle.std.specs.List.{list_all}
-use Rattle.std.proofs.lemmas.Bool.{and_parts}
+use Rattle.std.proofs.lemmas.Bool.{and_parts, both_ways, false_from_ne_true}
+use Rattle.std.proofs.Math.ListN.{length-map}
 use Rattle.std.proofs.lemmas.List.Sums.{AllPass-from_list_all}
 use Rattle.std.proofs.lemmas.List.Elements.{All-weaker}
 use Rattle.std.proofs.lemmas.Option.{slice_get_within}
 use Rattle.serde_json.specs.Data.{Data}
 use Rattle.emc_base.specs.declared.ids.ColId.{ColId}
 use Rattle.emc_base.specs.declared.ids.PropId.{PropId}
-use Rattle.edm_types.specs.Lists.{At}
-use Rattle.edm_types.specs.declared.model.EntitySet.{EntitySet}
-use Rattle.edm_types.specs.declared.model.EntityType.{EntityType}
-use Rattle.edm_types.specs.declared.mapping.Fragment.{Fragment}
 use Rattle.edm_types.specs.declared.mapping.Pair.{Pair}
-use Rattle.edm_types.specs.declared.store.Column.{Column}
-use Rattle.edm_types.specs.declared.store.Table.{Table}
 use Rattle.round_trip.specs.Schema.{Schema}
 use Rattle.one_table.specs.OneTable.{IsFittingPair, IsOneTable, IsOneType, IsOnlyFragment, IsOnlyTable}
 use Rattle.first_form.specs.declared.content.Content.{Content}
 use Rattle.first_form.specs.declared.declared_form.Declared.{Declared}
 use Rattle.first_form.specs.declared.declared_form.Vocabulary.{Vocabulary}
 use Rattle.first_form.specs.declared.declared_form.Vocabulary.TheVariants.{Model, Store}
-use Rattle.first_form.specs.declared.mapped_form.MappingPart.TheVariants as part
-use Rattle.first_form.specs.Declaring.{declared_in, is_property}
+use Rattle.first_form.specs.Declaring.{column_of, declared_in, is_property}
 use Rattle.first_form.specs.Parts.{items_at}
-use Rattle.first_form.specs.Form.{content_in, does_content_fit, has_container_layout, has_good_columns, has_good_names, has_good_pairs, has_set_layout, has_type_layout, is_declaring, is_first_form, is_mapping, names_both, pair_fits, path_of, place_of}
+use Rattle.first_form.specs.Form.{content_in, does_content_fit, has_container_layout, has_few_columns, has_good_columns, has_good_names, has_good_pairs, has_set_layout, has_type_layout, is_declaring, is_first_form, have_few_columns, is_mapping, names_both, pair_fits, place_of}
 use Rattle.first_form.specs.Meaning.{fragment_of, mapping_of, meaning_of, model_of, prop_of, set_of, store_of, table_of, type_of}
 use Rattle.first_form.proofs.Ids.{different_ids, has_id, prop_at, told_ids}
 use Rattle.first_form.proofs.Holding.{kind_holds}
-use Rattle.first_form.proofs.Lists.{item_at}
+use Rattle.emc_base.proofs.Lists.{item_at}
 use Rattle.first_form.proofs.Named.{AreGood, are_good, key_not_null, only_key}
 use Rattle.first_form.proofs.Pairs.{ArePaired, Fits, are_paired, cols_once, has_pair, pair_that_fits, props_once}
 
@@ -124,14 +118,35 @@ good_in vocabulary d form = are_good (declared_in vocabulary d)
     (and_parts (has_container_layout d && has_set_layout d && has_type_layout d && list_all (is_property vocabulary) (items_at (codes "/EntityType/0/Property") d)
     && has_good_names vocabulary (declared_in vocabulary d)) (has_good_columns (declared_in vocabulary d)) form).1
 
+-- the two documents that declare are of the form
+both_declare : (csdl ssdl msl : Data) → is_first_form csdl ssdl msl ≡ true → (is_declaring Model csdl ≡ true) × (is_declaring Store ssdl ≡ true)
+unfolding is_first_form
+both_declare csdl ssdl msl form =
+    let all = and_parts (is_declaring Model csdl && is_declaring Store ssdl && is_mapping msl) (does_content_fit (content_in csdl ssdl msl)) form in
+    let three = and_parts (is_declaring Model csdl && is_declaring Store ssdl) (is_mapping msl) all.0 in
+    and_parts (is_declaring Model csdl) (is_declaring Store ssdl) three.0
+
+-- documents of the first form have few properties and columns
+few_in : (vocabulary : Vocabulary) (d : Data) → is_declaring vocabulary d ≡ true → has_few_columns d ≡ true
+unfolding declared_in
+few_in vocabulary d form =
+    let items = items_at (codes "/EntityType/0/Property") d in
+    ap (λ count. nat_le count 16) (sym (length-map items (column_of vocabulary))) ∙ (good_in vocabulary d form).few
+
+-- so documents with more aren't of it
+pub too_many : (csdl ssdl msl : Data) → have_few_columns csdl ssdl ≡ false → is_first_form csdl ssdl msl ≡ false
+unfolding is_first_form
+too_many csdl ssdl msl many = false_from_ne_true (is_first_form csdl ssdl msl)
+    (λ form. let two = (both_declare csdl ssdl msl form) in
+    let few : have_few_columns csdl ssdl ≡ true = rw (few_in Model csdl two.0, few_in Store ssdl two.1) refl in both_ways (have_few_columns csdl ssdl) many few)
+
 -- documents of the first form mean a mapping of one table
 one_table : (csdl ssdl msl : Data) → is_first_form csdl ssdl msl ≡ true → IsOneTable (meaning_of (content_in csdl ssdl msl))
 unfolding is_first_form
 one_table csdl ssdl msl form =
     let content : Content = content_in csdl ssdl msl in
     let all = and_parts (is_declaring Model csdl && is_declaring Store ssdl && is_mapping msl) (does_content_fit content) form in
-    let three = and_parts (is_declaring Model csdl && is_declaring Store ssdl) (is_mapping msl) all.0 in
-    let two = and_parts (is_declaring Model csdl) (is_declaring Store ssdl) three.0 in
+    let two = both_declare csdl ssdl msl form in
     let fits = and_parts (names_both content.model content.store content.mapped) (has_good_pairs content.model content.store content.pairs) all.1 in
     one_table_of content (good_in Model csdl two.0) (good_in Store ssdl two.1) (are_paired content.model content.store content.pairs fits.1)
 

@@ -1,16 +1,16 @@
 -- Pairs that fit, name no property and no column twice, and pair the keys.
-use Rattle.std.proofs.Common.{◌≡◌, ◌≢◌, ◌&&◌, ◌||◌, ◌==◌, ℕ, List, [], ◌∷◌, AllPairs, Contains, Bool, true, false, Option, Some, None, slice_get, refl, sym, ap, subst}
+use Rattle.std.proofs.Common.{◌≡◌, ◌≢◌, ◌&&◌, ◌||◌, ◌==◌, ℕ, List, AllPairs, Contains, Bool, true, Option, Some, None, slice_get, refl, sym, ap, subst}
 use Rattle.std.specs.List.{list_all, list_any}
 use Rattle.std.proofs.lemmas.Bool.{and_parts, eqb-true, eqb-false, false≢true, or_parts}
 use Rattle.std.proofs.lemmas.List.Folds.{Any-from_list_any}
 use Rattle.emc_base.specs.declared.ids.ColId.{ColId}
 use Rattle.emc_base.specs.declared.ids.PropId.{PropId}
-use Rattle.edm_types.specs.Lists.{At}
+use Rattle.emc_base.specs.Lists.{At}
 use Rattle.edm_types.specs.declared.store.Column.{Column}
 use Rattle.edm_types.specs.declared.mapping.Pair.{Pair}
 use Rattle.first_form.specs.declared.declared_form.Declared.{Declared}
 use Rattle.first_form.specs.Form.{has_good_pairs, kind_fits, name_each_once, pair_fits, place_of}
-use Rattle.first_form.proofs.Lists.{apart_by_test}
+use Rattle.emc_base.proofs.Lists.{apart_by_test}
 
 -- a property and a column that fit, at their places
 pub record Fits (properties columns : List Column) (pair : Pair) : Type 0 where

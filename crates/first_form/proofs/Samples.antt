@@ -1,5 +1,5 @@
 -- A model of the first form allows the samples.
-use Rattle.std.proofs.Common.{◌≡◌, ◌⊎◌, ◌&&◌, ◌||◌, ◌≤◌, ℕ, ℤ, pos, negsuc, ◌≤ℤ◌, List, [], ◌∷◌, map, length, Bool, true, false, Option, Some, None, is_some, cond, option_map, codes, inl, inr, refl, sym, ap, ◌∙◌, subst, slice_get, arith, Contains, IsTrue}
+use Rattle.std.proofs.Common.{◌≡◌, ◌⊎◌, ◌&&◌, ◌||◌, ◌≤◌, ℕ, pos, List, [], ◌∷◌, map, Bool, true, false, Option, Some, None, is_some, cond, option_map, codes, inl, inr, refl, sym, ap, ◌∙◌, subst, slice_get, arith, Contains}
 use Rattle.std.specs.List.{list_all}
 use Rattle.std.specs.Str.{bytes_eq}
 use Rattle.std.proofs.lemmas.Bool.{and_parts, cond-true}
@@ -9,15 +9,15 @@ use Rattle.serde_json.specs.Find.{pointer}
 use Rattle.emc_base.specs.declared.value.Value.TheVariants as value
 use Rattle.emc_base.specs.declared.value.Kind.{Kind}
 use Rattle.emc_base.specs.declared.value.Kind.TheVariants as kind
-use Rattle.emc_base.specs.Domain.{InDomain, IsWithin, IsText}
-use Rattle.edm_types.specs.Lists.{At}
+use Rattle.emc_base.specs.Domain.{InDomain, IsWithin}
+use Rattle.emc_base.specs.Lists.{At}
 use Rattle.edm_types.specs.declared.store.Column.{Column}
 use Rattle.first_form.specs.declared.declared_form.Vocabulary.{Vocabulary}
 use Rattle.first_form.specs.Declaring.{bound_of, column_of, has_known_type, is_bound, text_word, whole_word}
 use Rattle.first_form.specs.Form.{is_whole}
 use Rattle.first_form.specs.Samples.{AllowsSamples, sample_of}
 use Rattle.first_form.specs.Parts.{items_at, part_at, text_at}
-use Rattle.std.proofs.Common.{nat_le, not, unwrap_or, zero, suc, ◌<◌}
+use Rattle.std.proofs.Common.{nat_le, not, unwrap_or, zero, suc}
 use Rattle.std.specs.Option.{option_and_then}
 use Rattle.std.proofs.lemmas.Bool.Decides.{nat_tests}
 use Rattle.std.proofs.lemmas.Int.{ints}
@@ -33,7 +33,7 @@ use Rattle.first_form.specs.Shapes.{has_shape}
 use Rattle.first_form.specs.Declaring.{declared_in, has_known_nullable, is_given_name, is_property, is_typed, short_number}
 use Rattle.first_form.specs.Form.{content_in, does_content_fit, has_container_layout, has_good_columns, has_good_names, has_set_layout, has_type_layout, is_declaring, is_first_form, is_key_or_nullable, is_mapping, place_of}
 use Rattle.first_form.specs.Meaning.{meaning_of, model_of, prop_of}
-use Rattle.first_form.proofs.Lists.{passes_at}
+use Rattle.emc_base.proofs.Lists.{passes_at}
 use Rattle.first_form.proofs.Named.{AreGood, are_good, key_at, only_key}
 
 -- a kind that is whole allows small numbers

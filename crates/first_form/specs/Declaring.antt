@@ -1,12 +1,10 @@
 -- What a CSDL or SSDL document of the first form declares: one set of one type, or one table.
 -- Source: CSDL and SSDL version 3.
-use Rattle.std.specs.Prelude.{◌&&◌, ◌||◌, ◌==◌, ℕ, ℤ, pos, negsuc, ◌^◌, List, [], ◌∷◌, ◌++◌, map, length, Bool, true, false, not, nat_le, nat_lt, Option, Some, None, unwrap_or, option_and_then, is_some, is_none, if◌then◌else◌, codes}
-use Rattle.std.specs.List.{list_any, list_all}
+use Rattle.std.specs.Prelude.{◌&&◌, ◌||◌, ℕ, ℤ, pos, negsuc, ◌^◌, List, ◌∷◌, ◌++◌, map, Bool, true, false, nat_le, nat_lt, Option, Some, None, unwrap_or, option_and_then, is_some, is_none, if◌then◌else◌, codes}
 use Rattle.std.specs.Str.{bytes_eq}
 use Rattle.serde_json.specs.Data.{Data}
 use Rattle.serde_json.specs.Find.{get, pointer, as_bool}
 use Rattle.json_form.specs.Parts.{whole_of}
-use Rattle.emc_base.specs.declared.value.Kind.{Kind}
 use Rattle.emc_base.specs.declared.value.Kind.TheVariants as kind
 use Rattle.edm_types.specs.declared.store.Column.{Column}
 use Rattle.first_form.specs.declared.declared_form.Declared.{Declared}
@@ -15,7 +13,7 @@ use Rattle.first_form.specs.declared.declared_form.Vocabulary.TheVariants.{Model
 use Rattle.first_form.specs.Parts.{text_at, items_at, part_at}
 use Rattle.first_form.specs.declared.shape.Shape.TheVariants as shape
 use Rattle.first_form.specs.Shapes.{has_shape}
-use Rattle.first_form.specs.Names.{is_name, is_plain_name, is_namespace}
+use Rattle.first_form.specs.Names.{is_name, is_plain_name}
 
 -- the word for a whole number of 32 bits
 abbrev pub whole_word : Vocabulary → List ℕ

@@ -1,6 +1,6 @@
 -- The first form of the three documents, as tests of what stands in them.
 -- Source: CSDL, SSDL and MSL version 3. No object has another member than those named here.
-use Rattle.std.specs.Prelude.{◌&&◌, ◌||◌, ◌==◌, ℕ, List, [], ◌∷◌, ◌++◌, map, length, Bool, true, false, not, nat_le, nat_lt, Option, Some, None, slice_get, codes, if◌then◌else◌}
+use Rattle.std.specs.Prelude.{◌&&◌, ◌||◌, ◌==◌, ℕ, List, [], ◌∷◌, map, length, Bool, true, false, not, nat_le, nat_lt, Option, Some, None, slice_get, codes, if◌then◌else◌}
 use Rattle.std.specs.List.{list_any, list_all, position_or_len}
 use Rattle.std.specs.Str.{bytes_eq}
 use Rattle.serde_json.specs.Data.{Data}
@@ -72,10 +72,18 @@ place_of name columns = position_or_len (λ column. bytes_eq column.name name) c
 abbrev pub has_column : List ℕ → List Column → Bool
 has_column name columns = nat_lt (place_of name columns) (length columns)
 
+-- no more properties or columns than the form has
+abbrev pub has_few_columns : Data → Bool
+has_few_columns d = nat_le (length (items_at (codes "/EntityType/0/Property") d)) 16
+
 -- one to sixteen properties or columns of different names, one of them the key
 abbrev pub has_good_columns : Declared → Bool
 has_good_columns declared = nat_le 1 (length declared.columns) && nat_le (length declared.columns) 16 && have_different_names declared.columns
     && has_column declared.key declared.columns && list_all (is_key_or_nullable declared.key) declared.columns
+
+-- no more properties or columns than the form has, in either document
+abbrev pub have_few_columns : Data → Data → Bool
+have_few_columns csdl ssdl = has_few_columns csdl && has_few_columns ssdl
 
 -- a CSDL or SSDL document of the first form
 unfoldable pub is_declaring : Vocabulary → Data → Bool

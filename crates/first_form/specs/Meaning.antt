@@ -1,7 +1,6 @@
 -- What documents of the first form mean: the entity model, the store model and the mapping.
 -- Source: CSDL, SSDL and MSL version 3.
-use Rattle.std.specs.Prelude.{◌==◌, ◌+◌, ℕ, List, [], ◌∷◌, ◌++◌, map, length, Bool, true, false, Option, Some, None, if◌then◌else◌, codes}
-use Rattle.std.specs.List.{list_any, list_all}
+use Rattle.std.specs.Prelude.{◌+◌, ℕ, List, [], ◌∷◌, map, false, Option, Some, None, if◌then◌else◌}
 use Rattle.serde_json.specs.Data.{Data}
 use Rattle.emc_base.specs.declared.ids.PropId.{PropId}
 use Rattle.edm_types.specs.declared.model.EntityModel.{EntityModel}
@@ -17,9 +16,6 @@ use Rattle.edm_types.specs.declared.mapping.Fragment.{Fragment}
 use Rattle.edm_types.specs.declared.mapping.Pair.{Pair}
 use Rattle.round_trip.specs.Schema.{Schema}
 use Rattle.first_form.specs.declared.declared_form.Declared.{Declared}
-use Rattle.first_form.specs.declared.declared_form.Vocabulary.TheVariants.{Model, Store}
-use Rattle.first_form.specs.declared.mapped_form.Mapped.{Mapped}
-use Rattle.first_form.specs.Declaring.{declared_in}
 use Rattle.first_form.specs.Form.{place_of, path_of, content_in, is_first_form}
 use Rattle.first_form.specs.declared.content.Content.{Content}
 use Rattle.first_form.specs.declared.mapped_form.MappingPart.TheVariants as part

@@ -1,10 +1,10 @@
 -- Parts of a document by JSON pointers, and which members an object has.
-use Rattle.std.specs.Prelude.{◌&&◌, ◌||◌, ℕ, List, [], ◌∷◌, ◌++◌, map, length, Bool, Option, Some, None, unwrap_or, option_and_then, is_some}
+use Rattle.std.specs.Prelude.{◌&&◌, ◌||◌, ℕ, List, [], map, Bool, unwrap_or, is_some}
 use Rattle.std.specs.Borrow.{Bor}
 use Rattle.std.specs.List.{list_any, list_all}
 use Rattle.std.specs.Str.{bytes_eq}
 use Rattle.serde_json.specs.Data.{Data, null}
-use Rattle.serde_json.specs.Find.{get, pointer, as_str, as_bool, as_object}
+use Rattle.serde_json.specs.Find.{get, pointer, as_str, as_object}
 use Rattle.json_form.specs.Parts.{items_in, members_in}
 
 -- the part that a pointer leads to; null where there is none

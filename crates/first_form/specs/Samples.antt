@@ -1,5 +1,5 @@
 -- Values that a model of the first form allows, with which a state can be shown.
-use Rattle.std.specs.Prelude.{◌≡◌, ◌⊎◌, ◌∷◌, [], Contains, IsTrue, pos, codes}
+use Rattle.std.specs.Prelude.{◌⊎◌, Contains, IsTrue, pos, codes}
 use Rattle.emc_base.specs.declared.ids.PropId.{PropId}
 use Rattle.emc_base.specs.declared.value.Value.{Value}
 use Rattle.emc_base.specs.declared.value.Value.TheVariants as value
@@ -8,7 +8,7 @@ use Rattle.emc_base.specs.declared.value.Kind.TheVariants as kind
 use Rattle.emc_base.specs.Domain.{InDomain}
 use Rattle.edm_types.specs.declared.model.EntityModel.{EntityModel}
 use Rattle.edm_types.specs.declared.model.Prop.{Prop}
-use Rattle.edm_types.specs.Lists.{At}
+use Rattle.emc_base.specs.Lists.{At}
 use Rattle.edm_types.specs.Entities.{props_of, key_props}
 use Rattle.one_table.specs.OneTable.{first_type}
 

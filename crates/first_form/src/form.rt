@@ -3,12 +3,12 @@ ghost use Rattle.std.specs.List.{list_all, list_any};
 ghost use Rattle.std.specs.Str.{bytes_eq};
 ghost use Rattle.json_form.specs.Nodes.{part_of};
 ghost use Rattle.first_form.specs.Declaring.{declared_in};
-ghost use Rattle.first_form.specs.Form.{has_column, has_container_layout, has_good_columns, has_good_names, has_good_pairs, has_set_layout, has_type_layout, have_different_names, is_declaring, is_key_or_nullable, is_whole, is_wide_enough, kind_fits, name_each_once, names_both, pair_fits, pair_of, place_of};
+ghost use Rattle.first_form.specs.Form.{has_column, has_container_layout, has_few_columns, has_good_columns, has_good_names, has_good_pairs, has_set_layout, has_type_layout, have_different_names, have_few_columns, is_declaring, is_key_or_nullable, is_whole, is_wide_enough, kind_fits, name_each_once, names_both, pair_fits, pair_of, place_of};
 
 use crate::declared_form::{Declared, Vocabulary, are_properties_at, is_given_name};
 use crate::mapped_form::{Mapped, NamedPair};
 use crate::names::{is_name, is_namespace, is_plain_name};
-use crate::parts::has_one_item_at;
+use crate::parts::{has_one_item_at, items_at};
 use crate::shape::{Shape, has_shape, has_shape_at};
 use edm_types::{Column, Pair};
 use emc_base::{ColId, Kind, Memory, PropId, Seq};
@@ -17,6 +17,20 @@ use std::alloc::Global;
 
 /// The most properties of the one type, and columns of the one table.
 const MOST_COLUMNS: usize = 16;
+
+// Whether neither document has more properties or columns than the first form has. With many of both, placing the pairs would take
+// the product of the counts.
+pub(crate) fn have_few_columns(csdl: &Node<'_>, ssdl: &Node<'_>) -> bool
+    ensures { result ≡ have_few_columns (part_of csdl.now) (part_of ssdl.now) }
+{
+    has_few_columns(csdl) && has_few_columns(ssdl)
+}
+
+fn has_few_columns(root: &Node<'_>) -> bool
+    ensures { result ≡ has_few_columns (part_of root.now) }
+{
+    items_at(root, "/EntityType/0/Property").len() <= MOST_COLUMNS
+}
 
 // Whether a document of which this was read is of the first form.
 #[tactic(auto, unfolding(crate::specs::Form::is_declaring))]

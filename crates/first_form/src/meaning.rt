@@ -9,7 +9,7 @@ ghost use Rattle.one_table.specs.OneTable.{IsOneTable};
 
 use crate::content::{Content, is_first_form, read_content};
 use crate::declared_form::Declared;
-use crate::form::short_place_of;
+use crate::form::{have_few_columns, short_place_of};
 use crate::mapped_form::MappingPart;
 use edm_types::{
     Column, EntityModel, EntitySet, EntityType, Fragment, Mapping, Pair, Pick, Prop, StoreModel,
@@ -39,6 +39,9 @@ pub fn read_first_form(
     ensures samples { IfOk result (λ found. IfSome found (λ meaning. AllowsSamples meaning.model)) }
 {
     let (csdl, ssdl, msl) = (csdl.root(), ssdl.root(), msl.root());
+    if !have_few_columns(&csdl, &ssdl) {
+        return Ok(None);
+    }
     match read_content(alloc, &csdl, &ssdl, &msl) {
         Ok(content) => {
             let found = meaning_in(alloc, &csdl, &ssdl, &msl, &content);

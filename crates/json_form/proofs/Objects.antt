@@ -1,35 +1,27 @@
 -- Objects made in a loop, and trees without floats.
-use Rattle.std.proofs.Common.{◌≡◌, ◌+◌, ℕ, List, [], ◌∷◌, ◌++◌, map, take, Bool, true, false, ◌||◌, Option, Some, slice_get, Ordering, Less, Equal, Greater, refl, sym, ap, ◌∙◌, add-one, get_or, ℤ, pos, negsuc}
+use Rattle.std.proofs.Common.{◌≡◌, ◌+◌, ℕ, List, [], ◌∷◌, ◌++◌, map, take, Bool, true, false, ◌||◌, Some, slice_get, Ordering, Less, Equal, Greater, refl, ap, ◌∙◌, ℤ, pos, negsuc}
 use Rattle.std.specs.Ordering.{match_ordering, nat_cmp}
 use Rattle.std.specs.Cmp.Lexicographic.{slice_cmp}
-use Rattle.std.proofs.lemmas.Option.{slice_get_within, get_or_from_slice_get}
-use Rattle.std.proofs.Math.Seq.{take-suc}
-use Rattle.serde_json.specs.Data.{Data, null, boolean, number, string, array, object, Items, no_items, item, Members, no_members, member, put, unsigned, negative, float}
+use Rattle.std.proofs.lemmas.List.{map-append}
+use Rattle.emc_base.proofs.Loops.{take_item}
+use Rattle.serde_json.specs.Data.{Data, Members, no_members, member, put}
 use Rattle.serde_json.specs.Find.{of_integer, is_float}
-use Rattle.serde_json.specs.View.{items_of}
-use Rattle.serde_json.specs.Written.{has_float, items_have_float, members_have_float}
+use Rattle.serde_json.specs.Written.{has_float, members_have_float}
 use Rattle.emc_base.specs.declared.value.Value.{Value}
 use Rattle.emc_base.specs.declared.value.Value.TheVariants as value
-use Rattle.json_form.specs.Trees.{value_tree, key_tree, array_of, put_all, object_of}
+use Rattle.json_form.specs.Trees.{value_tree, key_tree, array_of, put_all}
 
 pub put_all-append : (start : Members) (entries : List (List ℕ × Data)) (entry : List ℕ × Data)
     → put_all start (entries ++ entry ∷ []) ≡ put entry.0 entry.1 (put_all start entries)
 put_all-append start [] entry = refl
 put_all-append start (first ∷ entries) entry = put_all-append (put first.0 first.1 start) entries entry
 
-map-append : {X Y : Type 0} (f : X → Y) (xs : List X) (x : X) → map f (xs ++ x ∷ []) ≡ map f xs ++ f x ∷ []
-map-append f [] x = refl
-map-append f (first ∷ xs) x = ap (λ rest. f first ∷ rest) (map-append f xs x)
-
-take-one_more : {X : Type 0} (xs : List X) (i : ℕ) (x : X) → slice_get xs i ≡ Some x → take (i + 1) xs ≡ take i xs ++ x ∷ []
-take-one_more xs i x here = rw add-one (take-suc xs i x (slice_get_within xs i x here) ∙ ap (λ y. take i xs ++ y ∷ []) (get_or_from_slice_get xs i x x here))
-
 -- one more turn of a loop that puts a member for each
 pub put_all-take : {X : Type 0} (start : Members) (f : X → List ℕ × Data) (xs : List X) (i : ℕ) (x : X) → slice_get xs i ≡ Some x
     → put_all start (map f (take (i + 1) xs)) ≡ put (f x).0 (f x).1 (put_all start (map f (take i xs)))
 put_all-take start f xs i x here =
-    ap (λ taken. put_all start (map f taken)) (take-one_more xs i x here)
-    ∙ ap (put_all start) (map-append f (take i xs) x) ∙ put_all-append start (map f (take i xs)) (f x)
+    ap (λ taken. put_all start (map f taken)) (take_item xs i x here)
+    ∙ ap (put_all start) (map-append f (take i xs) (x ∷ [])) ∙ put_all-append start (map f (take i xs)) (f x)
 
 members_put : (o : Ordering) (name : List ℕ) (d e : Data) (other : List ℕ) (rest later : Members) → has_float d ≡ false → has_float e ≡ false
     → members_have_float rest ≡ false → members_have_float later ≡ false

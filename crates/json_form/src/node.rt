@@ -1,7 +1,7 @@
 ghost use Rattle.std.specs.Prelude.{◌≡◌, is_some, option_map, slice_get, length, map};
 ghost use Rattle.std.specs.Map.Iter.{deref_pair};
 ghost use Rattle.serde_json.specs.Find.{get, as_array, as_bool, as_null, as_object, as_str, pointer as points_to};
-ghost use Rattle.serde_json.specs.View.{view};
+ghost use Rattle.serde_json.specs.View.{members_view, view};
 ghost use Rattle.json_form.specs.Parts.{count_in, items_in, members_in, whole_of};
 ghost use Rattle.json_form.specs.Nodes.{part_of};
 
@@ -37,7 +37,16 @@ impl<'a> Node<'a> {
         Some(Node { value })
     }
 
-    /// The member at a place, in byte order of the names; None where the node is no object or has fewer members.
+    /// The members by their names; None where the node is no object. To go through all of them takes one walk, where as many calls of
+    /// [`Node::member_at`] would take the square of their number.
+    pub fn members(&self) -> Option<&'a Map<String, Value>>
+        ensures { option_map (λ members. members_view members.now.entries) result ≡ as_object (part_of self.now) }
+    {
+        self.value.as_object()
+    }
+
+    /// The member at a place, in byte order of the names; None where the node is no object or has fewer members. It counts the members
+    /// before that place.
     pub fn member_at(&self, i: usize) -> Option<(&'a str, Node<'a>)>
         ensures { option_map (λ m. (m.0.now, part_of m.1)) result ≡ slice_get (members_in (part_of self.now)) i }
     {

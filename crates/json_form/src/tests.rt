@@ -61,6 +61,27 @@ fn a_document_is_read(rt: HostRuntime) -> Result<(), Fail> {
     Ok(())
 }
 
+// The name of the first set. It is lent for as long as the document is, and not as the nodes on the way.
+fn first_name(doc: &Doc) -> Option<&str> {
+    let sets = doc.root().member("sets")?;
+    let set = sets.item(0)?;
+    set.member("name")?.text()
+}
+
+#[test]
+fn what_is_lent_outlives_its_node(rt: HostRuntime) -> Result<(), Fail> {
+    let text = b"{\"sets\": [{\"name\": \"People\", \"most\": 12}]}";
+    let doc = Doc::of_bytes(rt.alloc(), &Bin::of(rt.alloc(), text)?)?;
+    assert_eq!(rt; first_name(&doc).ok_or("no name")?, "People");
+    let set = doc.root().pointer("/sets/0").ok_or("no first set")?;
+    let members = set.members().ok_or("no members")?;
+    let mut names = members.keys();
+    assert_eq!(rt; names.next().ok_or("no first member")?.as_str(), "most");
+    assert_eq!(rt; names.next().ok_or("no second member")?.as_str(), "name");
+    assert!(rt; names.next().is_none());
+    Ok(())
+}
+
 #[test]
 fn other_bytes_are_no_document(rt: HostRuntime) -> Result<(), Fail> {
     for text in ["", "{", "[1,]", "nil", "{} {}"] {

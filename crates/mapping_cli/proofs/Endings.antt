@@ -1,5 +1,5 @@
 -- What was answered and what was written make a run.
-use Rattle.std.proofs.Common.{◌≡◌, ◌⊎◌, ℕ, List, [], ◌∷◌, ◌++◌, Option, Some, None, MatchOption, option_map, inl, inr, refl, sym, ap, ◌∙◌, subst, ◌==◌, length, true, arith}
+use Rattle.std.proofs.Common.{◌≡◌, ℕ, List, [], ◌∷◌, ◌++◌, Option, Some, None, MatchOption, option_map, inl, inr, refl, sym, ap, ◌∙◌, subst, ◌==◌, length, true, arith}
 use Rattle.std.proofs.lemmas.Bool.Decides.{nat_tests}
 use Rattle.std.specs.Bool.{⊤}
 use Rattle.std.proofs.lemmas.List.{append-nil}
@@ -10,8 +10,8 @@ use Rattle.mapping_core.specs.Rules.{least_rule, meaning_at}
 use Rattle.mapping_cli.specs.declared.status.Status.{Status}
 use Rattle.mapping_cli.specs.declared.status.Status.TheVariants.{Done, MappingRefused, DocumentRefused, Usage, FileFault, SinkFault, Memory}
 use Rattle.mapping_cli.specs.Commands.{Command, check, command_of, inputs_of}
-use Rattle.mapping_cli.specs.Gives.{AreContents, Gives, GivesCheck, GivesOf, GivesOn, GivesVerdict, Says, first_fault}
-use Rattle.mapping_cli.specs.Runs.{Breaks, Ends, FailsToRead, Finishes, Runs}
+use Rattle.mapping_cli.specs.Gives.{AreContents, GivesOf, GivesOn, GivesVerdict, Says, first_fault}
+use Rattle.mapping_cli.specs.Runs.{Ends, FailsToRead, Finishes, Runs}
 use Rattle.mapping_cli.specs.Texts.{rule_text, usage_text}
 use Rattle.mapping_cli.specs.World.{World}
 

@@ -1,5 +1,5 @@
 -- Reading the input files of a command, one after the other.
-use Rattle.std.proofs.Common.{◌≡◌, ◌⊎◌, ◌<◌, ◌≤◌, ◌+◌, ℕ, zero, suc, List, [], ◌∷◌, ◌++◌, map, take, length, Option, Some, None, Result, Ok, Err, IfSome, IsSomeAnd, IsErrAnd, MatchOption, nat_lt, false, true, if◌then◌else◌, codes, inl, inr, refl, sym, ap, ◌∙◌, subst, subst₂, arith, ⊎_elim}
+use Rattle.std.proofs.Common.{◌≡◌, ◌<◌, ◌≤◌, ℕ, zero, suc, List, [], ◌∷◌, map, length, Option, Some, None, Result, Ok, Err, IfSome, IsSomeAnd, IsErrAnd, MatchOption, nat_lt, false, true, if◌then◌else◌, codes, inl, inr, refl, sym, ap, ◌∙◌, subst, subst₂, arith}
 use Rattle.std.proofs.lemmas.Bool.Decides.{nat_tests}
 use Rattle.emc_base.specs.declared.files.ReadFault.{ReadFault}
 use Rattle.emc_base.specs.declared.files.ReadFault.TheVariants as fault

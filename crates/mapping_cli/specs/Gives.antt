@@ -1,5 +1,5 @@
 -- What a command prints, and the status it ends with, by the content of its input files. The first case that applies decides.
-use Rattle.std.specs.Prelude.{◌≡◌, ◌⊎◌, ℕ, List, [], ◌∷◌, map, length, nat_lt, Option, Some, None, MatchOption, IfSome, if◌then◌else◌, codes, ⊤}
+use Rattle.std.specs.Prelude.{◌≡◌, ◌⊎◌, ℕ, List, [], ◌∷◌, map, length, nat_lt, Option, Some, None, MatchOption, IfSome, if◌then◌else◌, codes}
 use Rattle.emc_base.specs.Files.{FileMap}
 use Rattle.round_trip.specs.Schema.{Schema}
 use Rattle.round_trip.specs.RoundTrips.{KeepsEveryState, RoundTrips}

@@ -1,5 +1,5 @@
 -- What the program reads from and writes to, as far as it is told, with the two counts of faults.
-use Rattle.std.specs.Prelude.{◌≡◌, ℕ, List, Option}
+use Rattle.std.specs.Prelude.{ℕ, List, Option}
 use Rattle.emc_base.specs.Files.{FileMap}
 
 pub record World : Type 0 where

@@ -1,6 +1,7 @@
 use crate::commands::run;
 use crate::forms::{CSDL, FORMS, LOSING_MSL, MSL, SSDL};
 use emc_base::{Bin, MemFiles, MemSink, Seq, Txt};
+use json_form::{Doc, DocFault};
 use std::alloc::Global;
 use std::process::Abort;
 
@@ -193,36 +194,84 @@ fn tells_a_read_or_a_write_that_failed(rt: HostRuntime) {
     prints(&rt, rt.alloc(), &CHECK, &held, &broken, ("acc", 5));
 }
 
-// Bytes of a CSDL file that is no JSON.
-fn is_not_json(rt: &impl Abort, alloc: Global, bytes: &[u8]) {
-    let held = [("M", bytes), ("S", SSDL.as_bytes()), ("P", MSL.as_bytes())];
-    let answer = ("rule V1 csdl \"\"\n", 1);
+/// Each file of the first example, and what is told where it is no JSON.
+const FILES: [(&str, &str, &str); 3] = [
+    ("M", CSDL, "rule V1 csdl \"\"\n"),
+    ("S", SSDL, "rule V1 ssdl \"\"\n"),
+    ("P", MSL, "rule V1 msl \"\"\n"),
+];
+
+// What `check` prints of the first example, where a file of it holds these bytes instead.
+fn tells_with(rt: &impl Abort, alloc: Global, (name, bytes): (&str, &[u8]), answer: (&str, u8)) {
+    let held = [
+        ("M", CSDL.as_bytes()),
+        ("S", SSDL.as_bytes()),
+        ("P", MSL.as_bytes()),
+        (name, bytes),
+    ];
     prints(rt, alloc, &CHECK, &held, &NO_FAULTS, answer);
 }
 
 #[test]
 fn refuses_each_proper_prefix(rt: HostRuntime) {
-    let bytes = CSDL.as_bytes();
-    for end in 0..bytes.len() {
-        is_not_json(&rt, rt.alloc(), &bytes[..end]);
+    for (name, document, text) in FILES {
+        refuses_prefixes(&rt, rt.alloc(), name, document.as_bytes(), text);
     }
 }
 
+fn refuses_prefixes(rt: &impl Abort, alloc: Global, name: &str, document: &[u8], text: &str) {
+    for end in 0..document.len() {
+        tells_with(rt, alloc, (name, &document[..end]), (text, 1));
+    }
+}
+
+/// Bytes from the outside, and whether they are JSON.
+const HOSTILE: [(&[u8], bool); 21] = [
+    // a byte order mark
+    (b"\xef\xbb\xbf{}", false),
+    // half of a surrogate pair
+    (b"\"\\ud800\"", false),
+    (b"\"\\ud83d\\ude00\"", true),
+    // an overlong, a truncated and a surrogate sequence
+    (b"\"\xc0\xaf\"", false),
+    (b"\"\xe2\x82\"", false),
+    (b"\"\xed\xa0\x80\"", false),
+    // numbers past the floats, at and past the ends of 64 bits, and below zero at zero
+    (b"1e999", false),
+    (b"-1e999", false),
+    (b"1e-999", true),
+    (b"-0", true),
+    (b"9223372036854775807", true),
+    (b"9223372036854775808", true),
+    (b"-9223372036854775808", true),
+    (b"-9223372036854775809", true),
+    (b"18446744073709551615", true),
+    (b"18446744073709551616", true),
+    (b"01", false),
+    // members that stand twice
+    (b"{\"Namespace\":\"N\",\"Namespace\":\"N\"}", true),
+    // two documents, none, and a cut off word
+    (b"[1] [2]", false),
+    (b" ", false),
+    (b"nul", false),
+];
+
+// What reading a document and `check` tell of these bytes.
+fn is_read_as(rt: &impl Abort, alloc: Global, bytes: &[u8], is_json: bool) {
+    let read = Doc::of_bytes(alloc, &Bin::of(alloc, bytes).expect(rt, "memory"));
+    let (fault, text) = if is_json {
+        (None, "rule V99 msl \"\"\n")
+    } else {
+        (Some(DocFault::NotJson), "rule V1 csdl \"\"\n")
+    };
+    assert_eq!(rt; read.err(), fault);
+    tells_with(rt, alloc, ("M", bytes), (text, 1));
+}
+
 #[test]
-fn refuses_hostile_bytes(rt: HostRuntime) {
-    let texts: [&[u8]; 9] = [
-        b"\xef\xbb\xbf{}",
-        b"\"\\ud800\"",
-        b"\"\xc0\xaf\"",
-        b"\"\xe2\x82\"",
-        b"\"\xed\xa0\x80\"",
-        b"1e999",
-        b"01",
-        b"[1] [2]",
-        b"nul",
-    ];
-    for text in texts {
-        is_not_json(&rt, rt.alloc(), text);
+fn reads_hostile_documents(rt: HostRuntime) {
+    for (bytes, is_json) in HOSTILE {
+        is_read_as(&rt, rt.alloc(), bytes, is_json);
     }
 }
 
@@ -239,35 +288,10 @@ fn nested(rt: &impl Abort, alloc: Global, depth: usize, closed: bool) -> Vec<u8>
 
 #[test]
 fn refuses_deep_nesting(rt: HostRuntime) {
-    let deep = nested(&rt, rt.alloc(), 128, true);
-    is_not_json(&rt, rt.alloc(), deep.as_slice());
+    let deepest = nested(&rt, rt.alloc(), 127, true);
+    is_read_as(&rt, rt.alloc(), deepest.as_slice(), true);
+    let deeper = nested(&rt, rt.alloc(), 128, true);
+    is_read_as(&rt, rt.alloc(), deeper.as_slice(), false);
     let open = nested(&rt, rt.alloc(), 1_048_576, false);
-    is_not_json(&rt, rt.alloc(), open.as_slice());
-    let allowed = nested(&rt, rt.alloc(), 127, true);
-    let held: [(&str, &[u8]); 1] = [("M", allowed.as_slice())];
-    let words = ["check", "M", "M", "M"];
-    let answer = ("rule V99 msl \"\"\n", 1);
-    prints(&rt, rt.alloc(), &words, &held, &NO_FAULTS, answer);
-}
-
-#[test]
-fn reads_other_json(rt: HostRuntime) {
-    let texts = [
-        "-0",
-        "9223372036854775807",
-        "9223372036854775808",
-        "-9223372036854775808",
-        "-9223372036854775809",
-        "18446744073709551615",
-        "18446744073709551616",
-        r#"{"Namespace":"N","Namespace":"N"}"#,
-    ];
-    for text in texts {
-        tells(
-            &rt,
-            rt.alloc(),
-            [text, SSDL, MSL],
-            ("rule V99 msl \"\"\n", 1),
-        );
-    }
+    is_read_as(&rt, rt.alloc(), open.as_slice(), false);
 }

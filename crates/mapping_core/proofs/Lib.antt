@@ -1,3 +1,3 @@
-pub mod Turns
 pub mod Plain
 pub mod LostProperty
+pub mod Meant

@@ -1,5 +1,5 @@
 -- What is shown of a property that isn't written is a failure.
-use Rattle.std.proofs.Common.{◌≡◌, ◌⊎◌, ◌≤◌, ◌<◌, ℕ, zero, suc, List, [], ◌∷◌, length, map, Option, Some, None, unwrap_or, inl, inr, refl, sym, ap, ◌∙◌, subst, ◌++◌, slice_get, Contains, All, AllPairs, pos, arith, ⊎_elim}
+use Rattle.std.proofs.Common.{◌≡◌, ◌⊎◌, ◌≤◌, ◌<◌, ℕ, zero, suc, List, [], ◌∷◌, length, Some, unwrap_or, inl, inr, refl, sym, ap, ◌∙◌, subst, ◌++◌, slice_get, Contains, AllPairs, pos, arith, ⊎_elim}
 use Rattle.std.proofs.lemmas.List.Elements.{All-contains}
 use Rattle.std.specs.Option.{option_map_or}
 use Rattle.std.proofs.lemmas.Option.{slice_get_within}
@@ -13,7 +13,7 @@ use Rattle.edm_types.specs.declared.model.EntityModel.{EntityModel}
 use Rattle.edm_types.specs.declared.model.EntityType.{EntityType}
 use Rattle.edm_types.specs.declared.model.EntitySet.{EntitySet}
 use Rattle.edm_types.specs.declared.model.Prop.{Prop}
-use Rattle.edm_types.specs.Lists.{At}
+use Rattle.emc_base.specs.Lists.{At}
 use Rattle.edm_types.specs.Entities.{key_of, key_props, props_of}
 use Rattle.edm_types.specs.State.{State, entities_in, links_in}
 use Rattle.round_trip.specs.declared.FailKind.TheVariants.{Same}
@@ -23,7 +23,7 @@ use Rattle.round_trip.specs.FailsAt.{FailsAt}
 use Rattle.emc_base.specs.declared.place.Place.{Place}
 use Rattle.one_table.specs.OneTable.{IsOneTable, first_type}
 use Rattle.one_table.specs.Lost.{IsLost, IsNullable, lost_values}
-use Rattle.one_table.proofs.Lists.{all_from_members, only_place, only_member, only_stands}
+use Rattle.emc_base.proofs.Lists.{all_from_members, only_place, only_member, only_stands}
 use Rattle.one_table.proofs.Fails.{fails_by_same}
 use Rattle.one_table.proofs.Unwritten.{value_fails}
 use Rattle.first_form.specs.Samples.{AllowsSamples, sample_of}

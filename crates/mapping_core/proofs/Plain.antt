@@ -1,9 +1,9 @@
 -- A state's tree has no float.
-use Rattle.std.proofs.Common.{◌≡◌, ℕ, List, [], ◌∷◌, ◌++◌, map, Bool, true, false, fold, is_none, cond, refl, codes}
+use Rattle.std.proofs.Common.{◌≡◌, ℕ, List, [], ◌∷◌, map, Bool, true, false, fold, is_none, cond, refl, codes}
 use Rattle.std.specs.List.{enumerate_from}
-use Rattle.serde_json.specs.Data.{Data, string, object, Members, no_members, put}
+use Rattle.serde_json.specs.Data.{string, Members, no_members, put}
 use Rattle.serde_json.specs.Written.{has_float, members_have_float}
-use Rattle.json_form.specs.Trees.{value_tree, key_tree, array_of, put_all}
+use Rattle.json_form.specs.Trees.{key_tree, array_of, put_all}
 use Rattle.json_form.proofs.Objects.{members_have_float-put, put_all-plain, array_of-plain, value_tree-plain, key_tree-plain}
 use Rattle.edm_types.specs.declared.model.EntityModel.{EntityModel}
 use Rattle.edm_types.specs.declared.model.Assoc.{Assoc}
@@ -23,9 +23,9 @@ link_tree-plain assoc link =
     members_have_float-put assoc.second.role (key_tree link.second) (put assoc.first.role (key_tree link.first) no_members) (key_tree-plain link.second)
     (members_have_float-put assoc.first.role (key_tree link.first) no_members (key_tree-plain link.first) refl)
 
-cond-plain : (b : Bool) (more members : Members) → members_have_float more ≡ false → members_have_float members ≡ false → members_have_float (cond b more members) ≡ false
-cond-plain true more members plain none = plain
-cond-plain false more members plain none = none
+cond-plain : (b : Bool) (more fewer : Members) → members_have_float more ≡ false → members_have_float fewer ≡ false → members_have_float (cond b more fewer) ≡ false
+cond-plain true more fewer plain none = plain
+cond-plain false more fewer plain none = none
 
 put_links-plain : (state : State) (members : Members) (entry : ℕ × Assoc) → members_have_float members ≡ false → members_have_float (put_links state members entry) ≡ false
 put_links-plain state members entry none =
@@ -35,8 +35,8 @@ put_links-plain state members entry none =
 
 all_links-plain : (state : State) (members : Members) (entries : List (ℕ × Assoc)) → members_have_float members ≡ false
     → members_have_float (fold (put_links state) members entries) ≡ false
-all_links-plain state members [] none = none
-all_links-plain state members (entry ∷ entries) none = all_links-plain state (put_links state members entry) entries (put_links-plain state members entry none)
+all_links-plain state start [] none = none
+all_links-plain state start (entry ∷ entries) none = all_links-plain state (put_links state start entry) entries (put_links-plain state start entry none)
 
 pub state_tree-plain : (model : EntityModel) (state : State) → has_float (state_tree model state) ≡ false
 state_tree-plain model state =

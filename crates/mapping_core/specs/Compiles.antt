@@ -1,5 +1,5 @@
 -- What compiling three documents answers, and when.
-use Rattle.std.specs.Prelude.{◌≡◌, ◌↔◌, ℕ, ◌≤◌, List, Option, Some, None, Result, Ok, Err, IsSome, unwrap_or, ⊤}
+use Rattle.std.specs.Prelude.{◌≡◌, ◌↔◌, ℕ, ◌≤◌, List, Some, Result, Ok, Err, IsSome, unwrap_or, ⊤}
 use Rattle.edm_types.specs.State.{State}
 use Rattle.round_trip.specs.declared.FailKind.{FailKind}
 use Rattle.round_trip.specs.declared.FailKind.TheVariants as kind
@@ -11,7 +11,7 @@ use Rattle.mapping_core.specs.declared.compiled.Compiled.{Compiled}
 use Rattle.mapping_core.specs.declared.verdict.Failure.{Failure}
 use Rattle.mapping_core.specs.declared.verdict.Verdict.{Verdict}
 use Rattle.mapping_core.specs.declared.verdict.Verdict.TheVariants.{Rule, Fails, Memory}
-use Rattle.mapping_core.specs.Rules.{least_rule, meaning_at}
+use Rattle.mapping_core.specs.Rules.{Means, least_rule}
 use Rattle.mapping_core.specs.StateTree.{IsInKeyOrder}
 
 -- the place of a kind in the order in which kinds are told
@@ -30,11 +30,6 @@ pub record IsFailureOf (schema : Schema) (failure : Failure) : Type 0 where
   pub given : IsSome failure.other ↔ (failure.kind ≡ kind.Same)
   pub ordered : IsInKeyOrder schema.model failure.state
   pub other_ordered : IsInKeyOrder schema.model (unwrap_or failure.other failure.state)
-
--- The documents break no rule, and this is what they mean.
-pub record Means (csdl ssdl msl : List ℕ) (schema : Schema) : Type 0 where
-  pub unbroken : least_rule csdl ssdl msl ≡ None
-  pub meaning : meaning_at csdl ssdl msl ≡ Some schema
 
 -- Ok where every legal state of what the documents mean round-trips; Rule where one is broken, with the one that is told; Fails
 -- where a legal state fails. Memory says nothing.

@@ -1,6 +1,6 @@
 -- Which rule of the three documents is broken, and what they mean where none is.
 -- Rule 1: the bytes aren't JSON. Rule 99: the documents aren't of the form that is built so far; it comes last.
-use Rattle.std.specs.Prelude.{ℕ, List, [], Option, Some, None, option_and_then}
+use Rattle.std.specs.Prelude.{◌≡◌, ℕ, List, [], Option, Some, None, option_and_then}
 use Rattle.serde_json.specs.Data.{Data}
 use Rattle.json_form.specs.Parts.{tree_at}
 use Rattle.edm_types.specs.declared.faults.RuleFault.{RuleFault}
@@ -35,3 +35,15 @@ meaning_at csdl ssdl msl = option_and_then (λ c. option_and_then (λ s. option_
 -- the broken rule that is told: that of the first file that breaks one, the least of that file
 abbrev pub least_rule : List ℕ → List ℕ → List ℕ → Option RuleFault
 least_rule csdl ssdl msl = first_of (unread Csdl (tree_at csdl)) (first_of (unread Ssdl (tree_at ssdl)) (first_of (unread Msl (tree_at msl)) (unbuilt (meaning_at csdl ssdl msl))))
+
+-- The documents break no rule, and this is what they mean.
+pub record Means (csdl ssdl msl : List ℕ) (schema : Schema) : Type 0 where
+  pub unbroken : least_rule csdl ssdl msl ≡ None
+  pub meaning : meaning_at csdl ssdl msl ≡ Some schema
+
+-- some three documents that break no rule mean this
+pub record IsMeant (schema : Schema) : Type 0 where
+  pub csdl : List ℕ
+  pub ssdl : List ℕ
+  pub msl : List ℕ
+  pub means : Means csdl ssdl msl schema

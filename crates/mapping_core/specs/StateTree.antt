@@ -6,7 +6,7 @@ use Rattle.std.specs.List.{enumerate_from}
 use Rattle.std.specs.declared.cmp.Ordering.TheVariants.{Less}
 use Rattle.std.specs.Cmp.Lexicographic.{slice_cmp}
 use Rattle.serde_json.specs.Data.{Data, string, object, Members, no_members, put}
-use Rattle.json_form.specs.Trees.{value_tree, key_tree, array_of, put_all, object_of}
+use Rattle.json_form.specs.Trees.{value_tree, key_tree, array_of, put_all}
 use Rattle.emc_base.specs.declared.ids.PropId.{PropId}
 use Rattle.emc_base.specs.declared.ids.TypeId.{TypeId}
 use Rattle.emc_base.specs.declared.ids.SetId.{SetId}

@@ -1,5 +1,5 @@
 -- What the steps of compiling answer.
-use Rattle.std.specs.Prelude.{◌≡◌, ℕ, Option, Some, None, Result, Ok, Err, ⊤}
+use Rattle.std.specs.Prelude.{◌≡◌, Option, Some, None, Result, Ok, Err, ⊤}
 use Rattle.serde_json.specs.Data.{Data}
 use Rattle.json_form.specs.declared.doc.Doc.{Doc}
 use Rattle.json_form.specs.Documents.{tree_of}

@@ -1,10 +1,9 @@
 -- What is shown of a mapping of the first form that loses a property.
-use Rattle.std.specs.Prelude.{◌≡◌, ◌↔◌, List, [], ◌∷◌, map, pos, Option, Some}
+use Rattle.std.specs.Prelude.{◌≡◌, List, [], ◌∷◌, map, pos, Some}
 use Rattle.emc_base.specs.declared.ids.PropId.{PropId}
 use Rattle.emc_base.specs.declared.value.Kind.{Kind}
 use Rattle.emc_base.specs.declared.value.Value.{Value}
 use Rattle.emc_base.specs.declared.value.Value.TheVariants as value
-use Rattle.emc_base.specs.declared.place.Place.{Place}
 use Rattle.edm_types.specs.declared.model.EntityType.{EntityType}
 use Rattle.edm_types.specs.declared.model.EntitySet.{EntitySet}
 use Rattle.edm_types.specs.State.{State}

@@ -1,11 +1,13 @@
 ghost use Rattle.std.specs.Prelude.{◌≡◌};
 ghost use Rattle.round_trip.specs.RoundTrips.{KeepsEveryState, RoundTrips};
 ghost use Rattle.mapping_core.specs.Parts.{schema_of};
+ghost use Rattle.mapping_core.specs.Rules.{IsMeant};
 
 use edm_types::{EntityModel, Mapping, StoreModel};
 use std::marker::Model;
 
-/// An accepted mapping, which contracts see as what its documents mean. Every legal state of its model has tables of its own.
+/// An accepted mapping, which contracts see as what its documents mean. They break no rule, and every legal state of the model has
+/// tables of its own.
 #[derive(Drop)]
 pub struct Compiled {
     model: EntityModel,
@@ -16,6 +18,7 @@ pub struct Compiled {
 impl Model for Compiled {
     ghost use Rattle.round_trip.specs.RoundTrips.{KeepsEveryState, RoundTrips};
     ghost use Rattle.round_trip.specs.Schema.{Schema};
+    ghost use Rattle.mapping_core.specs.Rules.{IsMeant};
     ghost use Rattle.std.specs.Coded.{codes};
     ghost use Rattle.edm_types.specs.contracts.model.TypeNode as node;
 
@@ -25,7 +28,9 @@ impl Model for Compiled {
 
     ghost view = { λ c. record { model = c.model; store = c.store; mapping = c.mapping } };
 
-    ghost invariant = { λ c. RoundTrips (record { model = c.model; store = c.store; mapping = c.mapping }) × KeepsEveryState (record { model = c.model; store = c.store; mapping = c.mapping }) };
+    ghost invariant = { λ c. IsMeant (record { model = c.model; store = c.store; mapping = c.mapping })
+        × RoundTrips (record { model = c.model; store = c.store; mapping = c.mapping })
+        × KeepsEveryState (record { model = c.model; store = c.store; mapping = c.mapping }) };
 }
 
 /// What an accepted mapping stands on.
@@ -36,8 +41,9 @@ pub struct Parts<'a> {
 }
 
 impl Compiled {
-    // What is accepted has to round-trip.
+    // What is accepted has to be meant by documents, and to round-trip.
     pub(crate) fn new(model: EntityModel, store: StoreModel, mapping: Mapping) -> Compiled
+        requires meant { IsMeant (record { model = model; store = store; mapping = mapping }) }
         requires round_trips { RoundTrips (record { model = model; store = store; mapping = mapping }) }
         requires keeps { KeepsEveryState (record { model = model; store = store; mapping = mapping }) }
         ensures { result ≡ record { model = model; store = store; mapping = mapping } }
@@ -49,9 +55,10 @@ impl Compiled {
         }
     }
 
-    /// Lends the model, the store and the mapping, of which the round trip holds.
+    /// Lends the model, the store and the mapping: documents that break no rule mean them, and the round trip holds of them.
     pub fn parts(&self) -> Parts<'_>
         ensures lends { schema_of result ≡ self.now }
+        ensures meant { IsMeant self.now }
         ensures round_trips { RoundTrips self.now }
         ensures keeps { KeepsEveryState self.now }
     {

@@ -1,5 +1,5 @@
 ghost use Rattle.std.specs.Prelude.{◌≡◌, ◌<◌, IfOk, length, option_map};
-ghost use Rattle.edm_types.specs.Lists.{At};
+ghost use Rattle.emc_base.specs.Lists.{At};
 ghost use Rattle.json_form.specs.Documents.{tree_of};
 ghost use Rattle.json_form.specs.Parts.{tree_at};
 ghost use Rattle.one_table.specs.OneTable.{IsOneTable, WritesEveryProperty};
@@ -7,7 +7,7 @@ ghost use Rattle.first_form.specs.Samples.{AllowsSamples};
 ghost use Rattle.first_form.specs.Schemas.{schema_of};
 ghost use Rattle.first_form.specs.Unwritten.{IsUnwritten};
 ghost use Rattle.mapping_core.specs.Compiles.{Compiles, IsFailureOf};
-ghost use Rattle.mapping_core.specs.Rules.{fault_of, meaning_at};
+ghost use Rattle.mapping_core.specs.Rules.{IsMeant, fault_of, meaning_at};
 ghost use Rattle.mapping_core.specs.Steps.{DecidesOn, IsFaultOrMemory, ReadsAs};
 
 use crate::compiled::Compiled;
@@ -95,6 +95,7 @@ fn broken(alloc: Global, file: VocabFile, rule: u8) -> Verdict
 
 // Accepts a meaning that writes every property, or shows a state that is lost.
 fn decide(alloc: Global, meaning: Meaning) -> Result<Compiled, Verdict>
+    requires meant { IsMeant (schema_of meaning) }
     requires one_table { IsOneTable (schema_of meaning) }
     requires samples { AllowsSamples meaning.model }
     ensures { DecidesOn (schema_of meaning) result }
@@ -109,6 +110,7 @@ fn decide(alloc: Global, meaning: Meaning) -> Result<Compiled, Verdict>
 }
 
 fn accepted(meaning: Meaning) -> Compiled
+    requires meant { IsMeant (schema_of meaning) }
     requires one_table { IsOneTable (schema_of meaning) }
     requires written { WritesEveryProperty (schema_of meaning) }
     ensures { result ≡ schema_of meaning }

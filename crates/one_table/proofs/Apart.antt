@@ -24,8 +24,8 @@ use Rattle.round_trip.specs.TablesAre.{TablesAre}
 use Rattle.round_trip.specs.FailsAt.{FailsBy}
 use Rattle.round_trip.specs.RoundTrips.{KeepsEveryState, RoundTrips}
 use Rattle.one_table.specs.OneTable.{IsOneTable, WritesEveryProperty, first_set, first_table}
-use Rattle.one_table.proofs.Lists.{only_member, only_stands, member_of_any, apart_by_key}
-use Rattle.one_table.proofs.Permutations.{same_members_permute}
+use Rattle.emc_base.proofs.Lists.{only_member, only_stands, member_of_any, apart_by_key}
+use Rattle.emc_base.proofs.Permutations.{same_members_permute}
 use Rattle.one_table.proofs.Entities.{member_in, same_entity, legal_set}
 use Rattle.one_table.proofs.GoodTables.{HoldsEntity, row_tells, entity_told}
 use Rattle.one_table.proofs.Fails.{never_clashes, never_null, never_disagrees, never_dangles}

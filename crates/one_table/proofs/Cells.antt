@@ -8,11 +8,11 @@ use Rattle.emc_base.specs.declared.value.Value.TheVariants.{Null}
 use Rattle.edm_types.specs.declared.mapping.Pair.{Pair}
 use Rattle.edm_types.specs.declared.store.Column.{Column}
 use Rattle.edm_types.specs.declared.data.Row.{Row}
-use Rattle.edm_types.specs.Lists.{At}
+use Rattle.emc_base.specs.Lists.{At}
 use Rattle.edm_types.specs.Rows.{cell_of, cells_of}
 use Rattle.round_trip.specs.Demand.{written_to}
-use Rattle.one_table.proofs.Lists.{member_of_map, contains_map, apart_from_head, apart_in_rest}
-use Rattle.one_table.proofs.Permutations.{contains_cases, contains_head, contains_tail}
+use Rattle.emc_base.proofs.Lists.{member_of_map, contains_map, apart_from_head, apart_in_rest}
+use Rattle.emc_base.proofs.Permutations.{contains_cases, contains_head, contains_tail}
 
 -- columns of one number are one
 pub same_col : (col other : ColId) → col.index ≡ other.index → col ≡ other

@@ -20,7 +20,7 @@ use Rattle.round_trip.specs.Legal.{IsLegal}
 use Rattle.round_trip.specs.Demand.{Writing, Writes, EntityWrites, WritesRow, Gives, DemandsRow, DemandsCell, entity_cells, key_columns, written_key, written_to}
 use Rattle.round_trip.specs.TablesAre.{HasNoClash}
 use Rattle.one_table.specs.OneTable.{IsOneTable, first_set, first_type, first_table}
-use Rattle.one_table.proofs.Lists.{nil_has_none, only_member, only_stands, only_at, all_of_none, any_from_member, same_by_key}
+use Rattle.emc_base.proofs.Lists.{nil_has_none, only_member, only_stands, only_at, all_of_none, any_from_member, same_by_key}
 use Rattle.one_table.proofs.Cells.{pair_cells, IsPairValue, pair_of_cell, cell_of_pair, written_once}
 use Rattle.one_table.proofs.Entities.{member_in, first_key, legal_set}
 

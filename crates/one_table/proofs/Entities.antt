@@ -13,8 +13,8 @@ use Rattle.edm_types.specs.Entities.{props_of, key_props, key_of, value_of, valu
 use Rattle.edm_types.specs.State.{State, entities_in}
 use Rattle.round_trip.specs.Legal.{IsLegal, IsLegalSet, HasAllowedNulls, HasValuesInDomain}
 use Rattle.one_table.specs.OneTable.{IsOneType, first_set, first_type}
-use Rattle.one_table.proofs.Lists.{only_place, only_at}
-use Rattle.one_table.proofs.Permutations.{contains_head, contains_tail}
+use Rattle.emc_base.proofs.Lists.{only_place, only_at}
+use Rattle.emc_base.proofs.Permutations.{contains_head, contains_tail}
 use Rattle.one_table.proofs.Cells.{same_number, other_number}
 
 -- types of one number are one

@@ -11,7 +11,7 @@ use Rattle.edm_types.specs.declared.store.Table.{Table}
 use Rattle.edm_types.specs.declared.store.Column.{Column}
 use Rattle.edm_types.specs.declared.data.Entity.{Entity}
 use Rattle.edm_types.specs.declared.data.Row.{Row}
-use Rattle.edm_types.specs.Lists.{At}
+use Rattle.emc_base.specs.Lists.{At}
 use Rattle.edm_types.specs.Entities.{key_of, value_of, props_of}
 use Rattle.edm_types.specs.State.{State, entities_in}
 use Rattle.edm_types.specs.Rows.{Tables, rows_in, cell_of, cells_of, row_key}
@@ -23,7 +23,7 @@ use Rattle.round_trip.specs.Demand.{DemandsRow, DemandsCell, entity_cells}
 use Rattle.round_trip.specs.TablesAre.{TablesAre, AreDemandedRows, HasDemandedCells}
 use Rattle.round_trip.specs.Satisfies.{Satisfies, AreSameTuples, IsWrittenTuple, IsShownTuple, IsWrittenLinkTuple, IsShownLinkTuple}
 use Rattle.one_table.specs.OneTable.{IsOneTable, IsFittingPair, first_set, first_table}
-use Rattle.one_table.proofs.Lists.{only_place, only_at, at_once, all_of_one, all_of_none, all_from_members, member_of_any}
+use Rattle.emc_base.proofs.Lists.{only_place, only_at, at_once, all_of_one, all_of_none, all_from_members, member_of_any}
 use Rattle.one_table.proofs.Cells.{IsPairValue, same_tuples}
 use Rattle.one_table.proofs.Entities.{IsMember, member_in, first_props, key_told_of}
 use Rattle.one_table.proofs.Demands.{key_pair, selected, demanded_row, row_demanded, demanded_cell, cell_demanded}

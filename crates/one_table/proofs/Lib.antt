@@ -1,5 +1,3 @@
-pub mod Lists
-pub mod Permutations
 pub mod Cells
 pub mod Entities
 pub mod Demands

@@ -21,8 +21,8 @@ use Rattle.edm_types.specs.State.{entities_in, IsState}
 use Rattle.round_trip.specs.Legal.{IsLegal, IsLegalSet, HasFittingType, HasAllowedNulls, HasValuesInDomain, HasProp}
 use Rattle.one_table.specs.OneTable.{IsOneType, first_set, first_type}
 use Rattle.one_table.specs.Lost.{entity_by, state_by, IsAllowed}
-use Rattle.one_table.proofs.Lists.{only_place, only_at, at_once, nil_at_none, all_of_one}
-use Rattle.one_table.proofs.Permutations.{contains_cases}
+use Rattle.emc_base.proofs.Lists.{only_place, only_at, at_once, nil_at_none, all_of_one}
+use Rattle.emc_base.proofs.Permutations.{contains_cases}
 use Rattle.one_table.proofs.Entities.{beside_here, beside_later, first_props}
 
 -- properties of one number are one

@@ -10,7 +10,7 @@ use Rattle.edm_types.specs.declared.store.Table.{Table}
 use Rattle.edm_types.specs.declared.store.Column.{Column}
 use Rattle.edm_types.specs.declared.data.Entity.{Entity}
 use Rattle.edm_types.specs.declared.data.Row.{Row}
-use Rattle.edm_types.specs.Lists.{At}
+use Rattle.emc_base.specs.Lists.{At}
 use Rattle.edm_types.specs.Entities.{key_of, value_of}
 use Rattle.edm_types.specs.State.{State, entities_in}
 use Rattle.edm_types.specs.Rows.{Tables, rows_in, cell_of, cells_of, row_key, AreTables}
@@ -20,7 +20,7 @@ use Rattle.round_trip.specs.RoundTrips.{HasGoodTables}
 use Rattle.round_trip.specs.Demand.{DemandsRow, DemandsCell, entity_cells}
 use Rattle.round_trip.specs.TablesAre.{TablesAre, AreDemandedRows, HasDemandedCells}
 use Rattle.one_table.specs.OneTable.{IsOneTable, IsFittingPair, first_set, first_table}
-use Rattle.one_table.proofs.Lists.{all_from_members, any_from_member, contains_map, apart_map}
+use Rattle.emc_base.proofs.Lists.{all_from_members, any_from_member, contains_map, apart_map}
 use Rattle.one_table.proofs.Cells.{row_with, length-row_with, cell-row_with, written_once, written_cases}
 use Rattle.one_table.proofs.Entities.{member_in, first_key, legal_set}
 use Rattle.one_table.proofs.Demands.{key_pair, same_demand, demanded_row, row_demanded, demanded_cell, cell_demanded, one_entity, no_clash}

@@ -20,7 +20,7 @@ use Rattle.round_trip.specs.Breaches.{place_at}
 use Rattle.round_trip.specs.FailsAt.{FailsAt, HasEntityOnly}
 use Rattle.one_table.specs.OneTable.{IsOneTable, IsFittingPair, first_set, first_type}
 use Rattle.one_table.specs.Lost.{entity_by, state_by, lost_values, IsAllowed, AreLost, IsLost, IsNullable}
-use Rattle.one_table.proofs.Lists.{only_place, only_member, only_stands, all_from_members}
+use Rattle.emc_base.proofs.Lists.{only_place, only_member, only_stands, all_from_members}
 use Rattle.one_table.proofs.Cells.{row_with, same_cells, same_number, other_number}
 use Rattle.one_table.proofs.Entities.{first_props, first_key, only_key}
 use Rattle.one_table.proofs.Demands.{key_pair}

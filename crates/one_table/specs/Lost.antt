@@ -9,7 +9,7 @@ use Rattle.edm_types.specs.declared.model.EntityModel.{EntityModel}
 use Rattle.edm_types.specs.declared.model.EntitySet.{EntitySet}
 use Rattle.edm_types.specs.declared.model.Prop.{Prop}
 use Rattle.edm_types.specs.declared.data.Entity.{Entity}
-use Rattle.edm_types.specs.Lists.{At}
+use Rattle.emc_base.specs.Lists.{At}
 use Rattle.edm_types.specs.Entities.{props_of, key_props}
 use Rattle.edm_types.specs.State.{State}
 use Rattle.round_trip.specs.Schema.{Schema}

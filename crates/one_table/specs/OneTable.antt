@@ -17,7 +17,7 @@ use Rattle.edm_types.specs.declared.store.Table.{Table}
 use Rattle.edm_types.specs.declared.store.Column.{Column}
 use Rattle.edm_types.specs.declared.mapping.Fragment.{Fragment}
 use Rattle.edm_types.specs.declared.mapping.Pair.{Pair}
-use Rattle.edm_types.specs.Lists.{At}
+use Rattle.emc_base.specs.Lists.{At}
 use Rattle.round_trip.specs.Schema.{Schema}
 
 abbrev pub first_set : SetId

@@ -1,9 +1,8 @@
 -- Where a state breaks a rule, and which breach is told: the least rule, at its first place.
 -- A spot orders the places of one rule: by set or association number, then by the order of the list, then by end or property.
 -- Source: the rules of `Legal`.
-use Rattle.std.specs.Prelude.{◌≡◌, ◌≢◌, ◌⊎◌, ℕ, ◌<◌, ◌≤◌, List, [], ◌∷◌, ◌++◌, All, Any, Some, false, codes}
+use Rattle.std.specs.Prelude.{◌≡◌, ◌≢◌, ◌⊎◌, ℕ, ◌<◌, ◌≤◌, List, [], ◌∷◌, ◌++◌, All, Some, false, codes}
 use Rattle.std.specs.Ordering.{nat_cmp}
-use Rattle.std.specs.declared.cmp.Ordering.{Ordering}
 use Rattle.std.specs.declared.cmp.Ordering.TheVariants.{Greater}
 use Rattle.std.specs.Cmp.Lexicographic.{slice_cmp}
 use Rattle.emc_base.specs.declared.ids.PropId.{PropId}
@@ -21,11 +20,11 @@ use Rattle.edm_types.specs.declared.model.Constraint.{Constraint}
 use Rattle.edm_types.specs.declared.data.Entity.{Entity}
 use Rattle.edm_types.specs.declared.data.Link.{Link}
 use Rattle.edm_types.specs.declared.faults.Breach.{Breach}
-use Rattle.edm_types.specs.Lists.{At}
+use Rattle.emc_base.specs.Lists.{At}
 use Rattle.edm_types.specs.IsA.{IsA}
 use Rattle.edm_types.specs.Entities.{props_of, value_of, values_of, key_of}
 use Rattle.edm_types.specs.State.{State, entities_in, links_in, IsIndependent}
-use Rattle.round_trip.specs.Legal.{HasProp, HasFittingType, HasEntityAt, HasCount, HasPrincipal, dependent_end}
+use Rattle.round_trip.specs.Legal.{HasFittingType, HasEntityAt, HasCount, HasPrincipal, dependent_end}
 
 -- a place by its three parts
 abbrev pub place_at : List ℕ → List Value → List ℕ → Place

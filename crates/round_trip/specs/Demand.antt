@@ -18,7 +18,7 @@ use Rattle.edm_types.specs.declared.mapping.CondOn.TheVariants as on
 use Rattle.edm_types.specs.declared.mapping.Test.TheVariants.{IsNull, Equals}
 use Rattle.edm_types.specs.declared.data.Entity.{Entity}
 use Rattle.edm_types.specs.declared.data.Link.{Link}
-use Rattle.edm_types.specs.Lists.{At}
+use Rattle.emc_base.specs.Lists.{At}
 use Rattle.edm_types.specs.Entities.{key_props, value_beside, value_of}
 use Rattle.edm_types.specs.State.{State, entities_in, links_in}
 use Rattle.edm_types.specs.Selected.{Selects}

@@ -1,6 +1,6 @@
 -- The five ways in which a legal state fails, each with its place.
 -- Source: the round-trip criterion of Melnik, Adya and Bernstein, SIGMOD 2007, part by part.
-use Rattle.std.specs.Prelude.{◌≡◌, ◌≢◌, ◌⊎◌, ℕ, List, [], ◌∷◌, ◌++◌, map, Contains, All, false, unwrap_or, slice_get, length, take, drop}
+use Rattle.std.specs.Prelude.{◌≡◌, ◌≢◌, ◌⊎◌, List, [], ◌++◌, map, Contains, All, false, slice_get, length, take, drop}
 use Rattle.std.specs.Option.{option_map_or}
 use Rattle.emc_base.specs.declared.ids.TableId.{TableId}
 use Rattle.emc_base.specs.declared.ids.ColId.{ColId}
@@ -13,7 +13,6 @@ use Rattle.emc_base.specs.declared.value.Value.TheVariants.{Null}
 use Rattle.edm_types.specs.declared.model.EntityModel.{EntityModel}
 use Rattle.edm_types.specs.declared.model.EntitySet.{EntitySet}
 use Rattle.edm_types.specs.declared.model.Assoc.{Assoc}
-use Rattle.edm_types.specs.declared.model.End.{End}
 use Rattle.edm_types.specs.declared.store.Table.{Table}
 use Rattle.edm_types.specs.declared.store.Column.{Column}
 use Rattle.edm_types.specs.declared.store.ForeignKey.{ForeignKey}
@@ -23,7 +22,7 @@ use Rattle.edm_types.specs.declared.mapping.Pair.{Pair}
 use Rattle.edm_types.specs.declared.data.Entity.{Entity}
 use Rattle.edm_types.specs.declared.data.Link.{Link}
 use Rattle.edm_types.specs.declared.data.Row.{Row}
-use Rattle.edm_types.specs.Lists.{At}
+use Rattle.emc_base.specs.Lists.{At}
 use Rattle.edm_types.specs.Entities.{key_props, key_of, value_beside}
 use Rattle.edm_types.specs.State.{State, entities_in, links_in, IsIndependent, IsSameState}
 use Rattle.edm_types.specs.Rows.{Tables, rows_in, row_key, AreSameTables}

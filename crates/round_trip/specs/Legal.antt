@@ -17,7 +17,7 @@ use Rattle.edm_types.specs.declared.model.Mult.{Mult}
 use Rattle.edm_types.specs.declared.model.Mult.TheVariants.{One, ZeroOrOne, Many}
 use Rattle.edm_types.specs.declared.data.Entity.{Entity}
 use Rattle.edm_types.specs.declared.data.Link.{Link}
-use Rattle.edm_types.specs.Lists.{At, AtMostOne}
+use Rattle.emc_base.specs.Lists.{At, AtMostOne}
 use Rattle.edm_types.specs.IsA.{IsA, IsConcrete}
 use Rattle.edm_types.specs.Entities.{props_of, value_of, values_of, key_of}
 use Rattle.edm_types.specs.State.{State, entities_in, links_in, IsIndependent, IsState}

@@ -8,7 +8,7 @@ use Rattle.edm_types.specs.declared.mapping.LinkFragment.{LinkFragment}
 use Rattle.edm_types.specs.declared.data.Entity.{Entity}
 use Rattle.edm_types.specs.declared.data.Link.{Link}
 use Rattle.edm_types.specs.declared.data.Row.{Row}
-use Rattle.edm_types.specs.Lists.{At}
+use Rattle.emc_base.specs.Lists.{At}
 use Rattle.edm_types.specs.State.{State, entities_in, links_in}
 use Rattle.edm_types.specs.Rows.{Tables, rows_in, cells_of}
 use Rattle.edm_types.specs.Selected.{Selects, Shows, ShowsLink}

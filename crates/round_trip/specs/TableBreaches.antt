@@ -12,7 +12,7 @@ use Rattle.edm_types.specs.declared.store.Column.{Column}
 use Rattle.edm_types.specs.declared.store.ForeignKey.{ForeignKey}
 use Rattle.edm_types.specs.declared.data.Row.{Row}
 use Rattle.edm_types.specs.declared.faults.Breach.{Breach}
-use Rattle.edm_types.specs.Lists.{At}
+use Rattle.emc_base.specs.Lists.{At}
 use Rattle.edm_types.specs.Rows.{Tables, rows_in, cell_of, row_key}
 use Rattle.round_trip.specs.Breaches.{place_at, IsFirstBreach}
 use Rattle.round_trip.specs.LegalTables.{Refers, FindsRow}

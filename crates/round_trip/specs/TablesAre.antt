@@ -8,7 +8,7 @@ use Rattle.emc_base.specs.declared.value.Value.TheVariants.{Null}
 use Rattle.edm_types.specs.declared.store.Table.{Table}
 use Rattle.edm_types.specs.declared.store.Column.{Column}
 use Rattle.edm_types.specs.declared.data.Row.{Row}
-use Rattle.edm_types.specs.Lists.{At}
+use Rattle.emc_base.specs.Lists.{At}
 use Rattle.edm_types.specs.State.{State}
 use Rattle.edm_types.specs.Rows.{Tables, rows_in, cell_of, row_key, AreTables}
 use Rattle.round_trip.specs.Schema.{Schema}

@@ -13,7 +13,7 @@ use Rattle.emc_base.specs.Domain.{InDomain}
 use Rattle.edm_types.specs.declared.model.EntitySet.{EntitySet}
 use Rattle.edm_types.specs.declared.model.Prop.{Prop}
 use Rattle.edm_types.specs.declared.data.Entity.{Entity}
-use Rattle.edm_types.specs.Lists.{At}
+use Rattle.emc_base.specs.Lists.{At}
 use Rattle.edm_types.specs.State.{entities_in}
 use Rattle.edm_types.specs.IsA.{IsA, IsConcrete, same}
 use Rattle.edm_types.specs.Entities.{props_of, value_of}

@@ -6,7 +6,7 @@ use Rattle.emc_base.specs.declared.value.Value.TheVariants.{Whole}
 use Rattle.edm_types.specs.declared.model.Mult.TheVariants.{One}
 use Rattle.edm_types.specs.declared.data.Entity.{Entity}
 use Rattle.edm_types.specs.declared.data.Link.{Link}
-use Rattle.edm_types.specs.Lists.{AtMostOne}
+use Rattle.emc_base.specs.Lists.{AtMostOne}
 use Rattle.edm_types.specs.IsA.{same}
 use Rattle.round_trip.specs.Legal.{AreLegalLinks, HasCount}
 use Rattle.worked_examples.specs.Ids.{type_id, assoc_id}

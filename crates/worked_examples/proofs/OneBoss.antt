@@ -14,7 +14,7 @@ use Rattle.edm_types.specs.declared.mapping.Cond.{Cond}
 use Rattle.edm_types.specs.declared.data.Entity.{Entity}
 use Rattle.edm_types.specs.declared.data.Link.{Link}
 use Rattle.edm_types.specs.declared.data.Row.{Row}
-use Rattle.edm_types.specs.Lists.{AtMostOne}
+use Rattle.emc_base.specs.Lists.{AtMostOne}
 use Rattle.edm_types.specs.IsA.{same}
 use Rattle.edm_types.specs.Rows.{cell_of}
 use Rattle.edm_types.specs.Selected.{Selects, MetByEntity, MetByRow, ShowsLink}

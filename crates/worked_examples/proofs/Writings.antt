@@ -18,7 +18,7 @@ use Rattle.edm_types.specs.declared.mapping.Test.TheVariants.{IsNull, Equals}
 use Rattle.edm_types.specs.declared.data.Entity.{Entity}
 use Rattle.edm_types.specs.declared.data.Link.{Link}
 use Rattle.edm_types.specs.declared.data.Row.{Row}
-use Rattle.edm_types.specs.Lists.{At}
+use Rattle.emc_base.specs.Lists.{At}
 use Rattle.edm_types.specs.State.{State, entities_in, links_in}
 use Rattle.edm_types.specs.Rows.{cell_of, row_key}
 use Rattle.edm_types.specs.Selected.{Selects}

@@ -1,4 +1,4 @@
-use Rattle.json_form.proofs.Loops.{map-taken}
+use Rattle.emc_base.proofs.Loops.{map-taken}
 use Rattle.serde_json.specs.View.{view}
 use Rattle.first_form.specs.Declaring.{column_of}
 use Rattle.first_form.proofs.declared_form.read_columns.Goals as goal

@@ -1,4 +1,4 @@
-use Rattle.std.proofs.Common.{◌≡◌, ◌∙◌, sym}
+use Rattle.std.proofs.Common.{sym}
 use Rattle.std.specs.Str.{bytes_eq}
 use Rattle.first_form.proofs.Places.{position-None}
 use Rattle.first_form.proofs.form.place_of.Goals as goal

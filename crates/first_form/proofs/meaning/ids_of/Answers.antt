@@ -1,4 +1,4 @@
-use Rattle.std.proofs.Common.{◌≡◌, ◌∙◌, ap, sym, add-one, zero-add, ◌++◌, ◌∷◌, [], take, ◌+◌, List, ℕ, suc}
+use Rattle.std.proofs.Common.{◌≡◌, ◌∙◌, ap, add-one, zero-add, ◌++◌, ◌∷◌, [], take, ◌+◌, List, ℕ, suc}
 use Rattle.emc_base.specs.declared.ids.PropId.{PropId}
 use Rattle.edm_types.specs.declared.store.Column.{Column}
 use Rattle.first_form.specs.Meaning.{ids_from}

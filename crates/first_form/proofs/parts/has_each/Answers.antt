@@ -1,4 +1,4 @@
-use Rattle.std.proofs.Common.{◌≡◌, ◌∙◌, sym, is_some}
+use Rattle.std.proofs.Common.{◌∙◌, sym, is_some}
 use Rattle.std.proofs.lemmas.List.Folds.{list_all-map}
 use Rattle.serde_json.specs.Find.{get}
 use Rattle.json_form.specs.Nodes.{part_of}

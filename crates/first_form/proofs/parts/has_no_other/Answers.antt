@@ -1,8 +1,8 @@
-use Rattle.std.proofs.Common.{◌≡◌, ◌||◌, sym, List, ℕ, Bool}
+use Rattle.std.proofs.Common.{◌||◌, sym, List, ℕ, Bool}
 use Rattle.serde_json.specs.Data.{Data}
 use Rattle.json_form.specs.Parts.{members_in}
 use Rattle.json_form.specs.Nodes.{part_of}
-use Rattle.json_form.proofs.Loops.{list_all-take_item, list_all-fails}
+use Rattle.emc_base.proofs.Loops.{list_all-take_item, list_all-fails}
 use Rattle.first_form.specs.Parts.{is_among, texts}
 use Rattle.first_form.proofs.parts.has_no_other.Goals as goal
 

@@ -1,4 +1,4 @@
-use Rattle.std.proofs.Common.{◌≡◌, ◌∙◌}
+use Rattle.std.proofs.Common.{◌∙◌}
 use Rattle.std.specs.Str.{bytes_eq}
 use Rattle.first_form.proofs.Members.{list_any-texts}
 use Rattle.first_form.proofs.parts.is_among.Goals as goal

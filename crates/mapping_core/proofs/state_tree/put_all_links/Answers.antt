@@ -1,8 +1,8 @@
-use Rattle.std.proofs.Common.{◌≡◌, ◌∙◌, ap, sym, fold}
+use Rattle.std.proofs.Common.{◌∙◌, ap, sym, fold}
 use Rattle.std.specs.List.{enumerate_from}
 use Rattle.serde_json.specs.View.{members_view}
 use Rattle.mapping_core.specs.StateTree.{put_links}
-use Rattle.mapping_core.proofs.Turns.{fold-enumerated, take-enumerated}
+use Rattle.emc_base.proofs.Loops.{fold-enumerated, take-enumerated}
 use Rattle.mapping_core.proofs.state_tree.put_all_links.Goals as goal
 
 pub loop-i-preserved : goal.loop-i-preserved

@@ -1,11 +1,11 @@
-use Rattle.std.proofs.Common.{◌≡◌, ◌∙◌, ap, sym, map, take}
+use Rattle.std.proofs.Common.{◌∙◌, ap, sym, map}
 use Rattle.std.specs.List.{enumerate_from}
 use Rattle.serde_json.specs.Data.{put}
 use Rattle.serde_json.specs.View.{members_view}
 use Rattle.json_form.specs.Trees.{put_all}
 use Rattle.json_form.proofs.Objects.{put_all-take}
 use Rattle.mapping_core.specs.StateTree.{set_member}
-use Rattle.mapping_core.proofs.Turns.{at_enumerated, take-enumerated}
+use Rattle.emc_base.proofs.Loops.{at_enumerated, take-enumerated}
 use Rattle.mapping_core.proofs.state_tree.put_sets.Goals as goal
 
 pub loop-i-preserved : goal.loop-i-preserved

@@ -1,4 +1,4 @@
-use Rattle.std.proofs.Common.{◌≡◌, ◌∙◌, ap, sym, get_or, map, take}
+use Rattle.std.proofs.Common.{◌∙◌, ap, sym, get_or}
 use Rattle.std.proofs.lemmas.Option.{slice_get-get_or}
 use Rattle.emc_base.specs.declared.ids.PropId.{PropId}
 use Rattle.serde_json.specs.Data.{put}

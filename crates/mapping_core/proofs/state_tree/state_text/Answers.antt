@@ -1,4 +1,4 @@
-use Rattle.std.proofs.Common.{◌≡◌, ◌∙◌, ap}
+use Rattle.std.proofs.Common.{◌∙◌, ap}
 use Rattle.serde_json.specs.Written.{compact_text, has_float}
 use Rattle.mapping_core.proofs.Plain.{state_tree-plain}
 use Rattle.mapping_core.proofs.state_tree.state_text.Goals as goal

@@ -1,5 +1,5 @@
 -- Words for lists, beside those of std.
-use Rattle.std.specs.Prelude.{◌≡◌, ℕ, List, Option, Some, slice_get, Contains}
+use Rattle.std.specs.Prelude.{◌≡◌, ℕ, List, Some, slice_get}
 
 -- the item at a place
 abbrev pub At : {X : Type 0} → List X → ℕ → X → Type 0
