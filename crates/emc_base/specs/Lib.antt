@@ -7,3 +7,4 @@ pub mod Files
 pub mod Sink
 pub mod InMemory
 pub mod MemFiles
+pub mod OrderLaws

@@ -112,6 +112,18 @@ fn copies_are_equal(rt: HostRuntime) -> Result<(), Fail> {
 }
 
 #[test]
+fn values_and_keys_are_sorted(rt: HostRuntime) -> Result<(), Fail> {
+    let sorted = a_value_of_each_sort(rt.alloc())?;
+    let mut values = vec![in rt.alloc(); Value::Flag(true), Value::Whole(-7), Value::Null]?;
+    values.sort()?;
+    let three = Seq::from_vec(values)?;
+    assert!(rt; sorted.as_slice().starts_with(three.as_slice()));
+    assert!(rt; three < sorted);
+    assert!(rt; three == three.copy(rt.alloc())?);
+    Ok(())
+}
+
+#[test]
 fn a_bound_counts_characters(rt: HostRuntime) -> Result<(), Fail> {
     let text = Value::Text(Txt::of(rt.alloc(), "Kåre")?);
     for (most, want) in [(3u32, false), (4, true), (5, true)] {

@@ -1,15 +1,12 @@
 ghost use Rattle.std.specs.Prelude.{◌≡◌, ◌↔◌, IfOk, IsTrue, length};
 ghost use Rattle.std.specs.Str.{chars};
-ghost use Rattle.std.specs.Cmp.Lexicographic.{slice_cmp};
 ghost use Rattle.emc_base.specs.Domain.{InDomain, IsText, IsWithin};
-ghost use Rattle.emc_base.specs.Order.{value_cmp, rank_of};
 
 use crate::bin::Bin;
 use crate::memory::Memory;
 use crate::seq::Seq;
 use crate::txt::Txt;
 use std::alloc::Global;
-use std::cmp::Ordering;
 
 /// A value of a property or a cell.
 #[derive(Clone, Drop)]
@@ -109,58 +106,5 @@ fn is_within(bound: Option<u32>, count: usize) -> bool
     match bound {
         None => true,
         Some(most) => count <= most as usize,
-    }
-}
-
-/// The order of values: null, whole numbers, flags, texts, byte lists; then numbers by size, false before true, texts
-/// and byte lists by their bytes.
-pub fn compare(a: &Value, b: &Value) -> Ordering
-    ensures { result ≡ value_cmp a.now b.now }
-{
-    match (a, b) {
-        (Value::Whole(x), Value::Whole(y)) => x.cmp(y),
-        (Value::Flag(x), Value::Flag(y)) => x.cmp(y),
-        (Value::Text(x), Value::Text(y)) => x.as_str().cmp(y.as_str()),
-        (Value::Bytes(x), Value::Bytes(y)) => x.as_slice().cmp(y.as_slice()),
-        _ => rank(a).cmp(&rank(b)),
-    }
-}
-
-// The place of a value's variant in the order.
-fn rank(value: &Value) -> u8
-    ensures { result ≡ rank_of value.now }
-{
-    match value {
-        Value::Null => 0,
-        Value::Whole(_) => 1,
-        Value::Flag(_) => 2,
-        Value::Text(_) => 3,
-        Value::Bytes(_) => 4,
-    }
-}
-
-/// Keys are ordered part by part; a key that another begins with comes before it.
-pub fn compare_keys(a: &Key, b: &Key) -> Ordering
-    ensures { result ≡ slice_cmp value_cmp a.now b.now }
-{
-    compare_parts(a.as_slice(), b.as_slice())
-}
-
-fn compare_parts(a: &[Value], b: &[Value]) -> Ordering
-    ensures { result ≡ slice_cmp value_cmp a.now b.now }
-{
-    let [x, a_rest @ ..] = a else {
-        return if b.is_empty() {
-            Ordering::Equal
-        } else {
-            Ordering::Less
-        };
-    };
-    let [y, b_rest @ ..] = b else {
-        return Ordering::Greater;
-    };
-    match compare(x, y) {
-        Ordering::Equal => compare_parts(a_rest, b_rest),
-        order => order,
     }
 }
