@@ -11,6 +11,7 @@ use Rattle.edm_types.specs.declared.model.EntityType.{EntityType}
 use Rattle.edm_types.specs.declared.data.Entity.{Entity}
 use Rattle.emc_base.specs.Lists.{At}
 
+-- the type of an id; None where the model has none
 abbrev pub type_at : EntityModel → TypeId → Option EntityType
 type_at model t = slice_get model.types t.index
 
@@ -32,6 +33,7 @@ value_beside prop (p ∷ props) (value ∷ values) = if p.index == prop.index th
 abbrev pub value_of : EntityModel → Entity → PropId → Value
 value_of model entity prop = value_beside prop (props_of model entity.ty) entity.values
 
+-- an entity's values of several properties
 abbrev pub values_of : EntityModel → Entity → List PropId → List Value
 values_of model entity props = map (value_of model entity) props
 

@@ -14,12 +14,15 @@ use Rattle.emc_base.specs.Lists.{At}
 abbrev pub Tables : Type 0
 Tables = List (List Row)
 
+-- the rows of a table
 abbrev pub rows_in : Tables → TableId → List Row
 rows_in tables table = unwrap_or (slice_get tables table.index) []
 
+-- a row's cell of a column; null where the row has none
 abbrev pub cell_of : Row → ColId → Value
 cell_of row col = unwrap_or (slice_get row.cells col.index) Null
 
+-- a row's cells of several columns
 abbrev pub cells_of : Row → List ColId → List Value
 cells_of row cols = map (cell_of row) cols
 

@@ -15,9 +15,11 @@ pub record State : Type 0 where
   pub entities : List (List Entity)
   pub links : List (List Link)
 
+-- the entities of a set
 abbrev pub entities_in : State → SetId → List Entity
 entities_in state set = unwrap_or (slice_get state.entities set.index) []
 
+-- the links of an association set
 abbrev pub links_in : State → AssocId → List Link
 links_in state assoc = unwrap_or (slice_get state.links assoc.index) []
 

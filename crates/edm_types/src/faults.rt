@@ -12,6 +12,7 @@ pub enum VocabFile {
 #[derive(Drop)]
 pub struct RuleFault {
     pub file: VocabFile,
+    /// The number that is printed after `V`.
     pub rule: u8,
     pub place: Txt,
 }
@@ -26,6 +27,7 @@ pub enum VocabFault {
 /// A broken rule of legality: its number among the rules of states, or of tables, and where it is broken.
 #[derive(Drop)]
 pub struct Breach {
+    /// The number that is printed after `S` or `B`.
     pub rule: u8,
     pub place: Place,
 }

@@ -22,6 +22,7 @@ pub struct Fragment {
 #[derive(Clone, Copy, Debug, PartialEq, Eq)]
 pub struct Pick {
     pub ty: TypeId,
+    /// Whether the types below it are selected too.
     pub below: bool,
 }
 
@@ -61,6 +62,8 @@ pub enum CondOn {
 /// What a condition asks. Null equals no value.
 #[derive(Drop)]
 pub enum Test {
+    /// Whether it is null, or is not.
     IsNull(bool),
+    /// Whether it is this value.
     Equals(Value),
 }

@@ -8,7 +8,9 @@ pub struct EntityModel {
     pub alias: Option<Txt>,
     pub container: Txt,
     pub types: Seq<EntityType>,
+    /// The declared properties of all types.
     pub props: Seq<Prop>,
+    /// The types without a base type, each with those that are derived from it.
     pub forest: Seq<TypeNode>,
     pub sets: Seq<EntitySet>,
     pub assocs: Seq<Assoc>,
@@ -28,6 +30,7 @@ pub struct EntityType {
 /// A declared property. It has one id, which types that inherit it share.
 #[derive(Drop)]
 pub struct Prop {
+    /// The type that declares it.
     pub owner: TypeId,
     pub name: Txt,
     pub kind: Kind,
@@ -46,6 +49,7 @@ pub struct TypeNode {
 #[derive(Drop)]
 pub struct Nav {
     pub name: Txt,
+    /// The association's name without Namespace or Alias.
     pub assoc_name: Txt,
     pub from_role: Txt,
     pub to_role: Txt,
@@ -65,6 +69,7 @@ pub struct Assoc {
     pub assoc_name: Txt,
     pub first: End,
     pub second: End,
+    /// None of an independent association, whose links are stored facts.
     pub constraint: Option<Constraint>,
 }
 
@@ -89,6 +94,7 @@ pub enum Mult {
 /// match item by item.
 #[derive(Drop)]
 pub struct Constraint {
+    /// Whether the dependent entities stand at the first end.
     pub dependent_first: bool,
     pub principal: Seq<PropId>,
     pub dependent: Seq<PropId>,

@@ -10,6 +10,7 @@ use Rattle.json_form.specs.Parts.{tree_at}
 use Rattle.round_trip.specs.Schema.{Schema}
 use Rattle.first_form.specs.Meaning.{first_form_meaning}
 
+-- a set of people with an id and a name
 unfoldable pub csdl_text : List ℕ
 csdl_text = codes "{\"Namespace\":\"N\","
     ++ codes "\"EntityContainer\":{\"Name\":\"C\",\"EntitySet\":[{\"Name\":\"People\",\"EntityType\":\"N.Person\"}]},"
@@ -17,6 +18,7 @@ csdl_text = codes "{\"Namespace\":\"N\","
     ++ codes "{\"Name\":\"Id\",\"Type\":\"Int32\",\"Nullable\":false},"
     ++ codes "{\"Name\":\"Name\",\"Type\":\"String\",\"MaxLength\":20}]}]}"
 
+-- a table for them
 unfoldable pub ssdl_text : List ℕ
 ssdl_text = codes "{\"Namespace\":\"S\","
     ++ codes "\"EntityContainer\":{\"Name\":\"D\",\"EntitySet\":[{\"Name\":\"People\",\"EntityType\":\"S.People\"}]},"
@@ -24,6 +26,7 @@ ssdl_text = codes "{\"Namespace\":\"S\","
     ++ codes "{\"Name\":\"Id\",\"Type\":\"int\",\"Nullable\":false},"
     ++ codes "{\"Name\":\"Name\",\"Type\":\"nvarchar\",\"MaxLength\":20}]}]}"
 
+-- each property to the column of its name
 unfoldable pub msl_text : List ℕ
 msl_text = codes "{\"EntityContainerMapping\":{\"StorageEntityContainer\":\"D\",\"CdmEntityContainer\":\"C\","
     ++ codes "\"EntitySetMapping\":[{\"Name\":\"People\","
@@ -83,6 +86,7 @@ people_mapping = record {
   links = [];
 }
 
+-- what the three texts mean
 abbrev pub people_schema : Schema
 people_schema = record { model = people_model; store = people_store; mapping = people_mapping }
 

@@ -52,6 +52,7 @@ abbrev pub have_different_names : List Column → Bool
 have_different_names [] = true
 have_different_names (column ∷ columns) = not (list_any (λ other. bytes_eq other.name column.name) columns) && have_different_names columns
 
+-- the kind of whole numbers of 32 bits
 abbrev pub is_whole : Kind → Bool
 is_whole kind.Byte = false
 is_whole kind.Int16 = false
@@ -69,6 +70,7 @@ is_key_or_nullable key column = if bytes_eq column.name key then is_whole column
 abbrev pub place_of : List ℕ → List Column → ℕ
 place_of name columns = position_or_len (λ column. bytes_eq column.name name) columns
 
+-- one of the columns has the name
 abbrev pub has_column : List ℕ → List Column → Bool
 has_column name columns = nat_lt (place_of name columns) (length columns)
 

@@ -2,5 +2,6 @@
 use Rattle.round_trip.specs.Schema.{Schema}
 use Rattle.first_form.specs.declared.meaning.Meaning.{Meaning}
 
+-- its model, its store and its mapping
 abbrev pub schema_of : Meaning → Schema
 schema_of meaning = record { model = meaning.model; store = meaning.store; mapping = meaning.mapping }

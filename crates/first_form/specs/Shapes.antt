@@ -6,6 +6,7 @@ use Rattle.first_form.specs.declared.shape.Shape.{Shape}
 use Rattle.first_form.specs.declared.shape.Shape.TheVariants as shape
 use Rattle.first_form.specs.Parts.{has_members}
 
+-- the members that an object of the shape has
 unfoldable pub needed_of : Shape → List (List ℕ)
 needed_of shape.Declaring = codes "EntityContainer" ∷ codes "EntityType" ∷ codes "Namespace" ∷ []
 needed_of shape.Container = codes "EntitySet" ∷ codes "Name" ∷ []
@@ -19,6 +20,7 @@ needed_of shape.TypeMapping = codes "MappingFragment" ∷ codes "TypeName" ∷ [
 needed_of shape.Fragment = codes "ScalarProperty" ∷ codes "StoreEntitySet" ∷ []
 needed_of shape.Pair = codes "ColumnName" ∷ codes "Name" ∷ []
 
+-- the members that it may have besides
 unfoldable pub allowed_of : Shape → List (List ℕ)
 allowed_of shape.Declaring = []
 allowed_of shape.Container = []

@@ -11,10 +11,12 @@ use Rattle.serde_json.specs.Find.{as_number, as_i64}
 abbrev pub tree_at : List ℕ → Option Data
 tree_at bytes = if is_utf8 bytes then read bytes else None
 
+-- items as a list
 abbrev pub list_of_items : Items → List Data
 list_of_items no_items = []
 list_of_items (item d ds) = d ∷ list_of_items ds
 
+-- members as a list of names and trees
 abbrev pub list_of_members : Members → List (List ℕ × Data)
 list_of_members no_members = []
 list_of_members (member name d ds) = (name, d) ∷ list_of_members ds

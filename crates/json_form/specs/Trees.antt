@@ -8,6 +8,7 @@ use Rattle.serde_json.specs.View.{items_of}
 use Rattle.emc_base.specs.declared.value.Value.{Value}
 use Rattle.emc_base.specs.declared.value.Value.TheVariants as value
 
+-- a value: null, a number, a flag, a text, or a byte list as a text
 abbrev pub value_tree : Value → Data
 value_tree value.Null = null
 value_tree (value.Whole n) = number (of_integer n)
@@ -19,6 +20,7 @@ value_tree (value.Bytes bytes) = string (encode_lower bytes)
 abbrev pub array_of : List Data → Data
 array_of trees = array (items_of trees)
 
+-- a key: the array of its values
 abbrev pub key_tree : List Value → Data
 key_tree key = array_of (map value_tree key)
 

@@ -20,6 +20,7 @@ abbrev pub fault_at : List ℕ → Option (List ℕ) → Option (List ℕ)
 fault_at name None = Some (file_text (codes "missing") name)
 fault_at name (Some bytes) = if nat_lt largest_file (length bytes) then Some (file_text (codes "toolarge") name) else None
 
+-- the first of two texts that is there
 abbrev pub or_later : Option (List ℕ) → Option (List ℕ) → Option (List ℕ)
 or_later None later = later
 or_later (Some text) later = Some text

@@ -3,6 +3,7 @@ use Rattle.std.specs.Prelude.{ℕ}
 use Rattle.mapping_cli.specs.declared.status.Status.{Status}
 use Rattle.mapping_cli.specs.declared.status.Status.TheVariants.{Done, MappingRefused, DocumentRefused, Usage, FileFault, SinkFault, Memory}
 
+-- the number with which the program ends
 abbrev pub status_number : Status → ℕ
 status_number Done = 0
 status_number MappingRefused = 1

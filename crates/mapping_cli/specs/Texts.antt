@@ -22,9 +22,11 @@ line text = text ++ 10 ∷ []
 abbrev pub quote : List ℕ → List ℕ
 quote text = compact_text (string text)
 
+-- all commands, also those that aren't built
 unfoldable pub usage_text : List ℕ
 usage_text = line (codes "usage: check M S P | views M S P | store M S P ENTITIES | load M S P TABLES | save M S P TABLES CHANGES OUT | drill SEED COUNT")
 
+-- what is printed of a mapping that round-trips
 unfoldable pub accepted_text : List ℕ
 accepted_text = line (codes "accepted")
 
@@ -32,6 +34,7 @@ accepted_text = line (codes "accepted")
 unfoldable pub file_text : List ℕ → List ℕ → List ℕ
 file_text word name = codes "file " ++ (word ++ (codes " " ++ line (quote name)))
 
+-- the word for a document
 abbrev pub file_word : VocabFile → List ℕ
 file_word Csdl = codes "csdl"
 file_word Ssdl = codes "ssdl"
@@ -41,6 +44,7 @@ file_word Msl = codes "msl"
 unfoldable pub rule_text : RuleFault → List ℕ
 rule_text fault = codes "rule V" ++ (decimal fault.rule ++ (codes " " ++ (file_word fault.file ++ (codes " " ++ line (quote fault.place)))))
 
+-- the word for a kind of failure
 abbrev pub kind_word : FailKind → List ℕ
 kind_word kind.Clash = codes "clash"
 kind_word kind.Null = codes "null"
@@ -48,6 +52,7 @@ kind_word kind.Disagrees = codes "disagrees"
 kind_word kind.Dangling = codes "dangling"
 kind_word kind.Same = codes "same"
 
+-- a place as an object
 abbrev pub place_tree : Place → Data
 place_tree place = object (put (codes "part") (string place.part) (put (codes "name") (string place.name) (put (codes "key") (key_tree place.key) no_members)))
 

@@ -20,12 +20,15 @@ use Rattle.edm_types.specs.declared.mapping.Pair.{Pair}
 use Rattle.emc_base.specs.Lists.{At}
 use Rattle.round_trip.specs.Schema.{Schema}
 
+-- the one set
 abbrev pub first_set : SetId
 first_set = record { index = 0 }
 
+-- its one type
 abbrev pub first_type : TypeId
 first_type = record { index = 0 }
 
+-- the one table
 abbrev pub first_table : TableId
 first_table = record { index = 0 }
 

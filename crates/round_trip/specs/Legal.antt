@@ -72,9 +72,11 @@ pub record AreLegalLinks (model : EntityModel) (state : State) (assoc : Assoc) (
   pub second_partners : All (λ entity. IsA model entity.ty assoc.second.ty
       → HasCount assoc.first.mult (λ link. link.second ≡ key_of model entity) links) (entities_in state assoc.second.set)
 
+-- the end at which the dependent entities stand
 abbrev pub dependent_end : Assoc → Constraint → End
 dependent_end assoc constraint = if constraint.dependent_first then assoc.first else assoc.second
 
+-- the end at which the principal entities stand
 abbrev pub principal_end : Assoc → Constraint → End
 principal_end assoc constraint = if constraint.dependent_first then assoc.second else assoc.first
 
