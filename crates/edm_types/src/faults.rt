@@ -3,8 +3,11 @@ use emc_base::{Place, Txt};
 /// The documents of a mapping.
 #[derive(Clone, Copy, Debug, PartialEq, Eq)]
 pub enum VocabFile {
+    /// The entity model.
     Csdl,
+    /// The store model.
     Ssdl,
+    /// The mapping between the two.
     Msl,
 }
 
@@ -20,7 +23,9 @@ pub struct RuleFault {
 /// Why a document was not read as a model or a mapping.
 #[derive(Drop)]
 pub enum VocabFault {
+    /// A rule is broken.
     Rule(RuleFault),
+    /// Memory ran out.
     Memory,
 }
 
@@ -44,14 +49,24 @@ pub struct LimitFault {
 /// What is limited.
 #[derive(Clone, Copy, Debug, PartialEq, Eq)]
 pub enum LimitKind {
+    /// Entity sets.
     Sets,
+    /// Association sets.
     Associations,
+    /// Entity types.
     Types,
+    /// Properties of one type, inherited ones included.
     Properties,
+    /// Tables.
     Tables,
+    /// Columns of one table.
     Columns,
+    /// Foreign keys.
     Foreign,
+    /// Fragments, of entities and of links.
     Fragments,
+    /// Constants that are compared within one group of properties and columns.
     Constants,
+    /// Kinds of entities of one set that are stored alike.
     Regions,
 }

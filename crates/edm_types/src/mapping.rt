@@ -55,7 +55,9 @@ pub struct Cond {
 /// What a condition speaks of.
 #[derive(Clone, Copy, Debug, PartialEq, Eq)]
 pub enum CondOn {
+    /// A property of the entities that are selected.
     Prop(PropId),
+    /// A column of the rows that are shown.
     Col(ColId),
 }
 

@@ -85,8 +85,11 @@ pub struct End {
 /// How many entities stand at an end for each entity at the other.
 #[derive(Clone, Copy, Debug, PartialEq, Eq)]
 pub enum Mult {
+    /// Exactly one: `1`.
     One,
+    /// At most one: `0..1`.
     ZeroOrOne,
+    /// Any number: `*`.
     Many,
 }
 

@@ -3,6 +3,7 @@ use Rattle.std.proofs.Common.{◌≡◌, ◌≢◌, ◌⊎◌, inl, inr, ⊎_eli
 use Rattle.std.proofs.lemmas.Bool.{cases_lt}
 use Rattle.std.proofs.lemmas.List.Edits.{get_or-remove_below, get_or-remove_above, length-remove}
 use Rattle.std.proofs.lemmas.List.Quantifiers.{all_pairs_remove}
+use Rattle.emc_base.proofs.Lists.{apart_from_head, apart_in_rest}
 use Rattle.std.proofs.lemmas.List.Sorted.{IsPermutation-refl, IsPermutation-sym, IsPermutation-cons, IsPermutation-trans, IsPermutation-remove, Contains-permutation}
 
 module _ {X : Type 0} where
@@ -21,14 +22,6 @@ module _ {X : Type 0} where
   -- and so is each member of the rest
   pub contains_tail : (x : X) (xs : List X) (y : X) → Contains xs y → Contains (x ∷ xs) y
   contains_tail x xs y has = (suc has.0, omega arith, has.2)
-
-  -- the rest of a list without repeats has none
-  pub apart_tail : (x : X) (xs : List X) → AllPairs (λ a b. a ≢ b) (x ∷ xs) → AllPairs (λ a b. a ≢ b) xs
-  apart_tail x xs apart i j d below within = apart (suc i) (suc j) d (omega arith) (omega arith)
-
-  -- the head of a list without repeats doesn't stand in the rest
-  pub apart_head : (x : X) (xs : List X) → AllPairs (λ a b. a ≢ b) (x ∷ xs) → Contains xs x → ⊥
-  apart_head x xs apart has = apart 0 (suc has.0) x (omega arith) (omega arith) (sym has.2)
 
   -- what is removed from a list without repeats is gone
   pub removed_gone : (xs : List X) (i : ℕ) (x : X) → i < length xs → get_or xs i x ≡ x → AllPairs (λ a b. a ≢ b) xs → Contains (remove xs i) x → ⊥
@@ -54,12 +47,12 @@ module _ {X : Type 0} where
       let moved : IsPermutation ys (x ∷ rest) = IsPermutation-remove ys i x within (sym at.2) in
       let moved_back : IsPermutation (x ∷ rest) ys = IsPermutation-sym ys (x ∷ rest) moved in
       let to_rest : (z : X) → Contains xs z → Contains rest z = λ z has. ⊎_elim
-      (λ (same : z ≡ x). absurd (apart_head x xs apart (subst (Contains xs) same has)))
+      (λ (same : z ≡ x). absurd (apart_from_head (λ (a : X). a) x xs x apart (subst (Contains xs) same has) refl))
       (λ stays. stays)
       (contains_cases x rest z (Contains-permutation ys (x ∷ rest) z moved (forth z (contains_tail x xs z has)))) in
       let from_rest : (z : X) → Contains rest z → Contains xs z = λ z has. ⊎_elim
       (λ (same : z ≡ x). absurd (removed_gone ys i x within at.2 others (subst (Contains rest) same has)))
       (λ stays. stays)
       (contains_cases x xs z (back z (Contains-permutation (x ∷ rest) ys z moved_back (contains_tail x rest z has)))) in
-      let below : IsPermutation xs rest = same_members_permute xs rest (apart_tail x xs apart) (all_pairs_remove (λ a b. a ≢ b) ys i within others) to_rest from_rest in
+      let below : IsPermutation xs rest = same_members_permute xs rest (apart_in_rest (λ (a : X). a) x xs apart) (all_pairs_remove (λ a b. a ≢ b) ys i within others) to_rest from_rest in
       IsPermutation-trans (x ∷ xs) (x ∷ rest) ys (IsPermutation-cons x xs rest below) moved_back

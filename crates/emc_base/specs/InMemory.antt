@@ -1,10 +1,10 @@
 -- What the files and the sink in memory keep.
-use Rattle.std.specs.Prelude.{◌≡◌, Result, Ok, Err, ℕ, ◌+◌, List, ◌==◌, min, find, Option, option_map}
+use Rattle.std.specs.Prelude.{◌≡◌, Result, Ok, Err, ℕ, List, ◌==◌, find, Option, option_map}
 use Rattle.emc_base.specs.declared.files.ReadFault.{ReadFault}
 use Rattle.emc_base.specs.declared.files.ReadFault.TheVariants as read
 use Rattle.emc_base.specs.declared.sink.SinkFault.{SinkFault}
 use Rattle.emc_base.specs.declared.sink.SinkFault.TheVariants as put
-use Rattle.emc_base.specs.Faults.{last_count}
+use Rattle.emc_base.specs.Faults.{one_more}
 use Rattle.emc_base.specs.Files.{FileMap}
 
 -- files: what they hold, the numbers of the calls that fail, how many calls there were, and how many failed
@@ -20,10 +20,6 @@ pub record KeptSink : Type 0 where
   pub failing : List (ℕ × ℕ)
   pub calls : ℕ
   pub faults : ℕ
-
--- one more, up to the last value
-abbrev pub one_more : ℕ → ℕ
-one_more count = min (count + 1) last_count
 
 -- A call on files is counted, and a fault too; one that finds no memory changes nothing.
 abbrev pub CountsFiles : KeptFiles → KeptFiles → Result (List ℕ) ReadFault → Type 0

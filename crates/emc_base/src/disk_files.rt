@@ -1,12 +1,13 @@
-ghost use Rattle.std.specs.Prelude.{◌≡◌, ◌≤◌, None, IfOk, length};
-ghost use Rattle.emc_base.specs.Files.{CountsRead, Tells};
+ghost use Rattle.std.specs.Prelude.{◌≡◌, ◌≢◌, ◌≤◌, ◌↔◌, IfOk, length};
+ghost use Rattle.emc_base.specs.Faults.{one_more};
+ghost use Rattle.emc_base.specs.Files.{CountsRead, Tells, untold};
 
 use crate::bin::Bin;
 use crate::files::{Files, ReadFault};
 use crate::txt::Txt;
 use std::alloc::Global;
 use std::io;
-use std::io::Read;
+use std::io::{ErrorKind, Read};
 use std::marker::Model;
 
 /// The files of the disk, by their paths. It tells nothing of what they hold: contracts see it as how often a read failed.
@@ -34,12 +35,18 @@ impl<R: std::rt::Files + Drop> DiskFiles<R> {
 }
 
 impl<R: std::rt::Files + Drop> Files for DiskFiles<R> {
-    ghost held = { λ _. None };
+    ghost held = { λ _. untold };
 
     ghost fault_count = { λ faults. faults };
 
     /// Reads at most `limit` and one byte. What the path names is read anew at each call.
-    fn read(&mut self, alloc: Global, name: &Txt, limit: u64) -> Result<Bin, ReadFault> {
+    fn read(&mut self, alloc: Global, name: &Txt, limit: u64) -> Result<Bin, ReadFault>
+        ensures tells { Tells untold name.now limit result }
+        ensures fits { IfOk result (λ bytes. length bytes ≤ limit) }
+        ensures same { untold ≡ untold }
+        ensures cause { CountsRead self.old self.new result }
+        ensures counts { (result ≡ Err ReadFault.Failed) → self.new ≡ one_more self.old }
+    {
         let bytes = match read_at_most(alloc, &self.rt, name.as_str(), limit.saturating_add(1)) {
             Ok(bytes) => bytes,
             Err(error) => {
@@ -74,11 +81,15 @@ fn read_at_most<R: std::rt::Files>(
     Ok(bytes)
 }
 
-// What a failed read is told as.
-fn fault_of(kind: io::ErrorKind) -> ReadFault {
+// What an error of the disk is told as.
+fn fault_of(kind: ErrorKind) -> ReadFault
+    ensures missing { (result ≡ ReadFault.Missing) ↔ (kind ≡ ErrorKind.NotFound) }
+    ensures memory { (result ≡ ReadFault.Memory) ↔ (kind ≡ ErrorKind.OutOfMemory) }
+    ensures no_size { result ≢ ReadFault.TooLarge }
+{
     match kind {
-        io::ErrorKind::NotFound => ReadFault::Missing,
-        io::ErrorKind::OutOfMemory => ReadFault::Memory,
+        ErrorKind::NotFound => ReadFault::Missing,
+        ErrorKind::OutOfMemory => ReadFault::Memory,
         _ => ReadFault::Failed,
     }
 }

@@ -8,11 +8,13 @@ use std::io;
 use std::io::{ErrorKind, Print, Read, Seek, SeekFrom, Write};
 use std::rt::Files;
 
-/// A disk with the one file `M.json`, whose bytes count up from 0. The read at the place of the fault fails.
+/// A disk with the one file `M.json`, whose bytes count up from 0. The read at the place of the fault fails, with an error of this
+/// kind.
 #[derive(Clone, Copy)]
 pub struct FakeDisk {
     pub length: u8,
     pub fault_at: Option<u8>,
+    pub kind: ErrorKind,
 }
 
 /// A file of a [`FakeDisk`], read a byte at a time.
@@ -32,7 +34,7 @@ fn unsupported<T>() -> io::Result<T>
 impl Read for FakeFile {
     fn read(&mut self, buffer: &mut [u8]) -> io::Result<usize> {
         if self.disk.fault_at == Some(self.at) {
-            return Err(io::Error::from(ErrorKind::Other));
+            return Err(io::Error::from(self.disk.kind));
         }
         if buffer.is_empty() || self.at >= self.disk.length {
             return Ok(0);

@@ -33,4 +33,4 @@ pub use place::Place;
 pub use seq::{MOST_ITEMS, Seq};
 pub use sink::{Sink, SinkFault};
 pub use txt::Txt;
-pub use value::{Key, Kind, Value, in_domain};
+pub use value::{Key, Kind, Value, character_count, in_domain};

@@ -1,7 +1,8 @@
 ghost use Rattle.std.specs.Prelude.{◌≡◌, ◌≢◌, ◌≤◌, ◌↔◌, List, ℕ, Contains, IfOk, OnOk, OnErr, Some, length, []};
 ghost use Rattle.std.specs.BTreeMap.{get_by_text};
 ghost use Rattle.emc_base.specs.Files.{FileMap, Tells, CountsRead, PutsFile, HoldsNothing};
-ghost use Rattle.emc_base.specs.InMemory.{CountsFiles, one_more};
+ghost use Rattle.emc_base.specs.Faults.{one_more};
+ghost use Rattle.emc_base.specs.InMemory.{CountsFiles};
 ghost use Rattle.emc_base.specs.MemFiles.{kept_files};
 
 use crate::bin::Bin;

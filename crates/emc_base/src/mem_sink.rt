@@ -1,6 +1,7 @@
 ghost use Rattle.std.specs.Prelude.{◌≡◌, ◌≢◌, ◌++◌, [], ℕ, List, take, Some, MatchOption, IsErr};
 ghost use Rattle.emc_base.specs.Sink.{Puts, CountsPut};
-ghost use Rattle.emc_base.specs.InMemory.{CountsSink, one_more, taken_at, KeptSink};
+ghost use Rattle.emc_base.specs.Faults.{one_more};
+ghost use Rattle.emc_base.specs.InMemory.{CountsSink, taken_at, KeptSink};
 
 use crate::seq::Seq;
 use crate::sink::{Sink, SinkFault};

@@ -49,26 +49,7 @@ fn rank(value: &Value) -> u8
 pub fn compare_keys(a: &Key, b: &Key) -> Ordering
     ensures { result ≡ slice_cmp value_cmp a.now b.now }
 {
-    compare_parts(a.as_slice(), b.as_slice())
-}
-
-fn compare_parts(a: &[Value], b: &[Value]) -> Ordering
-    ensures { result ≡ slice_cmp value_cmp a.now b.now }
-{
-    let [x, a_rest @ ..] = a else {
-        return if b.is_empty() {
-            Ordering::Equal
-        } else {
-            Ordering::Less
-        };
-    };
-    let [y, b_rest @ ..] = b else {
-        return Ordering::Greater;
-    };
-    match compare(x, y) {
-        Ordering::Equal => compare_parts(a_rest, b_rest),
-        order => order,
-    }
+    a.as_slice().cmp(b.as_slice())
 }
 
 impl PartialEq for Value {

@@ -1,4 +1,5 @@
 ghost use Rattle.std.specs.Prelude.{◌≡◌, ◌≢◌, None};
+ghost use Rattle.emc_base.specs.Faults.{one_more};
 ghost use Rattle.emc_base.specs.Sink.{CountsPut, Puts};
 
 use crate::sink::{Sink, SinkFault};
@@ -37,6 +38,7 @@ impl<R: Print + Drop> Sink for OutSink<R> {
     fn put(&mut self, bytes: &[u8]) -> Result<(), SinkFault>
         ensures writes { Puts None None bytes.now result }
         ensures cause { CountsPut self.old self.new result }
+        ensures counts { (result ≡ Err SinkFault.Failed) → self.new ≡ one_more self.old }
         ensures never { result ≢ Err SinkFault.Memory }
     {
         let mut at = 0;

@@ -6,7 +6,7 @@ use thiserror::Error;
 /// Why bytes were not written whole.
 #[derive(Clone, Copy, Debug, PartialEq, Eq, Error)]
 pub enum SinkFault {
-    /// Some of the first bytes were written, and not all that were to be; the count of faults rose, where it could.
+    /// Some of the first bytes were written, or all; the count of faults rose, where it could.
     #[error("the output could not be written")]
     Failed,
     /// Memory ran out; nothing was written.

@@ -6,6 +6,7 @@ use crate::{
 use std::alloc::Global;
 use std::cell::RefCell;
 use std::cmp::Ordering;
+use std::io::ErrorKind;
 use std::test::Fail;
 
 // The three documents of a mapping.
@@ -151,6 +152,7 @@ fn disk_files_keep_to_the_limit(rt: HostRuntime) -> Result<(), Fail> {
     let mut disk = DiskFiles::new(FakeDisk {
         length: 4,
         fault_at: None,
+        kind: ErrorKind::Other,
     });
     let bytes = disk.read(rt.alloc(), &name, 4)?;
     assert_eq!(rt; bytes.as_slice(), [0u8, 1, 2, 3].as_slice());
@@ -163,10 +165,19 @@ fn disk_files_keep_to_the_limit(rt: HostRuntime) -> Result<(), Fail> {
     let mut broken = DiskFiles::new(FakeDisk {
         length: 4,
         fault_at: Some(2),
+        kind: ErrorKind::Other,
     });
     let failed = broken.read(rt.alloc(), &name, 4).err();
     assert_eq!(rt; failed, Some(ReadFault::Failed));
     assert_eq!(rt; broken.faults(), 1);
+    let mut full = DiskFiles::new(FakeDisk {
+        length: 4,
+        fault_at: Some(2),
+        kind: ErrorKind::OutOfMemory,
+    });
+    let refused = full.read(rt.alloc(), &name, 4).err();
+    assert_eq!(rt; refused, Some(ReadFault::Memory));
+    assert_eq!(rt; full.faults(), 0);
     Ok(())
 }
 
@@ -177,6 +188,7 @@ fn disk_files_read_no_further(rt: HostRuntime) -> Result<(), Fail> {
     let mut disk = DiskFiles::new(FakeDisk {
         length: 9,
         fault_at: Some(5),
+        kind: ErrorKind::Other,
     });
     let large = disk.read(rt.alloc(), &name, 3).err();
     assert_eq!(rt; large, Some(ReadFault::TooLarge));

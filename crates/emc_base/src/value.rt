@@ -93,8 +93,8 @@ fn is_text(text: &Txt, bound: Option<u32>) -> bool
     is_within(bound, character_count(text.as_str()))
 }
 
-// How many Unicode scalar values a text has.
-fn character_count(text: &str) -> usize
+/// How many Unicode scalar values a text has.
+pub fn character_count(text: &str) -> usize
     ensures { result ≡ length (chars text.now) }
 {
     text.chars().count()

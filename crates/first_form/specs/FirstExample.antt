@@ -1,14 +1,12 @@
 -- The first example: three documents of the first form as texts, and the model, the store and the mapping that they mean.
 -- Source: CSDL, SSDL and MSL version 3 in the JSON spelling of the first form.
-use Rattle.std.specs.Prelude.{ℕ, List, [], ◌∷◌, ◌++◌, true, false, Option, Some, None, option_and_then, codes}
+use Rattle.std.specs.Prelude.{ℕ, List, [], ◌∷◌, ◌++◌, true, false, Some, None, codes}
 use Rattle.emc_base.specs.declared.value.Kind.TheVariants.{Int32, Text}
 use Rattle.edm_types.specs.declared.model.EntityModel.{EntityModel}
 use Rattle.edm_types.specs.declared.model.TypeNode.{roll-TypeNode}
 use Rattle.edm_types.specs.declared.store.StoreModel.{StoreModel}
 use Rattle.edm_types.specs.declared.mapping.Mapping.{Mapping}
-use Rattle.json_form.specs.Parts.{tree_at}
 use Rattle.round_trip.specs.Schema.{Schema}
-use Rattle.first_form.specs.Meaning.{first_form_meaning}
 
 -- a set of people with an id and a name
 unfoldable pub csdl_text : List ℕ
@@ -89,7 +87,3 @@ people_mapping = record {
 -- what the three texts mean
 abbrev pub people_schema : Schema
 people_schema = record { model = people_model; store = people_store; mapping = people_mapping }
-
--- what three texts mean, where they are read as documents of the first form
-abbrev pub meaning_at : List ℕ → List ℕ → List ℕ → Option Schema
-meaning_at csdl ssdl msl = option_and_then (λ c. option_and_then (λ s. option_and_then (λ m. first_form_meaning c s m) (tree_at msl)) (tree_at ssdl)) (tree_at csdl)

@@ -1,7 +1,8 @@
 -- What documents of the first form mean: the entity model, the store model and the mapping.
 -- Source: CSDL, SSDL and MSL version 3.
-use Rattle.std.specs.Prelude.{◌+◌, ℕ, List, [], ◌∷◌, map, false, Option, Some, None, if◌then◌else◌}
+use Rattle.std.specs.Prelude.{◌+◌, ℕ, List, [], ◌∷◌, map, false, Option, Some, None, option_and_then, if◌then◌else◌}
 use Rattle.serde_json.specs.Data.{Data}
+use Rattle.json_form.specs.Parts.{tree_at}
 use Rattle.emc_base.specs.declared.ids.PropId.{PropId}
 use Rattle.edm_types.specs.declared.model.EntityModel.{EntityModel}
 use Rattle.edm_types.specs.declared.model.EntitySet.{EntitySet}
@@ -91,3 +92,7 @@ meaning_of content = record { model = model_of content.model; store = store_of c
 -- what they mean, where they are of the first form
 abbrev pub first_form_meaning : Data → Data → Data → Option Schema
 first_form_meaning csdl ssdl msl = if is_first_form csdl ssdl msl then Some (meaning_of (content_in csdl ssdl msl)) else None
+
+-- what the bytes of three documents mean, where they are of the first form
+abbrev pub meaning_of_texts : List ℕ → List ℕ → List ℕ → Option Schema
+meaning_of_texts csdl ssdl msl = option_and_then (λ c. option_and_then (λ s. option_and_then (λ m. first_form_meaning c s m) (tree_at msl)) (tree_at ssdl)) (tree_at csdl)

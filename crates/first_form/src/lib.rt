@@ -18,4 +18,4 @@ pub use example::first_example;
 pub use mapped_form::{Mapped, MappingPart, NamedPair};
 pub use meaning::{Meaning, read_first_form};
 pub use shape::Shape;
-pub use unwritten::first_unwritten;
+pub use unwritten::unwritten_property;

@@ -1,7 +1,8 @@
-ghost use Rattle.std.specs.Prelude.{◌≡◌, ◌==◌, length, not};
+ghost use Rattle.std.specs.Prelude.{◌≡◌, ◌==◌, not};
 ghost use Rattle.std.specs.List.{list_all};
-ghost use Rattle.std.specs.Str.{chars};
 ghost use Rattle.first_form.specs.Names.{is_bracket_or_sign, is_name, is_namespace, is_plain_name};
+
+use emc_base::character_count;
 
 // A text of 1 to 480 Unicode scalar values.
 pub(crate) fn is_name(text: &str) -> bool
@@ -9,12 +10,6 @@ pub(crate) fn is_name(text: &str) -> bool
 {
     let count = character_count(text);
     1 <= count && count <= 480
-}
-
-fn character_count(text: &str) -> usize
-    ensures { result ≡ length (chars text.now) }
-{
-    text.chars().count()
 }
 
 // A name that may hold a dot, and none of ; ( ) $.

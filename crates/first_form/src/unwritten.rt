@@ -7,14 +7,15 @@ use crate::meaning::Meaning;
 use edm_types::{Fragment, Pair};
 use emc_base::PropId;
 
-/// The first property, in the order of the model's types and their properties, that no pair of the mapping names.
-pub fn first_unwritten(meaning: &Meaning) -> Option<PropId>
+/// A property of the model's types that no pair of the mapping names; `None` where each is named. Which one it is, where there are
+/// several, is no promise.
+pub fn unwritten_property(meaning: &Meaning) -> Option<PropId>
     ensures written { IfNone result (WritesEveryProperty (schema_of meaning.now)) }
     ensures lost { IfSome result (λ prop. IsUnwritten (schema_of meaning.now) prop) }
 {
     let fragments = meaning.mapping.fragments.as_slice();
     for declared in meaning.model.types.as_slice() {
-        let Some(prop) = first_unnamed(declared.props.as_slice(), fragments) else {
+        let Some(prop) = unnamed_property(declared.props.as_slice(), fragments) else {
             continue;
         };
         return Some(prop);
@@ -22,8 +23,8 @@ pub fn first_unwritten(meaning: &Meaning) -> Option<PropId>
     None
 }
 
-// The first of these properties that no pair names.
-fn first_unnamed(props: &[PropId], fragments: &[Fragment]) -> Option<PropId>
+// One of these properties that no pair names.
+fn unnamed_property(props: &[PropId], fragments: &[Fragment]) -> Option<PropId>
     ensures named { IfNone result (All (IsNamedIn fragments.now) props.now) }
     ensures contained { IfSome result (λ prop. Contains props.now prop) }
     ensures unnamed { IfSome result (λ prop. IsNowhereNamed fragments.now prop) }

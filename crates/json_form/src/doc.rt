@@ -14,8 +14,10 @@ use thiserror::Error;
 /// Why bytes were not read as a document.
 #[derive(Clone, Copy, Debug, PartialEq, Eq, Error)]
 pub enum DocFault {
+    /// `serde_json` doesn't read the bytes, for another cause than memory.
     #[error("the bytes are not JSON")]
     NotJson,
+    /// Memory ran out.
     #[error("out of memory")]
     Memory,
 }

@@ -3,7 +3,7 @@ use Rattle.std.proofs.Common.{◌≡◌, ◌<◌, ◌≤◌, ℕ, zero, suc, Lis
 use Rattle.std.proofs.lemmas.Bool.Decides.{nat_tests}
 use Rattle.emc_base.specs.declared.files.ReadFault.{ReadFault}
 use Rattle.emc_base.specs.declared.files.ReadFault.TheVariants as fault
-use Rattle.emc_base.specs.Faults.{Rose}
+use Rattle.emc_base.specs.Faults.{RoseOrStands}
 use Rattle.emc_base.specs.Files.{FileMap, CountsRead, Tells}
 use Rattle.mapping_cli.specs.declared.answer.Answer.{Answer}
 use Rattle.mapping_cli.specs.declared.answer.Halt.{Halt}
@@ -50,7 +50,7 @@ module _ (name : List ℕ) (held : Option FileMap) (before now : ℕ) where
   lacks text (halt.Tells answer) same lacking says = inl (same, says.1, subst (LacksInput name held) (sym says.0) lacking)
   lacks text halt.Memory same lacking says = cc
 
-  failed : (told : Halt) → Rose before now → IsTold (file_text (codes "failed") name) told → ReadsInput name held before now (Err told)
+  failed : (told : Halt) → RoseOrStands before now → IsTold (file_text (codes "failed") name) told → ReadsInput name held before now (Err told)
   failed (halt.Tells answer) rose says = inr (rose, says)
   failed halt.Memory rose says = cc
 

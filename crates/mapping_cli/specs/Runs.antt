@@ -1,6 +1,6 @@
 -- The promise of the program: what it printed, how it ended, and what it left, in every case.
 use Rattle.std.specs.Prelude.{◌≡◌, ◌≢◌, ◌⊎◌, ℕ, List, [], ◌++◌, map, take, Option, None, MatchOption, IfSome, option_map, codes}
-use Rattle.emc_base.specs.Faults.{Rose}
+use Rattle.emc_base.specs.Faults.{RoseOrStands}
 use Rattle.emc_base.specs.Files.{FileMap}
 use Rattle.emc_base.specs.Lists.{At}
 use Rattle.mapping_cli.specs.declared.status.Status.{Status}
@@ -26,7 +26,7 @@ Breaks words held text status = MatchOption (command_of words) ⊥ (λ command. 
 abbrev pub Ends : List (List ℕ) → World → World → List ℕ → Status → Type 0
 Ends words before after text status =
     ((after.file_faults ≡ before.file_faults) × Gives words before.held text status)
-    ⊎ (Rose before.file_faults after.file_faults × Breaks words before.held text status)
+    ⊎ (RoseOrStands before.file_faults after.file_faults × Breaks words before.held text status)
 
 -- the whole text was written, and the sink had no fault
 pub record Finishes (words : List (List ℕ)) (before after : World) (status : Status) : Type 0 where
@@ -44,7 +44,7 @@ pub record BreaksOff (words : List (List ℕ)) (before after : World) : Type 0 w
   pub not_empty : text ≢ []
   pub ends : Ends words before after text status
   pub written : after.written ≡ option_map (λ bytes. bytes ++ take count text) before.written
-  pub cause : Rose before.sink_faults after.sink_faults
+  pub cause : RoseOrStands before.sink_faults after.sink_faults
   pub held : after.held ≡ before.held
 
 -- memory ran out, and nothing was written

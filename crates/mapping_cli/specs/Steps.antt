@@ -2,7 +2,7 @@
 use Rattle.std.specs.Prelude.{◌≡◌, ◌≤◌, ◌⊎◌, ℕ, List, length, Option, Some, None, Result, Ok, Err, IfSome, codes, ⊤}
 use Rattle.emc_base.specs.declared.files.ReadFault.{ReadFault}
 use Rattle.emc_base.specs.declared.files.ReadFault.TheVariants as fault
-use Rattle.emc_base.specs.Faults.{Rose}
+use Rattle.emc_base.specs.Faults.{RoseOrStands}
 use Rattle.emc_base.specs.Files.{FileMap}
 use Rattle.round_trip.specs.Schema.{Schema}
 use Rattle.mapping_core.specs.declared.verdict.Failure.{Failure}
@@ -27,7 +27,7 @@ abbrev pub ReadsInput : List ℕ → Option FileMap → ℕ → ℕ → Result (
 ReadsInput name held before now (Ok bytes) = (now ≡ before) × (length bytes ≤ largest_file) × IfSome held (λ files. files name ≡ Some bytes)
 ReadsInput name held before now (Err (Tells answer)) =
     ((now ≡ before) × (answer.status ≡ FileFault) × LacksInput name held answer.text)
-    ⊎ (Rose before now × Says (file_text (codes "failed") name) FileFault answer.text answer.status)
+    ⊎ (RoseOrStands before now × Says (file_text (codes "failed") name) FileFault answer.text answer.status)
 ReadsInput name held before now (Err Memory) = ⊤
 
 -- a line on a file is told, or memory ran out
@@ -46,11 +46,11 @@ TellsFault name fault.Memory halt = halt ≡ Memory
 abbrev pub EndsOn : Command → Option FileMap → ℕ → ℕ → List ℕ → Status → Type 0
 EndsOn command held before now text status =
     ((now ≡ before) × ((contents : List (Option (List ℕ))) × AreContents held (inputs_of command) contents × GivesOn command contents text status))
-    ⊎ (Rose before now × FailsToRead (inputs_of command) held text status)
+    ⊎ (RoseOrStands before now × FailsToRead (inputs_of command) held text status)
 
 -- what the words give, or that an input file of their command could not be read
 abbrev pub EndsBy : List (List ℕ) → Option FileMap → ℕ → ℕ → List ℕ → Status → Type 0
-EndsBy words held before now text status = ((now ≡ before) × Gives words held text status) ⊎ (Rose before now × Breaks words held text status)
+EndsBy words held before now text status = ((now ≡ before) × Gives words held text status) ⊎ (RoseOrStands before now × Breaks words held text status)
 
 -- it holds of the text and the status, unless memory ran out
 abbrev pub IsAnswer : (List ℕ → Status → Type 0) → Result Answer Halt → Type 0

@@ -21,7 +21,16 @@ const ACCEPTED: (&str, u8) = ("accepted\n", 0);
 const NOT_OF_THE_FORM: (&str, u8) = ("rule V99 msl \"\"\n", 1);
 
 /// Three documents, and what is told of them with which number.
-pub(crate) const FORMS: [([&str; 3], (&str, u8)); 22] = [
+pub(crate) const FORMS: [([&str; 3], (&str, u8)); 23] = [
+    // a member that stands twice, of which the last counts
+    (
+        [
+            r#"{"Namespace":"X","Namespace":"N","EntityContainer":{"Name":"C","EntitySet":[{"Name":"People","EntityType":"N.Person"}]},"EntityType":[{"Name":"Person","Key":["Id"],"Property":[{"Name":"Id","Type":"Int32","Nullable":false},{"Name":"Name","Type":"String","MaxLength":20}]}]}"#,
+            SSDL,
+            MSL,
+        ],
+        ACCEPTED,
+    ),
     // one property
     (
         [

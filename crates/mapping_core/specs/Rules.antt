@@ -1,13 +1,13 @@
 -- Which rule of the three documents is broken, and what they mean where none is.
 -- Rule 1: the bytes aren't JSON. Rule 99: the documents aren't of the form that is built so far; it comes last.
-use Rattle.std.specs.Prelude.{◌≡◌, ℕ, List, [], Option, Some, None, option_and_then}
+use Rattle.std.specs.Prelude.{◌≡◌, ℕ, List, [], Option, Some, None}
 use Rattle.serde_json.specs.Data.{Data}
 use Rattle.json_form.specs.Parts.{tree_at}
 use Rattle.edm_types.specs.declared.faults.RuleFault.{RuleFault}
 use Rattle.edm_types.specs.declared.faults.VocabFile.{VocabFile}
 use Rattle.edm_types.specs.declared.faults.VocabFile.TheVariants.{Csdl, Ssdl, Msl}
 use Rattle.round_trip.specs.Schema.{Schema}
-use Rattle.first_form.specs.Meaning.{first_form_meaning}
+use Rattle.first_form.specs.Meaning.{meaning_of_texts}
 
 -- a broken rule, at the root of its file
 abbrev pub fault_of : VocabFile → ℕ → RuleFault
@@ -28,9 +28,9 @@ abbrev pub first_of : Option RuleFault → Option RuleFault → Option RuleFault
 first_of None later = later
 first_of (Some fault) later = Some fault
 
--- what the bytes of the three documents mean
+-- what the bytes of the three documents mean, where they are of the form that is built so far
 abbrev pub meaning_at : List ℕ → List ℕ → List ℕ → Option Schema
-meaning_at csdl ssdl msl = option_and_then (λ c. option_and_then (λ s. option_and_then (λ m. first_form_meaning c s m) (tree_at msl)) (tree_at ssdl)) (tree_at csdl)
+meaning_at csdl ssdl msl = meaning_of_texts csdl ssdl msl
 
 -- the broken rule that is told: that of the first file that breaks one, the least of that file
 abbrev pub least_rule : List ℕ → List ℕ → List ℕ → Option RuleFault

@@ -15,7 +15,7 @@ use crate::failure::lost_failure;
 use crate::verdict::{Failure, Verdict};
 use edm_types::{EntityModel, RuleFault, VocabFile};
 use emc_base::{Bin, Memory, PropId, Seq, Txt};
-use first_form::{Meaning, first_unwritten, read_first_form};
+use first_form::{Meaning, read_first_form, unwritten_property};
 use json_form::{Doc, DocFault};
 use std::alloc::Global;
 
@@ -100,7 +100,7 @@ fn decide(alloc: Global, meaning: Meaning) -> Result<Compiled, Verdict>
     requires samples { AllowsSamples meaning.model }
     ensures { DecidesOn (schema_of meaning) result }
 {
-    match first_unwritten(&meaning) {
+    match unwritten_property(&meaning) {
         None => Ok(accepted(meaning)),
         Some(lost) => match failure_of(alloc, &meaning, lost) {
             Ok(failure) => Err(Verdict::Fails(failure)),

@@ -5,9 +5,14 @@
 /// The ways in which an entity state fails, in the order in which they are told.
 #[derive(Clone, Copy, Debug, PartialEq, Eq)]
 pub enum FailKind {
+    /// One cell has two different demanded values.
     Clash,
+    /// A demanded row has null in a column that isn't nullable.
     Null,
+    /// A fragment doesn't agree with the tables.
     Disagrees,
+    /// A foreign key whose columns are all not null finds no row.
     Dangling,
+    /// Another legal state has the same tables.
     Same,
 }

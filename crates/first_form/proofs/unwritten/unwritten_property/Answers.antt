@@ -8,7 +8,7 @@ use Rattle.round_trip.specs.Schema.{Schema}
 use Rattle.one_table.specs.OneTable.{WritesEveryProperty}
 use Rattle.first_form.specs.Schemas.{schema_of}
 use Rattle.first_form.specs.Unwritten.{IsNamedIn}
-use Rattle.first_form.proofs.unwritten.first_unwritten.Goals as goal
+use Rattle.first_form.proofs.unwritten.unwritten_property.Goals as goal
 
 -- each property of each of these types is named
 abbrev AreNamed : List Fragment → List EntityType → Type 0
