@@ -51,10 +51,6 @@ module _ {X : Type 0} where
   pub at_once : (xs : List X) (i : ℕ) (x y : X) → At xs i x → At xs i y → x ≡ y
   at_once xs i x y one two = cc
 
-  -- what stands at a place is a member
-  pub at_contains : (xs : List X) (i : ℕ) (x : X) → At xs i x → Contains xs x
-  at_contains xs i x at = (i, slice_get_within xs i x at, get_or_from_slice_get xs i x x at)
-
   -- what holds of the one item holds of all
   pub all_of_one : (P : X → Type 0) (xs : List X) (x : X) → xs ≡ x ∷ [] → P x → All P xs
   all_of_one P xs x one holds k d within = let P' : X → Type 0 = P in subst P' (sym (only_member xs x (get_or xs k d) one (Contains-get_or xs k d within))) holds

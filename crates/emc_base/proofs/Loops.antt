@@ -1,9 +1,8 @@
--- Turns of loops: one more item passed, mapped or folded, and what is so after the last.
-use Rattle.std.proofs.Common.{◌≡◌, ◌+◌, ◌≤◌, ℕ, List, [], ◌∷◌, ◌++◌, map, take, length, get_or, Bool, true, false, ◌&&◌, Some, slice_get, sym, ap, ◌∙◌, ◌<◌, fold, zero-add}
+-- Turns of loops: one more item taken, mapped or folded, and what is so after the last.
+use Rattle.std.proofs.Common.{◌≡◌, ◌+◌, ◌≤◌, ℕ, List, [], ◌∷◌, ◌++◌, map, take, length, get_or, Some, slice_get, sym, ap, ◌∙◌, ◌<◌, fold, zero-add}
 use Rattle.std.proofs.lemmas.List.{take_all, take_more}
 use Rattle.std.proofs.lemmas.Simd.{map-map}
-use Rattle.std.specs.List.{list_all, enumerate_from}
-use Rattle.std.proofs.lemmas.List.Folds.{list_all_more, list_all_at}
+use Rattle.std.specs.List.{enumerate_from}
 use Rattle.std.proofs.lemmas.Option.{slice_get_within, get_or_from_slice_get, slice_get_read}
 use Rattle.std.proofs.lemmas.List.FromFn.{get_or-enumerate_from, length-enumerate_from}
 use Rattle.std.proofs.lemmas.List.Sums.{fold_more}
@@ -13,19 +12,6 @@ pub take_item : {X : Type 0} (items : List X) (i : ℕ) (item : X) → slice_get
 take_item items i item here =
     take_more items i item (slice_get_within items i item here)
     ∙ ap (λ last. take i items ++ last ∷ []) (get_or_from_slice_get items i item item here)
-
--- the test passes for the item at the next place too
-pub list_all-take_item : {X : Type 0} (p : X → Bool) (items : List X) (i : ℕ) (item : X) → slice_get items i ≡ Some item → p item ≡ true
-    → list_all p (take i items) ≡ true → list_all p (take (i + 1) items) ≡ true
-list_all-take_item p items i item here passes before =
-    list_all_more p items i item (slice_get_within items i item here)
-    ∙ ap (λ passed. passed && p (get_or items i item)) before
-    ∙ ap p (get_or_from_slice_get items i item item here) ∙ passes
-
--- an item that doesn't pass decides
-pub list_all-fails : {X : Type 0} (p : X → Bool) (items : List X) (i : ℕ) (item : X) → slice_get items i ≡ Some item → p item ≡ false
-    → list_all p items ≡ false
-list_all-fails p items i item here fails = list_all_at p items i item (slice_get_within items i item here) (ap p (get_or_from_slice_get items i item item here) ∙ fails)
 
 -- a loop over all items has mapped each
 pub map-taken : {X Y Z : Type 0} (g : Y → Z) (f : X → Y) (items : List X) (made : List Z) (i : ℕ) → length items ≤ i

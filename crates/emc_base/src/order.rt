@@ -10,7 +10,7 @@ use crate::seq::Seq;
 use crate::value::{Key, Value};
 use std::cmp::Ordering;
 
-/// The law of the order: it is total, and tells different values apart; so is and does that of keys.
+/// The law of the orders of values and of keys: each is total, and tells different ones apart.
 pub fn order_is_total()
     ensures values { IsTotalOrder value_cmp }
     ensures values_apart { IsAntisymmetric value_cmp }

@@ -1,4 +1,4 @@
-ghost use Rattle.std.specs.Prelude.{◌≡◌, ◌||◌, IfOk, map, is_some};
+ghost use Rattle.std.specs.Prelude.{◌≡◌, ◌||◌, IfOk, map, is_some, string_bytes};
 ghost use Rattle.std.specs.List.{list_all, list_any};
 ghost use Rattle.std.specs.Str.{bytes_eq};
 ghost use Rattle.serde_json.specs.Find.{get};
@@ -10,7 +10,7 @@ ghost use Rattle.first_form.specs.Parts.{has_members, is_among, items_at, part_a
 
 use emc_base::{Memory, Txt};
 use json_form::Node;
-use serde_json::Value;
+use serde_json::{Map, Value};
 use std::alloc::Global;
 
 // The text at a pointer; the empty one where there is none.
@@ -112,15 +112,18 @@ fn has_member(node: &Node<'_>, name: &str) -> bool
 fn has_no_other(node: &Node<'_>, needed: &[&str], allowed: &[&str]) -> bool
     ensures { result ≡ list_all (λ member. is_among (texts needed.now) member.0 || is_among (texts allowed.now) member.0) (members_in (part_of node.now)) }
 {
-    for i in 0..node.count() {
-        let Some((name, _)) = node.member_at(i) else {
-            continue;
-        };
-        if !is_known(needed, allowed, name) {
-            return false;
-        }
+    match node.members() {
+        Some(members) => are_known(members, needed, allowed),
+        None => true,
     }
-    true
+}
+
+fn are_known(members: &Map<String, Value>, needed: &[&str], allowed: &[&str]) -> bool
+    ensures { result ≡ list_all (λ entry. is_among (texts needed.now) (string_bytes entry.0) || is_among (texts allowed.now) (string_bytes entry.0)) members.now.entries }
+{
+    members
+        .iter()
+        .all(|(name, _)| is_known(needed, allowed, name.as_str()))
 }
 
 fn is_known(needed: &[&str], allowed: &[&str], name: &str) -> bool

@@ -58,18 +58,22 @@ members_in-as_object (string s) ms is = cc
 members_in-as_object (array ds) ms is = cc
 members_in-as_object (object es) ms is = let same : ms ≡ es = cc in ap list_of_members (sym same)
 
--- the member at a place, by the entries of the map that keeps them
+-- the members, by the entries of the map that keeps them
+pub members_in-entries : (d : Data) (es : List Entry) → Some (members_view es) ≡ as_object d → members_in d ≡ map shown es
+members_in-entries d es is = members_in-as_object d (members_view es) is ∙ list_of_members-members_view es
+
+-- the member at a place
 pub slice_get-members_in : (d : Data) (es : List Entry) (i : ℕ) → Some (members_view es) ≡ as_object d → slice_get (members_in d) i ≡ option_map shown (slice_get es i)
-slice_get-members_in d es i is = ap (λ ms. slice_get ms i) (members_in-as_object d (members_view es) is ∙ list_of_members-members_view es) ∙ slice_get-map shown es i
+slice_get-members_in d es i is = ap (λ ms. slice_get ms i) (members_in-entries d es is) ∙ slice_get-map shown es i
 
 -- what is no object has no members
-pub members_in-None : (d : Data) (i : ℕ) → None ≡ as_object d → slice_get (members_in d) i ≡ None
-members_in-None null i is = refl
-members_in-None (boolean b) i is = refl
-members_in-None (number n) i is = refl
-members_in-None (string s) i is = refl
-members_in-None (array ds) i is = refl
-members_in-None (object es) i is = cc
+pub members_in-None : (d : Data) → None ≡ as_object d → members_in d ≡ []
+members_in-None null is = refl
+members_in-None (boolean b) is = refl
+members_in-None (number n) is = refl
+members_in-None (string s) is = refl
+members_in-None (array ds) is = refl
+members_in-None (object es) is = cc
 
 none_by : (utf8 : Bool) (tree : Option Data) → (utf8 ≡ true → tree ≡ None) → cond utf8 tree None ≡ None
 none_by true tree none = none refl

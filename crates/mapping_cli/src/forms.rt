@@ -20,10 +20,10 @@ const ACCEPTED: (&str, u8) = ("accepted\n", 0);
 
 const NOT_OF_THE_FORM: (&str, u8) = ("rule V99 msl \"\"\n", 1);
 
-/// Three documents, and what is told of them with which number.
-pub(crate) const FORMS: [([&str; 3], (&str, u8)); 23] = [
-    // a member that stands twice, of which the last counts
+/// What three documents are, the documents, and what is told of them with which number.
+pub(crate) const FORMS: [(&str, [&str; 3], (&str, u8)); 23] = [
     (
+        "a member that stands twice, of which the last counts",
         [
             r#"{"Namespace":"X","Namespace":"N","EntityContainer":{"Name":"C","EntitySet":[{"Name":"People","EntityType":"N.Person"}]},"EntityType":[{"Name":"Person","Key":["Id"],"Property":[{"Name":"Id","Type":"Int32","Nullable":false},{"Name":"Name","Type":"String","MaxLength":20}]}]}"#,
             SSDL,
@@ -31,8 +31,8 @@ pub(crate) const FORMS: [([&str; 3], (&str, u8)); 23] = [
         ],
         ACCEPTED,
     ),
-    // one property
     (
+        "one property",
         [
             r#"{"Namespace":"N","EntityContainer":{"Name":"C","EntitySet":[{"Name":"People","EntityType":"N.Person"}]},"EntityType":[{"Name":"Person","Key":["Id"],"Property":[{"Name":"Id","Type":"Int32","Nullable":false}]}]}"#,
             r#"{"Namespace":"S","EntityContainer":{"Name":"D","EntitySet":[{"Name":"People","EntityType":"S.People"}]},"EntityType":[{"Name":"People","Key":["Id"],"Property":[{"Name":"Id","Type":"int","Nullable":false}]}]}"#,
@@ -40,8 +40,8 @@ pub(crate) const FORMS: [([&str; 3], (&str, u8)); 23] = [
         ],
         ACCEPTED,
     ),
-    // sixteen properties
     (
+        "sixteen properties",
         [
             r#"{"Namespace":"N","EntityContainer":{"Name":"C","EntitySet":[{"Name":"People","EntityType":"N.Person"}]},"EntityType":[{"Name":"Person","Key":["Id"],"Property":[{"Name":"Id","Type":"Int32","Nullable":false},{"Name":"Name","Type":"String","MaxLength":20},{"Name":"P0","Type":"String"},{"Name":"P1","Type":"Int32"},{"Name":"P2","Type":"String"},{"Name":"P3","Type":"Int32"},{"Name":"P4","Type":"String"},{"Name":"P5","Type":"Int32"},{"Name":"P6","Type":"String"},{"Name":"P7","Type":"Int32"},{"Name":"P8","Type":"String"},{"Name":"P9","Type":"Int32"},{"Name":"P10","Type":"String"},{"Name":"P11","Type":"Int32"},{"Name":"P12","Type":"String"},{"Name":"P13","Type":"Int32"}]}]}"#,
             r#"{"Namespace":"S","EntityContainer":{"Name":"D","EntitySet":[{"Name":"People","EntityType":"S.People"}]},"EntityType":[{"Name":"People","Key":["Id"],"Property":[{"Name":"Id","Type":"int","Nullable":false},{"Name":"Name","Type":"nvarchar","MaxLength":20},{"Name":"C99","Type":"nvarchar"},{"Name":"C98","Type":"int"},{"Name":"C97","Type":"nvarchar"},{"Name":"C96","Type":"int"},{"Name":"C95","Type":"nvarchar"},{"Name":"C94","Type":"int"},{"Name":"C93","Type":"nvarchar"},{"Name":"C92","Type":"int"},{"Name":"C91","Type":"nvarchar"},{"Name":"C90","Type":"int"},{"Name":"C89","Type":"nvarchar"},{"Name":"C88","Type":"int"},{"Name":"C87","Type":"nvarchar"},{"Name":"C86","Type":"int"}]}]}"#,
@@ -49,8 +49,8 @@ pub(crate) const FORMS: [([&str; 3], (&str, u8)); 23] = [
         ],
         ACCEPTED,
     ),
-    // seventeen properties
     (
+        "seventeen properties",
         [
             r#"{"Namespace":"N","EntityContainer":{"Name":"C","EntitySet":[{"Name":"People","EntityType":"N.Person"}]},"EntityType":[{"Name":"Person","Key":["Id"],"Property":[{"Name":"Id","Type":"Int32","Nullable":false},{"Name":"Name","Type":"String","MaxLength":20},{"Name":"P0","Type":"String"},{"Name":"P1","Type":"Int32"},{"Name":"P2","Type":"String"},{"Name":"P3","Type":"Int32"},{"Name":"P4","Type":"String"},{"Name":"P5","Type":"Int32"},{"Name":"P6","Type":"String"},{"Name":"P7","Type":"Int32"},{"Name":"P8","Type":"String"},{"Name":"P9","Type":"Int32"},{"Name":"P10","Type":"String"},{"Name":"P11","Type":"Int32"},{"Name":"P12","Type":"String"},{"Name":"P13","Type":"Int32"},{"Name":"P14","Type":"String"}]}]}"#,
             r#"{"Namespace":"S","EntityContainer":{"Name":"D","EntitySet":[{"Name":"People","EntityType":"S.People"}]},"EntityType":[{"Name":"People","Key":["Id"],"Property":[{"Name":"Id","Type":"int","Nullable":false},{"Name":"Name","Type":"nvarchar","MaxLength":20},{"Name":"C99","Type":"nvarchar"},{"Name":"C98","Type":"int"},{"Name":"C97","Type":"nvarchar"},{"Name":"C96","Type":"int"},{"Name":"C95","Type":"nvarchar"},{"Name":"C94","Type":"int"},{"Name":"C93","Type":"nvarchar"},{"Name":"C92","Type":"int"},{"Name":"C91","Type":"nvarchar"},{"Name":"C90","Type":"int"},{"Name":"C89","Type":"nvarchar"},{"Name":"C88","Type":"int"},{"Name":"C87","Type":"nvarchar"},{"Name":"C86","Type":"int"},{"Name":"C85","Type":"nvarchar"}]}]}"#,
@@ -58,8 +58,8 @@ pub(crate) const FORMS: [([&str; 3], (&str, u8)); 23] = [
         ],
         NOT_OF_THE_FORM,
     ),
-    // largest bound
     (
+        "largest bound",
         [
             r#"{"Namespace":"N","EntityContainer":{"Name":"C","EntitySet":[{"Name":"People","EntityType":"N.Person"}]},"EntityType":[{"Name":"Person","Key":["Id"],"Property":[{"Name":"Id","Type":"Int32","Nullable":false},{"Name":"Name","Type":"String","MaxLength":1048576}]}]}"#,
             r#"{"Namespace":"S","EntityContainer":{"Name":"D","EntitySet":[{"Name":"People","EntityType":"S.People"}]},"EntityType":[{"Name":"People","Key":["Id"],"Property":[{"Name":"Id","Type":"int","Nullable":false},{"Name":"Name","Type":"nvarchar","MaxLength":1048576}]}]}"#,
@@ -67,8 +67,8 @@ pub(crate) const FORMS: [([&str; 3], (&str, u8)); 23] = [
         ],
         ACCEPTED,
     ),
-    // smallest bound
     (
+        "smallest bound",
         [
             r#"{"Namespace":"N","EntityContainer":{"Name":"C","EntitySet":[{"Name":"People","EntityType":"N.Person"}]},"EntityType":[{"Name":"Person","Key":["Id"],"Property":[{"Name":"Id","Type":"Int32","Nullable":false},{"Name":"Name","Type":"String","MaxLength":1}]}]}"#,
             r#"{"Namespace":"S","EntityContainer":{"Name":"D","EntitySet":[{"Name":"People","EntityType":"S.People"}]},"EntityType":[{"Name":"People","Key":["Id"],"Property":[{"Name":"Id","Type":"int","Nullable":false},{"Name":"Name","Type":"nvarchar","MaxLength":1}]}]}"#,
@@ -76,8 +76,8 @@ pub(crate) const FORMS: [([&str; 3], (&str, u8)); 23] = [
         ],
         ACCEPTED,
     ),
-    // bound past the largest
     (
+        "bound past the largest",
         [
             r#"{"Namespace":"N","EntityContainer":{"Name":"C","EntitySet":[{"Name":"People","EntityType":"N.Person"}]},"EntityType":[{"Name":"Person","Key":["Id"],"Property":[{"Name":"Id","Type":"Int32","Nullable":false},{"Name":"Name","Type":"String","MaxLength":1048577}]}]}"#,
             r#"{"Namespace":"S","EntityContainer":{"Name":"D","EntitySet":[{"Name":"People","EntityType":"S.People"}]},"EntityType":[{"Name":"People","Key":["Id"],"Property":[{"Name":"Id","Type":"int","Nullable":false},{"Name":"Name","Type":"nvarchar","MaxLength":1048577}]}]}"#,
@@ -85,8 +85,8 @@ pub(crate) const FORMS: [([&str; 3], (&str, u8)); 23] = [
         ],
         NOT_OF_THE_FORM,
     ),
-    // column named twice
     (
+        "column named twice",
         [
             CSDL,
             SSDL,
@@ -94,8 +94,8 @@ pub(crate) const FORMS: [([&str; 3], (&str, u8)); 23] = [
         ],
         NOT_OF_THE_FORM,
     ),
-    // dotted namespace
     (
+        "dotted namespace",
         [
             r#"{"Namespace":"A.B.C","EntityContainer":{"Name":"C","EntitySet":[{"Name":"People","EntityType":"A.B.C.Person"}]},"EntityType":[{"Name":"Person","Key":["Id"],"Property":[{"Name":"Id","Type":"Int32","Nullable":false},{"Name":"Name","Type":"String","MaxLength":20}]}]}"#,
             SSDL,
@@ -103,8 +103,8 @@ pub(crate) const FORMS: [([&str; 3], (&str, u8)); 23] = [
         ],
         ACCEPTED,
     ),
-    // free column
     (
+        "free column",
         [
             CSDL,
             r#"{"Namespace":"S","EntityContainer":{"Name":"D","EntitySet":[{"Name":"People","EntityType":"S.People"}]},"EntityType":[{"Name":"People","Key":["Id"],"Property":[{"Name":"Id","Type":"int","Nullable":false},{"Name":"Name","Type":"nvarchar","MaxLength":20},{"Name":"Note","Type":"nvarchar"}]}]}"#,
@@ -112,8 +112,8 @@ pub(crate) const FORMS: [([&str; 3], (&str, u8)); 23] = [
         ],
         ACCEPTED,
     ),
-    // key that may be null
     (
+        "key that may be null",
         [
             r#"{"Namespace":"N","EntityContainer":{"Name":"C","EntitySet":[{"Name":"People","EntityType":"N.Person"}]},"EntityType":[{"Name":"Person","Key":["Id"],"Property":[{"Name":"Id","Type":"Int32"},{"Name":"Name","Type":"String","MaxLength":20}]}]}"#,
             SSDL,
@@ -121,8 +121,8 @@ pub(crate) const FORMS: [([&str; 3], (&str, u8)); 23] = [
         ],
         NOT_OF_THE_FORM,
     ),
-    // key that is text
     (
+        "key that is text",
         [
             r#"{"Namespace":"N","EntityContainer":{"Name":"C","EntitySet":[{"Name":"People","EntityType":"N.Person"}]},"EntityType":[{"Name":"Person","Key":["Id"],"Property":[{"Name":"Id","Type":"String","Nullable":false},{"Name":"Name","Type":"String","MaxLength":20}]}]}"#,
             r#"{"Namespace":"S","EntityContainer":{"Name":"D","EntitySet":[{"Name":"People","EntityType":"S.People"}]},"EntityType":[{"Name":"People","Key":["Id"],"Property":[{"Name":"Id","Type":"nvarchar","Nullable":false},{"Name":"Name","Type":"nvarchar","MaxLength":20}]}]}"#,
@@ -130,8 +130,8 @@ pub(crate) const FORMS: [([&str; 3], (&str, u8)); 23] = [
         ],
         NOT_OF_THE_FORM,
     ),
-    // key not written
     (
+        "key not written",
         [
             CSDL,
             SSDL,
@@ -139,8 +139,8 @@ pub(crate) const FORMS: [([&str; 3], (&str, u8)); 23] = [
         ],
         NOT_OF_THE_FORM,
     ),
-    // name with quotes
     (
+        "name with quotes",
         [
             r#"{"Namespace":"N","EntityContainer":{"Name":"C","EntitySet":[{"Name":"People","EntityType":"N.Person"}]},"EntityType":[{"Name":"Person","Key":["Id"],"Property":[{"Name":"Id","Type":"Int32","Nullable":false},{"Name":"N\"\\\u0001😀","Type":"String","MaxLength":20}]}]}"#,
             r#"{"Namespace":"S","EntityContainer":{"Name":"D","EntitySet":[{"Name":"People","EntityType":"S.People"}]},"EntityType":[{"Name":"People","Key":["Id"],"Property":[{"Name":"Id","Type":"int","Nullable":false},{"Name":"c\"\t","Type":"nvarchar","MaxLength":20}]}]}"#,
@@ -148,8 +148,8 @@ pub(crate) const FORMS: [([&str; 3], (&str, u8)); 23] = [
         ],
         ACCEPTED,
     ),
-    // name with quotes lost
     (
+        "name with quotes lost",
         [
             r#"{"Namespace":"N","EntityContainer":{"Name":"C","EntitySet":[{"Name":"People","EntityType":"N.Person"}]},"EntityType":[{"Name":"Person","Key":["Id"],"Property":[{"Name":"Id","Type":"Int32","Nullable":false},{"Name":"N\"\\\u0001😀","Type":"String","MaxLength":20}]}]}"#,
             SSDL,
@@ -160,8 +160,8 @@ pub(crate) const FORMS: [([&str; 3], (&str, u8)); 23] = [
             1,
         ),
     ),
-    // narrow column
     (
+        "narrow column",
         [
             CSDL,
             r#"{"Namespace":"S","EntityContainer":{"Name":"D","EntitySet":[{"Name":"People","EntityType":"S.People"}]},"EntityType":[{"Name":"People","Key":["Id"],"Property":[{"Name":"Id","Type":"int","Nullable":false},{"Name":"Name","Type":"nvarchar","MaxLength":19}]}]}"#,
@@ -169,8 +169,8 @@ pub(crate) const FORMS: [([&str; 3], (&str, u8)); 23] = [
         ],
         NOT_OF_THE_FORM,
     ),
-    // nullable told
     (
+        "nullable told",
         [
             r#"{"Namespace":"N","EntityContainer":{"Name":"C","EntitySet":[{"Name":"People","EntityType":"N.Person"}]},"EntityType":[{"Name":"Person","Key":["Id"],"Property":[{"Name":"Id","Type":"Int32","Nullable":false},{"Name":"Name","Type":"String","MaxLength":20,"Nullable":true}]}]}"#,
             r#"{"Namespace":"S","EntityContainer":{"Name":"D","EntitySet":[{"Name":"People","EntityType":"S.People"}]},"EntityType":[{"Name":"People","Key":["Id"],"Property":[{"Name":"Id","Type":"int","Nullable":false},{"Name":"Name","Type":"nvarchar","MaxLength":20,"Nullable":true}]}]}"#,
@@ -178,8 +178,8 @@ pub(crate) const FORMS: [([&str; 3], (&str, u8)); 23] = [
         ],
         ACCEPTED,
     ),
-    // another order
     (
+        "another order",
         [
             r#"{"Namespace":"N","EntityContainer":{"Name":"C","EntitySet":[{"Name":"People","EntityType":"N.Person"}]},"EntityType":[{"Name":"Person","Key":["Id"],"Property":[{"Name":"Name","Type":"String","MaxLength":20},{"Name":"Id","Type":"Int32","Nullable":false}]}]}"#,
             r#"{"Namespace":"S","EntityContainer":{"Name":"D","EntitySet":[{"Name":"People","EntityType":"S.People"}]},"EntityType":[{"Name":"People","Key":["Id"],"Property":[{"Name":"Name","Type":"nvarchar","MaxLength":20},{"Name":"Id","Type":"int","Nullable":false}]}]}"#,
@@ -187,8 +187,8 @@ pub(crate) const FORMS: [([&str; 3], (&str, u8)); 23] = [
         ],
         ACCEPTED,
     ),
-    // property without bound
     (
+        "property without bound",
         [
             r#"{"Namespace":"N","EntityContainer":{"Name":"C","EntitySet":[{"Name":"People","EntityType":"N.Person"}]},"EntityType":[{"Name":"Person","Key":["Id"],"Property":[{"Name":"Id","Type":"Int32","Nullable":false},{"Name":"Name","Type":"String"}]}]}"#,
             SSDL,
@@ -196,8 +196,8 @@ pub(crate) const FORMS: [([&str; 3], (&str, u8)); 23] = [
         ],
         NOT_OF_THE_FORM,
     ),
-    // wider column
     (
+        "wider column",
         [
             CSDL,
             r#"{"Namespace":"S","EntityContainer":{"Name":"D","EntitySet":[{"Name":"People","EntityType":"S.People"}]},"EntityType":[{"Name":"People","Key":["Id"],"Property":[{"Name":"Id","Type":"int","Nullable":false},{"Name":"Name","Type":"nvarchar"}]}]}"#,
@@ -205,8 +205,8 @@ pub(crate) const FORMS: [([&str; 3], (&str, u8)); 23] = [
         ],
         ACCEPTED,
     ),
-    // wrong container
     (
+        "wrong container",
         [
             CSDL,
             SSDL,
@@ -214,8 +214,8 @@ pub(crate) const FORMS: [([&str; 3], (&str, u8)); 23] = [
         ],
         NOT_OF_THE_FORM,
     ),
-    // unknown member
     (
+        "unknown member",
         [
             CSDL,
             SSDL,
@@ -223,8 +223,8 @@ pub(crate) const FORMS: [([&str; 3], (&str, u8)); 23] = [
         ],
         NOT_OF_THE_FORM,
     ),
-    // not JSON before not of the form
     (
+        "not JSON before not of the form",
         [
             r#"{"Namespace":"N","EntityContainer":{"Name":"C","EntitySet":[{"Name":"People","EntityType":"N.Person"}]},"EntityType":[{"Name":"Person","Key":["Id"],"Property":[{"Name":"Id","Type":"Int32","Nullable":false},{"Name":"Name","Type":"String","MaxLength":20}]}],"X":1}"#,
             SSDL,

@@ -1,6 +1,8 @@
 //! The command line of the mapping compiler.
 #![tactic(auto)]
 
+ghost use Rattle.std.specs.Prelude.{◌≡◌, drop};
+
 mod answer;
 mod check;
 mod commands;
@@ -32,14 +34,25 @@ fn run_on_disk(rt: &HostRuntime) -> io::Result<Status> {
     };
     let mut files = DiskFiles::new(rt.clone()?);
     let mut out = OutSink::new(rt.clone()?);
-    Ok(run(rt.alloc(), words.as_slice(), &mut files, &mut out))
+    let words = after_name(words.as_slice());
+    Ok(run(rt.alloc(), words, &mut files, &mut out))
 }
 
-// The words after the program's name.
+// The words of this process, of which the first is the program's own name.
 fn words_of(rt: &HostRuntime) -> io::Result<Vec<Txt>> {
     let mut words = Vec::new(rt.alloc());
-    for word in env::args(rt)?.skip(1) {
+    for word in env::args(rt)? {
         words.push(Txt::from_string(word))?;
     }
     Ok(words)
+}
+
+// The words after the program's own name.
+fn after_name(words: &[Txt]) -> &[Txt]
+    ensures { result.now ≡ drop 1 words.now }
+{
+    match words {
+        [_, words @ ..] => words,
+        [] => &[],
+    }
 }

@@ -1,5 +1,6 @@
 use crate::commands::run;
 use crate::forms::{CSDL, FORMS, LOSING_MSL, MSL, SSDL};
+use crate::status::Status;
 use emc_base::{Bin, MemFiles, MemSink, Seq, Txt};
 use json_form::{Doc, DocFault};
 use std::alloc::Global;
@@ -47,15 +48,14 @@ fn texts_of(rt: &impl Abort, alloc: Global, words: &[&str]) -> Vec<Txt> {
     texts
 }
 
-// Runs the words over files in memory: what is written, and the number it ends with.
-fn prints(
+// Runs the words over files in memory: where it is written, and how it ends.
+fn runs(
     rt: &impl Abort,
     alloc: Global,
     words: &[&str],
     held: &[(&str, &[u8])],
     faults: &Faults<'_>,
-    (text, number): (&str, u8),
-) {
+) -> (MemSink, Status) {
     let words = texts_of(rt, alloc, words);
     let mut files = files_of(rt, alloc, held, faults.reads);
     let mut numbers = Vec::new(alloc);
@@ -64,6 +64,19 @@ fn prints(
         .expect(rt, "memory");
     let mut out = MemSink::new(alloc, Seq::from_vec(numbers).expect(rt, "memory"));
     let status = run(alloc, words.as_slice(), &mut files, &mut out);
+    (out, status)
+}
+
+// What the words print over files in memory, and the number they end with.
+fn prints(
+    rt: &impl Abort,
+    alloc: Global,
+    words: &[&str],
+    held: &[(&str, &[u8])],
+    faults: &Faults<'_>,
+    (text, number): (&str, u8),
+) {
+    let (out, status) = runs(rt, alloc, words, held, faults);
     assert_eq!(rt; out.written(), text.as_bytes());
     assert_eq!(rt; status.number(), number);
 }
@@ -91,8 +104,15 @@ fn shows_two_states_of_one_table(rt: HostRuntime) {
 
 #[test]
 fn reads_the_first_form_alone(rt: HostRuntime) {
-    for (documents, answer) in FORMS {
-        tells(&rt, rt.alloc(), documents, answer);
+    for (name, [csdl, ssdl, msl], (text, number)) in FORMS {
+        let held = [
+            ("M", csdl.as_bytes()),
+            ("S", ssdl.as_bytes()),
+            ("P", msl.as_bytes()),
+        ];
+        let (out, status) = runs(&rt, rt.alloc(), &CHECK, &held, &NO_FAULTS);
+        assert_eq!(rt; out.written(), text.as_bytes(), "of {name}");
+        assert_eq!(rt; status.number(), number, "of {name}");
     }
 }
 

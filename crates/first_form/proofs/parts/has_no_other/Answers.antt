@@ -1,17 +1,19 @@
-use Rattle.std.proofs.Common.{◌||◌, sym, List, ℕ, Bool}
+use Rattle.std.proofs.Common.{◌∙◌, ◌||◌, ap, sym, List, ℕ, Bool}
+use Rattle.std.specs.List.{list_all}
+use Rattle.std.proofs.lemmas.List.Folds.{list_all-map}
 use Rattle.serde_json.specs.Data.{Data}
-use Rattle.json_form.specs.Parts.{members_in}
 use Rattle.json_form.specs.Nodes.{part_of}
-use Rattle.emc_base.proofs.Loops.{list_all-take_item, list_all-fails}
+use Rattle.json_form.proofs.Views.{members_in-None, members_in-entries, shown}
 use Rattle.first_form.specs.Parts.{is_among, texts}
 use Rattle.first_form.proofs.parts.has_no_other.Goals as goal
 
-pub returns-then-not-is_known : goal.returns-then-not-is_known
-returns-then-not-is_known c =
+pub returns-in-Some : goal.returns-in-Some
+returns-in-Some c =
     let known : List ℕ × Data → Bool = λ member. is_among (texts c.args.needed.now) member.0 || is_among (texts c.args.allowed.now) member.0 in
-    sym (list_all-fails known (members_in (part_of c.args.node.now)) c.loop-i.i _ (sym c.in-Some.ensures) (sym c.if-not-is_known.ensures))
+    let entries = c.in-Some.members.now.entries in
+    c.are_known.ensures ∙ sym (ap (list_all known) (members_in-entries (part_of c.args.node.now) entries c.in-Some.ensures) ∙ list_all-map known shown entries)
 
-pub loop-i-preserved : goal.loop-i-preserved
-loop-i-preserved c =
+pub returns-in-None : goal.returns-in-None
+returns-in-None c =
     let known : List ℕ × Data → Bool = λ member. is_among (texts c.args.needed.now) member.0 || is_among (texts c.args.allowed.now) member.0 in
-    list_all-take_item known (members_in (part_of c.args.node.now)) c.loop-i.i _ (sym c.in-Some.ensures) (sym c.if-not-is_known.ensures) c.loop-i.invariant
+    sym (ap (list_all known) (members_in-None (part_of c.args.node.now) c.in-None.ensures))
