@@ -104,16 +104,28 @@ fn shows_two_states_of_one_table(rt: HostRuntime) {
 
 #[test]
 fn reads_the_first_form_alone(rt: HostRuntime) {
-    for (name, [csdl, ssdl, msl], (text, number)) in FORMS {
-        let held = [
-            ("M", csdl.as_bytes()),
-            ("S", ssdl.as_bytes()),
-            ("P", msl.as_bytes()),
-        ];
-        let (out, status) = runs(&rt, rt.alloc(), &CHECK, &held, &NO_FAULTS);
-        assert_eq!(rt; out.written(), text.as_bytes(), "of {name}");
-        assert_eq!(rt; status.number(), number, "of {name}");
+    for (name, documents, answer) in FORMS {
+        tells_of(&rt, rt.alloc(), name, documents, answer);
     }
+}
+
+// The same of documents with a name, which a failure tells.
+fn tells_of(
+    rt: &impl Abort,
+    alloc: Global,
+    name: &str,
+    documents: [&str; 3],
+    (text, number): (&str, u8),
+) {
+    let [csdl, ssdl, msl] = documents;
+    let held = [
+        ("M", csdl.as_bytes()),
+        ("S", ssdl.as_bytes()),
+        ("P", msl.as_bytes()),
+    ];
+    let (out, status) = runs(rt, alloc, &CHECK, &held, &NO_FAULTS);
+    assert_eq!(rt; out.written(), text.as_bytes(), "of {name}");
+    assert_eq!(rt; status.number(), number, "of {name}");
 }
 
 #[test]
