@@ -2,14 +2,7 @@
 -- Source: CSDL version 3, EntityType, Key and Property.
 use Rattle.std.specs.Prelude.{◌≡◌, ◌==◌, List, [], ◌∷◌, map, length, slice_get, Option, if◌then◌else◌}
 use Rattle.std.specs.Option.{option_map_or}
-use Rattle.emc_base.specs.declared.ids.TypeId.{TypeId}
-use Rattle.emc_base.specs.declared.ids.PropId.{PropId}
-use Rattle.emc_base.specs.declared.value.Value.{Value}
-use Rattle.emc_base.specs.declared.value.Value.TheVariants.{Null}
-use Rattle.edm_types.specs.declared.model.EntityModel.{EntityModel}
-use Rattle.edm_types.specs.declared.model.EntityType.{EntityType}
-use Rattle.edm_types.specs.declared.data.Entity.{Entity}
-use Rattle.emc_base.specs.Lists.{At}
+use Rattle.edm_types.specs.Types.{TypeId, PropId, Value, Null, EntityModel, EntityType, Entity, At}
 
 -- the type of an id; None where the model has none
 abbrev pub type_at : EntityModel → TypeId → Option EntityType

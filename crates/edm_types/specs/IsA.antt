@@ -1,10 +1,7 @@
 -- Which types are derived from which.
 -- Source: CSDL version 3, EntityType and its BaseType.
 use Rattle.std.specs.Prelude.{◌≡◌, Some, false}
-use Rattle.emc_base.specs.declared.ids.TypeId.{TypeId}
-use Rattle.edm_types.specs.declared.model.EntityModel.{EntityModel}
-use Rattle.edm_types.specs.declared.model.EntityType.{EntityType}
-use Rattle.emc_base.specs.Lists.{At}
+use Rattle.edm_types.specs.Types.{TypeId, EntityModel, EntityType, At}
 
 -- u is the BaseType of t
 abbrev pub HasBase : EntityModel → TypeId → TypeId → Type 0

@@ -1,14 +1,7 @@
 -- Tables as lists of rows. A cell that isn't there counts as null.
 -- Source: SSDL version 3, EntitySet, EntityType and Key.
 use Rattle.std.specs.Prelude.{◌≡◌, List, [], map, length, slice_get, All, IsPermutation, unwrap_or}
-use Rattle.emc_base.specs.declared.ids.TableId.{TableId}
-use Rattle.emc_base.specs.declared.ids.ColId.{ColId}
-use Rattle.emc_base.specs.declared.value.Value.{Value}
-use Rattle.emc_base.specs.declared.value.Value.TheVariants.{Null}
-use Rattle.edm_types.specs.declared.store.StoreModel.{StoreModel}
-use Rattle.edm_types.specs.declared.store.Table.{Table}
-use Rattle.edm_types.specs.declared.data.Row.{Row}
-use Rattle.emc_base.specs.Lists.{At}
+use Rattle.edm_types.specs.Types.{TableId, ColId, Value, Null, StoreModel, Table, Row, At}
 
 -- rows for each table
 abbrev pub Tables : Type 0

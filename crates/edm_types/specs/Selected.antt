@@ -1,19 +1,9 @@
 -- Which entities a fragment selects, and which rows it shows.
 -- Source: MSL version 3, MappingFragment and Condition; the select-project queries of Melnik, Adya and Bernstein, SIGMOD 2007.
 use Rattle.std.specs.Prelude.{◌≡◌, ◌≢◌, ◌++◌, true, false, All, Any, MatchBool, ⊤}
-use Rattle.emc_base.specs.declared.ids.TypeId.{TypeId}
-use Rattle.emc_base.specs.declared.value.Value.{Value}
-use Rattle.emc_base.specs.declared.value.Value.TheVariants.{Null}
-use Rattle.edm_types.specs.declared.model.EntityModel.{EntityModel}
-use Rattle.edm_types.specs.declared.mapping.Fragment.{Fragment}
-use Rattle.edm_types.specs.declared.mapping.LinkFragment.{LinkFragment}
-use Rattle.edm_types.specs.declared.mapping.Pick.{Pick}
-use Rattle.edm_types.specs.declared.mapping.CondOn.{CondOn}
+use Rattle.edm_types.specs.Types.{TypeId, Value, Null, EntityModel, Fragment, Pick, LinkFragment, CondOn, Test, Entity, Row}
 use Rattle.edm_types.specs.declared.mapping.CondOn.TheVariants as on
-use Rattle.edm_types.specs.declared.mapping.Test.{Test}
 use Rattle.edm_types.specs.declared.mapping.Test.TheVariants.{IsNull, Equals}
-use Rattle.edm_types.specs.declared.data.Entity.{Entity}
-use Rattle.edm_types.specs.declared.data.Row.{Row}
 use Rattle.edm_types.specs.IsA.{IsA}
 use Rattle.edm_types.specs.Entities.{value_of}
 use Rattle.edm_types.specs.Rows.{cell_of}

@@ -1,13 +1,7 @@
 -- Entity states. Source: the client state of Melnik, Adya and Bernstein, SIGMOD 2007; CSDL version 3, EntitySet and
 -- AssociationSet.
 use Rattle.std.specs.Prelude.{◌≡◌, List, [], length, slice_get, None, All, IsPermutation, unwrap_or}
-use Rattle.emc_base.specs.declared.ids.SetId.{SetId}
-use Rattle.emc_base.specs.declared.ids.AssocId.{AssocId}
-use Rattle.edm_types.specs.declared.model.EntityModel.{EntityModel}
-use Rattle.edm_types.specs.declared.model.Assoc.{Assoc}
-use Rattle.edm_types.specs.declared.data.Entity.{Entity}
-use Rattle.edm_types.specs.declared.data.Link.{Link}
-use Rattle.emc_base.specs.Lists.{At}
+use Rattle.edm_types.specs.Types.{SetId, AssocId, EntityModel, Assoc, Entity, Link, At}
 use Rattle.edm_types.specs.Entities.{key_props, IsEntity}
 
 -- entities for each entity set, links for each association set

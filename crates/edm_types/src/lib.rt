@@ -5,6 +5,7 @@ mod data;
 mod faults;
 mod mapping;
 mod model;
+mod schema;
 mod store;
 
 pub use data::{Entity, Hosted, Link, Row};
@@ -13,4 +14,5 @@ pub use mapping::{Cond, CondOn, Fragment, LinkFragment, Mapping, Pair, Pick, Tes
 pub use model::{
     Assoc, Constraint, End, EntityModel, EntitySet, EntityType, Mult, Nav, Prop, TypeNode,
 };
+pub use schema::Schema;
 pub use store::{Column, ForeignKey, StoreModel, Table};

@@ -1,4 +1,3 @@
 mod Texts
 pub mod Lists
-pub mod Permutations
 pub mod Loops

@@ -1,5 +1,6 @@
 pub mod formers
 pub mod Lists
+pub mod Places
 pub mod Domain
 pub mod Order
 pub mod Faults

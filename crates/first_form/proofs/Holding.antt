@@ -1,11 +1,10 @@
 -- A column whose kind fits can hold each value of the property.
 use Rattle.std.proofs.Common.{◌≡◌, ℕ, ◌≤◌, true, Option, Some, None, arith}
 use Rattle.std.proofs.lemmas.Bool.{leb-true}
-use Rattle.emc_base.specs.declared.value.Value.{Value}
+use Rattle.round_trip.specs.Words.{Value, Kind, InDomain}
 use Rattle.emc_base.specs.declared.value.Value.TheVariants as value
-use Rattle.emc_base.specs.declared.value.Kind.{Kind}
 use Rattle.emc_base.specs.declared.value.Kind.TheVariants as kind
-use Rattle.emc_base.specs.Domain.{InDomain, IsWithin}
+use Rattle.emc_base.specs.Domain.{IsWithin}
 use Rattle.first_form.specs.Form.{is_wide_enough, kind_fits}
 
 -- what is within a bound is within a wider one

@@ -1,10 +1,7 @@
 -- The ids of properties, one for each column.
 use Rattle.std.proofs.Common.{◌≡◌, ◌≢◌, ℕ, zero, suc, ◌+◌, ◌<◌, List, [], ◌∷◌, ◌++◌, length, map, take, get_or, option_map, All, AllPairs, Contains, refl, sym, ap, subst, ◌∙◌, arith}
 use Rattle.std.proofs.lemmas.Option.{slice_get-map}
-use Rattle.emc_base.specs.declared.ids.PropId.{PropId}
-use Rattle.emc_base.specs.Lists.{At}
-use Rattle.edm_types.specs.declared.model.Prop.{Prop}
-use Rattle.edm_types.specs.declared.store.Column.{Column}
+use Rattle.round_trip.specs.Words.{PropId, Prop, Column, At}
 use Rattle.first_form.specs.Meaning.{ids_from, prop_of}
 use Rattle.emc_base.proofs.Lists.{item_at}
 

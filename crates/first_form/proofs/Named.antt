@@ -6,8 +6,7 @@ use Rattle.std.proofs.lemmas.Bool.{and_parts, not-true, both_ways, ltb-true, con
 use Rattle.std.proofs.lemmas.List.Sums.{passes_at_first}
 use Rattle.std.proofs.lemmas.Option.{get_or_from_slice_get}
 use Rattle.std.proofs.lemmas.Slice.Eq.{bytes_eq-Decides}
-use Rattle.emc_base.specs.Lists.{At}
-use Rattle.edm_types.specs.declared.store.Column.{Column}
+use Rattle.round_trip.specs.Words.{Column, At}
 use Rattle.first_form.specs.declared.declared_form.Declared.{Declared}
 use Rattle.first_form.specs.Form.{has_column, has_good_columns, have_different_names, is_key_or_nullable, is_whole, place_of}
 use Rattle.emc_base.proofs.Lists.{apart_by_test, item_at, passes_at, same_place}

@@ -7,10 +7,7 @@ use Rattle.std.proofs.lemmas.List.Sums.{AllPass-from_list_all}
 use Rattle.std.proofs.lemmas.List.Elements.{All-weaker}
 use Rattle.std.proofs.lemmas.Option.{slice_get_within}
 use Rattle.serde_json.specs.Data.{Data}
-use Rattle.emc_base.specs.declared.ids.ColId.{ColId}
-use Rattle.emc_base.specs.declared.ids.PropId.{PropId}
-use Rattle.edm_types.specs.declared.mapping.Pair.{Pair}
-use Rattle.round_trip.specs.Schema.{Schema}
+use Rattle.round_trip.specs.Words.{PropId, ColId, Pair, Schema}
 use Rattle.one_table.specs.OneTable.{IsFittingPair, IsOneTable, IsOneType, IsOnlyFragment, IsOnlyTable}
 use Rattle.first_form.specs.declared.content.Content.{Content}
 use Rattle.first_form.specs.declared.declared_form.Declared.{Declared}
@@ -49,7 +46,7 @@ is_one_type declared good =
       different = different_ids declared.columns;
       one_key = refl;
       has_key = has_id declared.columns (place_of declared.key declared.columns) good.has_key;
-      key_told = prop_at declared.columns (place_of declared.key declared.columns) key.0 key.1;
+      key_is_declared = prop_at declared.columns (place_of declared.key declared.columns) key.0 key.1;
       key_not_null = key_not_null declared good key.0 key.1;
     }
 
@@ -73,7 +70,7 @@ fitting model store pair fit = record {
   declared = prop_of fit.property;
   column = fit.column;
   has_prop = has_id model.columns pair.prop.index (slice_get_within model.columns pair.prop.index fit.property fit.has_property);
-  told = prop_at model.columns pair.prop.index fit.property fit.has_property;
+  is_declared = prop_at model.columns pair.prop.index fit.property fit.has_property;
   has_column = fit.has_column;
   holds = kind_holds fit.property.kind fit.column.kind fit.fits;
 }

@@ -3,11 +3,7 @@ use Rattle.std.proofs.Common.{◌≡◌, ◌≢◌, ◌&&◌, ◌||◌, ◌==◌
 use Rattle.std.specs.List.{list_all, list_any}
 use Rattle.std.proofs.lemmas.Bool.{and_parts, eqb-true, eqb-false, false≢true, or_parts}
 use Rattle.std.proofs.lemmas.List.Folds.{Any-from_list_any}
-use Rattle.emc_base.specs.declared.ids.ColId.{ColId}
-use Rattle.emc_base.specs.declared.ids.PropId.{PropId}
-use Rattle.emc_base.specs.Lists.{At}
-use Rattle.edm_types.specs.declared.store.Column.{Column}
-use Rattle.edm_types.specs.declared.mapping.Pair.{Pair}
+use Rattle.round_trip.specs.Words.{PropId, ColId, Column, Pair, At}
 use Rattle.first_form.specs.declared.declared_form.Declared.{Declared}
 use Rattle.first_form.specs.Form.{has_good_pairs, kind_fits, name_each_once, pair_fits, place_of}
 use Rattle.emc_base.proofs.Lists.{apart_by_test}

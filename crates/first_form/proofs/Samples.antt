@@ -7,23 +7,18 @@ use Rattle.std.proofs.lemmas.Option.{slice_get-map}
 use Rattle.serde_json.specs.Data.{Data, null}
 use Rattle.serde_json.specs.Find.{pointer}
 use Rattle.emc_base.specs.declared.value.Value.TheVariants as value
-use Rattle.emc_base.specs.declared.value.Kind.{Kind}
+use Rattle.round_trip.specs.Words.{PropId, Kind, Prop, Column, Schema, At, InDomain}
 use Rattle.emc_base.specs.declared.value.Kind.TheVariants as kind
-use Rattle.emc_base.specs.Domain.{InDomain, IsWithin}
-use Rattle.emc_base.specs.Lists.{At}
-use Rattle.edm_types.specs.declared.store.Column.{Column}
+use Rattle.emc_base.specs.Domain.{IsWithin}
 use Rattle.first_form.specs.declared.declared_form.Vocabulary.{Vocabulary}
 use Rattle.first_form.specs.Declaring.{bound_of, column_of, has_known_type, is_bound, text_word, whole_word}
 use Rattle.first_form.specs.Form.{is_whole}
-use Rattle.first_form.specs.Samples.{AllowsSamples, sample_of}
+use Rattle.one_table.specs.Samples.{AllowsSamples, sample_of}
 use Rattle.first_form.specs.Parts.{items_at, part_at, text_at}
 use Rattle.std.proofs.Common.{nat_le, not, unwrap_or, zero, suc}
 use Rattle.std.specs.Option.{option_and_then}
 use Rattle.std.proofs.lemmas.Bool.Decides.{nat_tests}
 use Rattle.std.proofs.lemmas.Int.{ints}
-use Rattle.emc_base.specs.declared.ids.PropId.{PropId}
-use Rattle.edm_types.specs.declared.model.Prop.{Prop}
-use Rattle.round_trip.specs.Schema.{Schema}
 use Rattle.json_form.specs.Parts.{whole_of}
 use Rattle.first_form.specs.declared.content.Content.{Content}
 use Rattle.first_form.specs.declared.declared_form.Declared.{Declared}
@@ -124,17 +119,17 @@ module _ (declared : Declared) (good : AreGood declared)
   unfolding model_of
   model_allows = record {
     seven = λ prop told is key.
-        let column = at_mapped prop_of declared.columns prop.index told is.told in
+        let column = at_mapped prop_of declared.columns prop.index told is.is_declared in
         let at_key : prop ≡ record { index = place_of declared.key declared.columns } = contains_one _ prop key in
         let Q : ℕ → Type 0 = λ n. slice_get declared.columns n ≡ Some column.0 in
         let P : Prop → Type 0 = λ t. InDomain (value.Whole (pos 7)) t.kind in
         subst P column.2 (whole_allows 7 column.0.kind (key_whole column.0 (subst Q (ap (λ (p : PropId). p.index) at_key) column.1)) (omega arith));
     samples = λ prop told is.
-        let column = at_mapped prop_of declared.columns prop.index told is.told in
+        let column = at_mapped prop_of declared.columns prop.index told is.is_declared in
         let P : Prop → Type 0 = λ t. InDomain (sample_of t.kind) t.kind in
         subst P column.2 (allow prop.index column.0 column.1);
     nullable = λ prop told is.
-        let column = at_mapped prop_of declared.columns prop.index told is.told in
+        let column = at_mapped prop_of declared.columns prop.index told is.is_declared in
         let P : Prop → Type 0 = λ t. Contains (record { index = place_of declared.key declared.columns } ∷ []) prop ⊎ (t.nullable ≡ true) in
         subst P column.2 (key_or_nullable prop column.0 column.1 column.0.nullable refl);
   }

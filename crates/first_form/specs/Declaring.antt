@@ -6,7 +6,7 @@ use Rattle.serde_json.specs.Data.{Data}
 use Rattle.serde_json.specs.Find.{get, pointer, as_bool}
 use Rattle.json_form.specs.Parts.{whole_of}
 use Rattle.emc_base.specs.declared.value.Kind.TheVariants as kind
-use Rattle.edm_types.specs.declared.store.Column.{Column}
+use Rattle.round_trip.specs.Words.{Column}
 use Rattle.first_form.specs.declared.declared_form.Declared.{Declared}
 use Rattle.first_form.specs.declared.declared_form.Vocabulary.{Vocabulary}
 use Rattle.first_form.specs.declared.declared_form.Vocabulary.TheVariants.{Model, Store}

@@ -2,11 +2,8 @@
 -- Source: CSDL, SSDL and MSL version 3 in the JSON spelling of the first form.
 use Rattle.std.specs.Prelude.{ℕ, List, [], ◌∷◌, ◌++◌, true, false, Some, None, codes}
 use Rattle.emc_base.specs.declared.value.Kind.TheVariants.{Int32, Text}
-use Rattle.edm_types.specs.declared.model.EntityModel.{EntityModel}
+use Rattle.round_trip.specs.Words.{EntityModel, StoreModel, Mapping, Schema}
 use Rattle.edm_types.specs.declared.model.TypeNode.{roll-TypeNode}
-use Rattle.edm_types.specs.declared.store.StoreModel.{StoreModel}
-use Rattle.edm_types.specs.declared.mapping.Mapping.{Mapping}
-use Rattle.round_trip.specs.Schema.{Schema}
 
 -- a set of people with an id and a name
 unfoldable pub csdl_text : List ℕ

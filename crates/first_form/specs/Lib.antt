@@ -5,6 +5,4 @@ pub mod Declaring
 pub mod Form
 pub mod Meaning
 pub mod Schemas
-pub mod Unwritten
 pub mod FirstExample
-pub mod Samples

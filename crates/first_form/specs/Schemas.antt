@@ -1,5 +1,5 @@
 -- The schema that a meaning is.
-use Rattle.round_trip.specs.Schema.{Schema}
+use Rattle.round_trip.specs.Words.{Schema}
 use Rattle.first_form.specs.declared.meaning.Meaning.{Meaning}
 
 -- its model, its store and its mapping

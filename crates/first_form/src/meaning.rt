@@ -3,7 +3,7 @@ ghost use Rattle.json_form.specs.Documents.{tree_of};
 ghost use Rattle.json_form.specs.Nodes.{part_of};
 ghost use Rattle.first_form.specs.Form.{content_in};
 ghost use Rattle.first_form.specs.Meaning.{first_form_meaning, fragment_of, ids_from, mapping_of, meaning_of, model_of, one_tree, prop_of, set_of, store_of, table_of, type_of};
-ghost use Rattle.first_form.specs.Samples.{AllowsSamples};
+ghost use Rattle.one_table.specs.Samples.{AllowsSamples};
 ghost use Rattle.first_form.specs.Schemas.{schema_of};
 ghost use Rattle.one_table.specs.OneTable.{IsOneTable};
 

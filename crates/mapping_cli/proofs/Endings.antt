@@ -4,8 +4,7 @@ use Rattle.std.proofs.lemmas.Bool.Decides.{nat_tests}
 use Rattle.std.specs.Bool.{⊤}
 use Rattle.std.proofs.lemmas.List.{append-nil}
 use Rattle.emc_base.specs.Files.{FileMap}
-use Rattle.edm_types.specs.declared.faults.RuleFault.{RuleFault}
-use Rattle.round_trip.specs.Schema.{Schema}
+use Rattle.round_trip.specs.Words.{Schema, RuleFault}
 use Rattle.mapping_core.specs.Rules.{meaning_at, least_rule}
 use Rattle.mapping_cli.specs.declared.status.Status.{Status}
 use Rattle.mapping_cli.specs.declared.status.Status.TheVariants.{Done, MappingRefused, DocumentRefused, Usage, FileFault, SinkFault, Memory}

@@ -1,8 +1,7 @@
 -- What a command prints, and the status it ends with, by the content of its input files. The first case that applies decides.
 use Rattle.std.specs.Prelude.{◌≡◌, ◌⊎◌, ℕ, List, [], ◌∷◌, map, length, nat_lt, Option, Some, None, MatchOption, IfSome, if◌then◌else◌, codes}
 use Rattle.emc_base.specs.Files.{FileMap}
-use Rattle.round_trip.specs.Schema.{Schema}
-use Rattle.round_trip.specs.RoundTrips.{KeepsEveryState, RoundTrips}
+use Rattle.round_trip.specs.Words.{Schema, RoundTrips, KeepsEveryState}
 use Rattle.mapping_core.specs.declared.verdict.Failure.{Failure}
 use Rattle.mapping_core.specs.Rules.{least_rule, meaning_at}
 use Rattle.mapping_core.specs.Compiles.{IsFailureOf}

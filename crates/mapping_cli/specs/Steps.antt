@@ -4,7 +4,7 @@ use Rattle.emc_base.specs.declared.files.ReadFault.{ReadFault}
 use Rattle.emc_base.specs.declared.files.ReadFault.TheVariants as fault
 use Rattle.emc_base.specs.Faults.{RoseOrStands}
 use Rattle.emc_base.specs.Files.{FileMap}
-use Rattle.round_trip.specs.Schema.{Schema}
+use Rattle.round_trip.specs.Words.{Schema}
 use Rattle.mapping_core.specs.declared.verdict.Failure.{Failure}
 use Rattle.mapping_cli.specs.declared.answer.Answer.{Answer}
 use Rattle.mapping_cli.specs.declared.answer.Halt.{Halt}

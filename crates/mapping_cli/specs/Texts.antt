@@ -3,13 +3,9 @@ use Rattle.std.specs.Prelude.{ℕ, List, [], ◌∷◌, ◌++◌, Option, Some, 
 use Rattle.serde_json.specs.Data.{Data, string, object, no_members, put}
 use Rattle.serde_json.specs.Written.{compact_text}
 use Rattle.json_form.specs.Trees.{key_tree}
-use Rattle.emc_base.specs.declared.place.Place.{Place}
-use Rattle.edm_types.specs.declared.model.EntityModel.{EntityModel}
-use Rattle.edm_types.specs.declared.faults.RuleFault.{RuleFault}
-use Rattle.edm_types.specs.declared.faults.VocabFile.{VocabFile}
-use Rattle.edm_types.specs.declared.faults.VocabFile.TheVariants.{Csdl, Ssdl, Msl}
-use Rattle.edm_types.specs.State.{State}
+use Rattle.round_trip.specs.Words.{Place, EntityModel, VocabFile, RuleFault, State}
 use Rattle.round_trip.specs.declared.FailKind.{FailKind}
+use Rattle.edm_types.specs.declared.faults.VocabFile.TheVariants.{Csdl, Ssdl, Msl}
 use Rattle.round_trip.specs.declared.FailKind.TheVariants as kind
 use Rattle.mapping_core.specs.declared.verdict.Failure.{Failure}
 use Rattle.mapping_core.specs.StateTree.{state_tree}

@@ -6,28 +6,17 @@ use Rattle.std.proofs.lemmas.Option.{slice_get_within}
 use Rattle.std.specs.Cmp.Lexicographic.{slice_cmp}
 use Rattle.std.specs.declared.cmp.Ordering.TheVariants.{Less}
 use Rattle.emc_base.specs.Order.{value_cmp}
-use Rattle.emc_base.specs.declared.ids.PropId.{PropId}
-use Rattle.emc_base.specs.declared.value.Value.{Value}
-use Rattle.emc_base.specs.declared.value.Value.TheVariants as value
-use Rattle.edm_types.specs.declared.model.EntityModel.{EntityModel}
-use Rattle.edm_types.specs.declared.model.EntityType.{EntityType}
-use Rattle.edm_types.specs.declared.model.EntitySet.{EntitySet}
-use Rattle.edm_types.specs.declared.model.Prop.{Prop}
-use Rattle.emc_base.specs.Lists.{At}
-use Rattle.edm_types.specs.Entities.{key_of, key_props, props_of}
-use Rattle.edm_types.specs.State.{State, entities_in, links_in}
-use Rattle.round_trip.specs.declared.FailKind.TheVariants.{Same}
-use Rattle.round_trip.specs.Schema.{Schema}
+use Rattle.round_trip.specs.Words.{PropId, Value, Place, EntityModel, EntityType, Prop, EntitySet, Schema, At, props_of, key_props, key_of, State, entities_in, links_in, FailsAt}
 use Rattle.round_trip.specs.declared.FailKind.{FailKind}
-use Rattle.round_trip.specs.FailsAt.{FailsAt}
-use Rattle.emc_base.specs.declared.place.Place.{Place}
+use Rattle.emc_base.specs.declared.value.Value.TheVariants as value
+use Rattle.round_trip.specs.declared.FailKind.TheVariants.{Same}
 use Rattle.one_table.specs.OneTable.{IsOneTable, first_type}
 use Rattle.one_table.specs.Lost.{IsLost, IsNullable, lost_values}
 use Rattle.emc_base.proofs.Lists.{all_from_members, only_place, only_member, only_stands}
 use Rattle.one_table.proofs.Fails.{fails_by_same}
-use Rattle.one_table.proofs.Unwritten.{value_fails}
-use Rattle.first_form.specs.Samples.{AllowsSamples, sample_of}
-use Rattle.first_form.specs.Unwritten.{IsUnwritten}
+use Rattle.one_table.proofs.LostValues.{value_fails}
+use Rattle.one_table.specs.Samples.{AllowsSamples, sample_of}
+use Rattle.one_table.specs.Unwritten.{IsUnwritten}
 use Rattle.mapping_core.specs.declared.verdict.Failure.{Failure}
 use Rattle.mapping_core.specs.Compiles.{IsFailureOf, kind_number}
 use Rattle.mapping_core.specs.StateTree.{IsInKeyOrder}
@@ -91,15 +80,15 @@ module _ (schema : Schema) (form : IsOneTable schema) (samples : AllowsSamples s
   has_key = subst (Contains (props_of schema.model first_type)) (sym key_is)
       (subst (λ ps. Contains ps form.key) (sym (props_are ∙ ap (λ t. t.props) type_is)) form.one_type.has_key)
 
-  key_told : At schema.model.props key.index form.one_type.key_declared
-  key_told = subst (λ (k : PropId). At schema.model.props k.index form.one_type.key_declared) (sym key_is) form.one_type.key_told
+  key_is_declared : At schema.model.props key.index form.one_type.key_declared
+  key_is_declared = subst (λ (k : PropId). At schema.model.props k.index form.one_type.key_declared) (sym key_is) form.one_type.key_is_declared
 
   key_or_nullable : (prop : PropId) → Contains (props_of schema.model first_type) prop → (prop ≡ key) ⊎ IsNullable schema.model prop
   key_or_nullable prop has =
       let found = each_declared prop has in
       ⊎_elim (λ in_key. inl (only_member (key_props schema.model first_type) key prop only_key in_key))
       (λ nullable. inr (found.0, found.1, nullable))
-      (samples.nullable prop found.0 (record { has_prop = has; told = found.1 }))
+      (samples.nullable prop found.0 (record { has_prop = has; is_declared = found.1 }))
 
   is_lost : IsLost schema set key lost (sample_of declared.kind)
   is_lost = record {
@@ -107,11 +96,11 @@ module _ (schema : Schema) (form : IsOneTable schema) (samples : AllowsSamples s
     key_declared = form.one_type.key_declared;
     is_set = is_set;
     is_key = subst (λ ks. At ks 0 key) (sym keys_are) is_key;
-    key_told = key_told;
-    seven = samples.seven key form.one_type.key_declared (record { has_prop = has_key; told = key_told }) (only_stands (key_props schema.model first_type) key only_key);
+    key_is_declared = key_is_declared;
+    seven = samples.seven key form.one_type.key_declared (record { has_prop = has_key; is_declared = key_is_declared }) (only_stands (key_props schema.model first_type) key only_key);
     has_prop = has_lost;
-    told = told;
-    holds = samples.samples lost declared (record { has_prop = has_lost; told = told });
+    is_declared = told;
+    holds = samples.samples lost declared (record { has_prop = has_lost; is_declared = told });
     unwritten = unwritten.unwritten;
     nullable = all_from_members (λ prop. (prop ≡ key) ⊎ IsNullable schema.model prop) (props_of schema.model first_type) key_or_nullable;
   }

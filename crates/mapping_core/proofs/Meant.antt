@@ -2,7 +2,7 @@
 use Rattle.std.proofs.Common.{◌≡◌, ℕ, List, Some, sym, ap}
 use Rattle.serde_json.specs.Data.{Data}
 use Rattle.json_form.specs.Parts.{tree_at}
-use Rattle.round_trip.specs.Schema.{Schema}
+use Rattle.round_trip.specs.Words.{Schema}
 use Rattle.first_form.specs.Meaning.{first_form_meaning}
 use Rattle.mapping_core.specs.Rules.{IsMeant, Means, unbuilt}
 

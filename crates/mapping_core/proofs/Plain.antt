@@ -5,12 +5,7 @@ use Rattle.serde_json.specs.Data.{string, Members, no_members, put}
 use Rattle.serde_json.specs.Written.{has_float, members_have_float}
 use Rattle.json_form.specs.Trees.{key_tree, array_of, put_all}
 use Rattle.json_form.proofs.Objects.{members_have_float-put, put_all-plain, array_of-plain, value_tree-plain, key_tree-plain}
-use Rattle.edm_types.specs.declared.model.EntityModel.{EntityModel}
-use Rattle.edm_types.specs.declared.model.Assoc.{Assoc}
-use Rattle.edm_types.specs.declared.data.Entity.{Entity}
-use Rattle.edm_types.specs.declared.data.Link.{Link}
-use Rattle.edm_types.specs.Entities.{props_of, value_of}
-use Rattle.edm_types.specs.State.{State, entities_in, links_in}
+use Rattle.round_trip.specs.Words.{EntityModel, Assoc, Entity, Link, props_of, value_of, State, entities_in, links_in}
 use Rattle.mapping_core.specs.StateTree.{entity_tree, full_name, link_tree, named_value, put_links, set_member, state_tree}
 
 pub entity_tree-plain : (model : EntityModel) (entity : Entity) → has_float (entity_tree model entity) ≡ false

@@ -1,12 +1,8 @@
 -- What compiling three documents answers, and when.
 use Rattle.std.specs.Prelude.{◌≡◌, ◌↔◌, ℕ, ◌≤◌, List, Some, Result, Ok, Err, IsSome, unwrap_or, ⊤}
-use Rattle.edm_types.specs.State.{State}
+use Rattle.round_trip.specs.Words.{Place, Schema, State, FailsAt, RoundTrips, KeepsEveryState}
 use Rattle.round_trip.specs.declared.FailKind.{FailKind}
 use Rattle.round_trip.specs.declared.FailKind.TheVariants as kind
-use Rattle.emc_base.specs.declared.place.Place.{Place}
-use Rattle.round_trip.specs.Schema.{Schema}
-use Rattle.round_trip.specs.FailsAt.{FailsAt}
-use Rattle.round_trip.specs.RoundTrips.{KeepsEveryState, RoundTrips}
 use Rattle.mapping_core.specs.declared.compiled.Compiled.{Compiled}
 use Rattle.mapping_core.specs.declared.verdict.Failure.{Failure}
 use Rattle.mapping_core.specs.declared.verdict.Verdict.{Verdict}

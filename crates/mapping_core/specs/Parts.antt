@@ -1,5 +1,5 @@
 -- The schema that an accepted mapping lends.
-use Rattle.round_trip.specs.Schema.{Schema}
+use Rattle.round_trip.specs.Words.{Schema}
 use Rattle.mapping_core.specs.declared.compiled.Parts.{Parts}
 
 -- its model, its store and its mapping

@@ -3,10 +3,8 @@
 use Rattle.std.specs.Prelude.{◌≡◌, ℕ, List, [], Option, Some, None}
 use Rattle.serde_json.specs.Data.{Data}
 use Rattle.json_form.specs.Parts.{tree_at}
-use Rattle.edm_types.specs.declared.faults.RuleFault.{RuleFault}
-use Rattle.edm_types.specs.declared.faults.VocabFile.{VocabFile}
+use Rattle.round_trip.specs.Words.{Schema, VocabFile, RuleFault}
 use Rattle.edm_types.specs.declared.faults.VocabFile.TheVariants.{Csdl, Ssdl, Msl}
-use Rattle.round_trip.specs.Schema.{Schema}
 use Rattle.first_form.specs.Meaning.{meaning_of_texts}
 
 -- a broken rule, at the root of its file

@@ -7,18 +7,8 @@ use Rattle.std.specs.declared.cmp.Ordering.TheVariants.{Less}
 use Rattle.std.specs.Cmp.Lexicographic.{slice_cmp}
 use Rattle.serde_json.specs.Data.{Data, string, object, Members, no_members, put}
 use Rattle.json_form.specs.Trees.{value_tree, key_tree, array_of, put_all}
-use Rattle.emc_base.specs.declared.ids.PropId.{PropId}
-use Rattle.emc_base.specs.declared.ids.TypeId.{TypeId}
-use Rattle.emc_base.specs.declared.ids.SetId.{SetId}
-use Rattle.emc_base.specs.declared.ids.AssocId.{AssocId}
+use Rattle.round_trip.specs.Words.{SetId, TypeId, PropId, AssocId, EntityModel, EntitySet, Assoc, Entity, Link, type_at, props_of, value_of, key_of, State, entities_in, links_in}
 use Rattle.emc_base.specs.Order.{value_cmp}
-use Rattle.edm_types.specs.declared.model.EntityModel.{EntityModel}
-use Rattle.edm_types.specs.declared.model.EntitySet.{EntitySet}
-use Rattle.edm_types.specs.declared.model.Assoc.{Assoc}
-use Rattle.edm_types.specs.declared.data.Entity.{Entity}
-use Rattle.edm_types.specs.declared.data.Link.{Link}
-use Rattle.edm_types.specs.Entities.{type_at, props_of, value_of, key_of}
-use Rattle.edm_types.specs.State.{State, entities_in, links_in}
 
 -- a property's name
 abbrev pub name_of : EntityModel → PropId → List ℕ

@@ -3,10 +3,7 @@ use Rattle.std.specs.Prelude.{◌≡◌, Option, Some, None, Result, Ok, Err, �
 use Rattle.serde_json.specs.Data.{Data}
 use Rattle.json_form.specs.declared.doc.Doc.{Doc}
 use Rattle.json_form.specs.Documents.{tree_of}
-use Rattle.edm_types.specs.declared.faults.RuleFault.{RuleFault}
-use Rattle.edm_types.specs.declared.faults.VocabFile.{VocabFile}
-use Rattle.round_trip.specs.Schema.{Schema}
-use Rattle.round_trip.specs.RoundTrips.{KeepsEveryState, RoundTrips}
+use Rattle.round_trip.specs.Words.{Schema, VocabFile, RuleFault, RoundTrips, KeepsEveryState}
 use Rattle.mapping_core.specs.declared.compiled.Compiled.{Compiled}
 use Rattle.mapping_core.specs.declared.verdict.Verdict.{Verdict}
 use Rattle.mapping_core.specs.declared.verdict.Verdict.TheVariants.{Rule, Fails, Memory}

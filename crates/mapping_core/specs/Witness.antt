@@ -1,13 +1,8 @@
 -- What is shown of a mapping of the first form that loses a property.
 use Rattle.std.specs.Prelude.{◌≡◌, List, [], ◌∷◌, map, pos, Some}
-use Rattle.emc_base.specs.declared.ids.PropId.{PropId}
-use Rattle.emc_base.specs.declared.value.Kind.{Kind}
-use Rattle.emc_base.specs.declared.value.Value.{Value}
+use Rattle.round_trip.specs.Words.{PropId, Value, Kind, EntityType, EntitySet, State}
 use Rattle.emc_base.specs.declared.value.Value.TheVariants as value
-use Rattle.edm_types.specs.declared.model.EntityType.{EntityType}
-use Rattle.edm_types.specs.declared.model.EntitySet.{EntitySet}
-use Rattle.edm_types.specs.State.{State}
-use Rattle.first_form.specs.Samples.{sample_of}
+use Rattle.one_table.specs.Samples.{sample_of}
 use Rattle.one_table.specs.Lost.{lost_values}
 use Rattle.round_trip.specs.declared.FailKind.TheVariants.{Same}
 use Rattle.mapping_core.specs.declared.verdict.Failure.{Failure}

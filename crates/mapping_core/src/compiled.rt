@@ -1,5 +1,5 @@
 ghost use Rattle.std.specs.Prelude.{◌≡◌};
-ghost use Rattle.round_trip.specs.RoundTrips.{KeepsEveryState, RoundTrips};
+ghost use Rattle.round_trip.specs.Words.{RoundTrips, KeepsEveryState};
 ghost use Rattle.mapping_core.specs.Parts.{schema_of};
 ghost use Rattle.mapping_core.specs.Rules.{IsMeant};
 
@@ -16,8 +16,7 @@ pub struct Compiled {
 }
 
 impl Model for Compiled {
-    ghost use Rattle.round_trip.specs.RoundTrips.{KeepsEveryState, RoundTrips};
-    ghost use Rattle.round_trip.specs.Schema.{Schema};
+    ghost use Rattle.round_trip.specs.Words.{Schema, RoundTrips, KeepsEveryState};
     ghost use Rattle.mapping_core.specs.Rules.{IsMeant};
     ghost use Rattle.std.specs.Coded.{codes};
     ghost use Rattle.edm_types.specs.contracts.model.TypeNode as node;

@@ -1,11 +1,11 @@
 ghost use Rattle.std.specs.Prelude.{◌≡◌, ◌<◌, IfOk, length, option_map};
-ghost use Rattle.emc_base.specs.Lists.{At};
+ghost use Rattle.round_trip.specs.Words.{At};
 ghost use Rattle.json_form.specs.Documents.{tree_of};
 ghost use Rattle.json_form.specs.Parts.{tree_at};
 ghost use Rattle.one_table.specs.OneTable.{IsOneTable, WritesEveryProperty};
-ghost use Rattle.first_form.specs.Samples.{AllowsSamples};
+ghost use Rattle.one_table.specs.Samples.{AllowsSamples};
 ghost use Rattle.first_form.specs.Schemas.{schema_of};
-ghost use Rattle.first_form.specs.Unwritten.{IsUnwritten};
+ghost use Rattle.one_table.specs.Unwritten.{IsUnwritten};
 ghost use Rattle.mapping_core.specs.Compiles.{Compiles, IsFailureOf};
 ghost use Rattle.mapping_core.specs.Rules.{IsMeant, fault_of, meaning_at};
 ghost use Rattle.mapping_core.specs.Steps.{DecidesOn, IsFaultOrMemory, ReadsAs};

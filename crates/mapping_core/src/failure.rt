@@ -1,7 +1,7 @@
 ghost use Rattle.std.specs.Prelude.{◌≡◌, [], ◌∷◌, IfOk, map, pos};
 ghost use Rattle.one_table.specs.Lost.{lost_values};
 ghost use Rattle.mapping_core.specs.Witness.{Loses, shown_state};
-ghost use Rattle.first_form.specs.Samples.{sample_of};
+ghost use Rattle.one_table.specs.Samples.{sample_of};
 
 use crate::state::EntityState;
 use crate::verdict::Failure;

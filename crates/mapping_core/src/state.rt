@@ -1,5 +1,5 @@
 ghost use Rattle.std.specs.Prelude.{◌≡◌, ◌∷◌, [], IfOk};
-ghost use Rattle.edm_types.specs.State.{entities_in, links_in};
+ghost use Rattle.round_trip.specs.Words.{entities_in, links_in};
 
 use edm_types::{Entity, Link};
 use emc_base::{AssocId, Memory, Seq, SetId};
@@ -14,7 +14,7 @@ pub struct EntityState {
 }
 
 impl Model for EntityState {
-    ghost use Rattle.edm_types.specs.State.{State};
+    ghost use Rattle.round_trip.specs.Words.{State};
     ghost use Rattle.std.specs.Coded.{codes};
 
     ghost Value = { State };

@@ -4,7 +4,7 @@ ghost use Rattle.std.specs.List.{enumerate_from};
 ghost use Rattle.serde_json.specs.Written.{compact_text};
 ghost use Rattle.serde_json.specs.View.{members_view, view};
 ghost use Rattle.json_form.specs.Trees.{array_of, put_all, value_tree};
-ghost use Rattle.edm_types.specs.Entities.{type_at, value_beside, value_of};
+ghost use Rattle.round_trip.specs.Words.{type_at, value_beside, value_of};
 ghost use Rattle.mapping_core.specs.StateTree.{entity_tree, full_name, link_tree, name_of, named_value, put_links, set_member, state_tree};
 
 use crate::state::EntityState;

@@ -3,29 +3,13 @@ use Rattle.std.proofs.Common.{◌≡◌, ◌≢◌, ℕ, zero, suc, ◌≤◌, L
 use Rattle.std.proofs.lemmas.List.Elements.{All-contains}
 use Rattle.std.proofs.lemmas.List.Sorted.{IsPermutation-refl, IsPermutation-sym, Contains-permutation}
 use Rattle.std.proofs.lemmas.Option.{slice_get_past}
-use Rattle.emc_base.specs.declared.ids.AssocId.{AssocId}
-use Rattle.emc_base.specs.declared.ids.PropId.{PropId}
-use Rattle.emc_base.specs.declared.place.Place.{Place}
-use Rattle.edm_types.specs.declared.model.Assoc.{Assoc}
-use Rattle.edm_types.specs.declared.model.EntitySet.{EntitySet}
-use Rattle.edm_types.specs.declared.model.EntityType.{EntityType}
-use Rattle.edm_types.specs.declared.mapping.Fragment.{Fragment}
-use Rattle.edm_types.specs.declared.mapping.Pair.{Pair}
-use Rattle.edm_types.specs.declared.data.Entity.{Entity}
-use Rattle.edm_types.specs.declared.data.Row.{Row}
-use Rattle.edm_types.specs.Entities.{key_of, value_of}
-use Rattle.edm_types.specs.State.{State, entities_in, links_in, IsSameState}
-use Rattle.edm_types.specs.Rows.{Tables, rows_in, AreSameTables}
+use Rattle.round_trip.specs.Words.{PropId, AssocId, Place, EntityType, EntitySet, Assoc, Fragment, Pair, Schema, Entity, Row, value_of, key_of, State, entities_in, links_in, IsSameState, Tables, rows_in, AreSameTables, IsLegal, TablesAre, FailsBy, RoundTrips, KeepsEveryState}
 use Rattle.round_trip.specs.declared.FailKind.{FailKind}
 use Rattle.round_trip.specs.declared.FailKind.TheVariants as variant
-use Rattle.round_trip.specs.Schema.{Schema}
-use Rattle.round_trip.specs.Legal.{IsLegal}
-use Rattle.round_trip.specs.TablesAre.{TablesAre}
-use Rattle.round_trip.specs.FailsAt.{FailsBy}
-use Rattle.round_trip.specs.RoundTrips.{KeepsEveryState, RoundTrips}
 use Rattle.one_table.specs.OneTable.{IsOneTable, WritesEveryProperty, first_set, first_table}
-use Rattle.emc_base.proofs.Lists.{only_member, only_stands, member_of_any, apart_by_key}
-use Rattle.emc_base.proofs.Permutations.{same_members_permute}
+use Rattle.emc_base.proofs.Lists.{only_member, only_stands}
+use Rattle.one_table.proofs.Lists.{member_of_any, apart_by_key}
+use Rattle.one_table.proofs.Permutations.{same_members_permute}
 use Rattle.one_table.proofs.Entities.{member_in, same_entity, legal_set}
 use Rattle.one_table.proofs.GoodTables.{HoldsEntity, row_tells, entity_told}
 use Rattle.one_table.proofs.Fails.{never_clashes, never_null, never_disagrees, never_dangles}

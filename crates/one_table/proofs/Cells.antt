@@ -1,18 +1,9 @@
 -- The cells that one entity writes, and the row that holds them.
 use Rattle.std.proofs.Common.{◌≡◌, ◌≢◌, ◌⊎◌, inl, inr, ⊎_elim, ℕ, zero, suc, ◌+◌, List, [], ◌∷◌, map, length, Some, true, false, ◌==◌, AllPairs, Contains, refl, sym, ap, subst, ◌∙◌, unwrap_or, arith}
 use Rattle.std.proofs.lemmas.Bool.Decides.{Decides-eqb, eqb_tells}
-use Rattle.emc_base.specs.declared.ids.ColId.{ColId}
-use Rattle.emc_base.specs.declared.ids.PropId.{PropId}
-use Rattle.emc_base.specs.declared.value.Value.{Value}
-use Rattle.emc_base.specs.declared.value.Value.TheVariants.{Null}
-use Rattle.edm_types.specs.declared.mapping.Pair.{Pair}
-use Rattle.edm_types.specs.declared.store.Column.{Column}
-use Rattle.edm_types.specs.declared.data.Row.{Row}
-use Rattle.emc_base.specs.Lists.{At}
-use Rattle.edm_types.specs.Rows.{cell_of, cells_of}
-use Rattle.round_trip.specs.Demand.{written_to}
-use Rattle.emc_base.proofs.Lists.{member_of_map, contains_map, apart_from_head, apart_in_rest}
-use Rattle.emc_base.proofs.Permutations.{contains_cases, contains_head, contains_tail}
+use Rattle.round_trip.specs.Words.{PropId, ColId, Value, Null, Column, Pair, Row, At, cell_of, cells_of, written_to}
+use Rattle.one_table.proofs.Lists.{member_of_map, contains_map, apart_from_head, apart_in_rest}
+use Rattle.one_table.proofs.Permutations.{contains_cases, contains_head, contains_tail}
 
 -- columns of one number are one
 pub same_col : (col other : ColId) → col.index ≡ other.index → col ≡ other

@@ -1,26 +1,12 @@
 -- What a legal state demands of the one table: a row for each entity, with its values in the columns of the pairs.
 use Rattle.std.proofs.Common.{◌≡◌, inl, ⊎_elim, List, [], ◌∷◌, map, true, false, Contains, refl, sym, ap, subst, ◌∙◌}
 use Rattle.std.specs.Option.{option_map_or}
-use Rattle.emc_base.specs.declared.ids.ColId.{ColId}
-use Rattle.emc_base.specs.declared.ids.TableId.{TableId}
-use Rattle.emc_base.specs.declared.value.Value.{Value}
-use Rattle.emc_base.specs.declared.value.Value.TheVariants.{Null}
-use Rattle.edm_types.specs.declared.mapping.Fragment.{Fragment}
-use Rattle.edm_types.specs.declared.mapping.Cond.{Cond}
+use Rattle.round_trip.specs.Words.{TableId, ColId, Value, Null, Fragment, Pick, Pair, Cond, Schema, Entity, value_of, key_of, State, entities_in, MetByEntity, IsPicked, Selects, IsLegal, Writing, entity_cells, EntityWrites, Writes, written_to, key_columns, written_key, Fills, WritesRow, DemandsRow, DemandsCell, HasNoClash}
 use Rattle.edm_types.specs.declared.mapping.CondOn.TheVariants as on
 use Rattle.edm_types.specs.declared.mapping.Test.TheVariants.{IsNull, Equals}
-use Rattle.edm_types.specs.declared.mapping.Pair.{Pair}
-use Rattle.edm_types.specs.declared.mapping.Pick.{Pick}
-use Rattle.edm_types.specs.declared.data.Entity.{Entity}
-use Rattle.edm_types.specs.Entities.{key_of, value_of}
-use Rattle.edm_types.specs.State.{State, entities_in}
-use Rattle.edm_types.specs.Selected.{Selects, IsPicked, MetByEntity}
-use Rattle.round_trip.specs.Schema.{Schema}
-use Rattle.round_trip.specs.Legal.{IsLegal}
-use Rattle.round_trip.specs.Demand.{Writing, Writes, EntityWrites, WritesRow, Gives, DemandsRow, DemandsCell, entity_cells, key_columns, written_key, written_to}
-use Rattle.round_trip.specs.TablesAre.{HasNoClash}
 use Rattle.one_table.specs.OneTable.{IsOneTable, first_set, first_type, first_table}
-use Rattle.emc_base.proofs.Lists.{nil_has_none, only_member, only_stands, only_at, all_of_none, any_from_member, same_by_key}
+use Rattle.emc_base.proofs.Lists.{only_member, only_stands}
+use Rattle.one_table.proofs.Lists.{nil_has_none, only_at, all_of_none, any_from_member, same_by_key}
 use Rattle.one_table.proofs.Cells.{pair_cells, IsPairValue, pair_of_cell, cell_of_pair, written_once}
 use Rattle.one_table.proofs.Entities.{member_in, first_key, legal_set}
 
@@ -136,7 +122,7 @@ module _ (schema : Schema) (form : IsOneTable schema) where
     demanded_cell t key col value demand =
         let by = row_writer t key demand.0 demand.1 in
         let entity = by.0.entity in
-        let gives : Gives (writing_of entity) col value = subst (λ w. Gives w col value) by.0.is demand.2 in (
+        let gives : Fills (writing_of entity) col value = subst (λ w. Fills w col value) by.0.is demand.2 in (
           entity,
           by.1,
           ⊎_elim

@@ -2,19 +2,11 @@
 use Rattle.std.proofs.Common.{◌≡◌, ◌≢◌, suc, List, [], ◌∷◌, map, length, true≢false, AllPairs, Contains, refl, sym, ap, subst, ◌∙◌, arith}
 use Rattle.std.specs.Option.{option_map_or}
 use Rattle.std.proofs.lemmas.List.Elements.{All-contains}
-use Rattle.emc_base.specs.declared.ids.PropId.{PropId}
-use Rattle.emc_base.specs.declared.ids.TypeId.{TypeId}
-use Rattle.emc_base.specs.declared.value.Value.{Value}
-use Rattle.emc_base.specs.declared.value.Value.TheVariants.{Null}
-use Rattle.edm_types.specs.declared.model.EntityModel.{EntityModel}
-use Rattle.edm_types.specs.declared.model.EntityType.{EntityType}
-use Rattle.edm_types.specs.declared.data.Entity.{Entity}
-use Rattle.edm_types.specs.Entities.{props_of, key_props, key_of, value_of, value_beside, IsEntity}
-use Rattle.edm_types.specs.State.{State, entities_in}
-use Rattle.round_trip.specs.Legal.{IsLegal, IsLegalSet, HasAllowedNulls, HasValuesInDomain}
+use Rattle.round_trip.specs.Words.{TypeId, PropId, Value, Null, EntityModel, EntityType, Entity, props_of, key_props, value_beside, value_of, key_of, IsEntity, State, entities_in, HasAllowedNulls, HasValuesInDomain, IsLegalSet, IsLegal}
 use Rattle.one_table.specs.OneTable.{IsOneType, first_set, first_type}
-use Rattle.emc_base.proofs.Lists.{only_place, only_at}
-use Rattle.emc_base.proofs.Permutations.{contains_head, contains_tail}
+use Rattle.emc_base.proofs.Lists.{only_place}
+use Rattle.one_table.proofs.Lists.{only_at}
+use Rattle.one_table.proofs.Permutations.{contains_head, contains_tail}
 use Rattle.one_table.proofs.Cells.{same_number, other_number}
 
 -- types of one number are one
@@ -93,7 +85,7 @@ module _ (model : EntityModel) (type : EntityType) (key : PropId) (one : IsOneTy
   pub key_told_of : (entity : Entity) → IsMember model type entity → value_of model entity key ≢ Null
   key_told_of entity member null =
       let among : Contains (props_of model entity.ty) key = subst (λ props. Contains props key) (sym (first_props entity member.typed)) one.has_key in
-      let allowed = member.nulls key one.key_declared (record { among = among; told = one.key_told }) null in
+      let allowed = member.nulls key one.key_declared (record { among = among; is_declared = one.key_is_declared }) null in
       true≢false (sym allowed ∙ one.key_not_null)
 
   -- entities that agree at each property are one

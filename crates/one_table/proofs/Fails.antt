@@ -1,21 +1,12 @@
 -- A legal state of the first form fails by no kind but the last.
 use Rattle.std.proofs.Common.{◌≡◌, ⊎_elim, List, refl, sym, subst}
 use Rattle.std.proofs.lemmas.List.Elements.{All-contains}
-use Rattle.emc_base.specs.declared.place.Place.{Place}
-use Rattle.emc_base.specs.declared.value.Value.{Value}
-use Rattle.edm_types.specs.declared.store.Table.{Table}
-use Rattle.emc_base.specs.Lists.{At}
-use Rattle.edm_types.specs.Entities.{key_of, value_of}
-use Rattle.edm_types.specs.State.{State}
+use Rattle.round_trip.specs.Words.{Value, Place, Table, Schema, At, value_of, key_of, State, IsLegal, DemandsCell, IsWrittenTuple, IsShownTuple, AreSameTuples, FailsBy, FailsAt}
 use Rattle.round_trip.specs.declared.FailKind.{FailKind}
 use Rattle.round_trip.specs.declared.FailKind.TheVariants as variant
-use Rattle.round_trip.specs.Schema.{Schema}
-use Rattle.round_trip.specs.Legal.{IsLegal}
-use Rattle.round_trip.specs.Demand.{DemandsCell}
-use Rattle.round_trip.specs.Satisfies.{AreSameTuples, IsWrittenTuple, IsShownTuple}
-use Rattle.round_trip.specs.FailsAt.{FailsAt, FailsBy, Clashes, LeavesNull, Disagrees, Dangles, IsInOneOnly}
+use Rattle.round_trip.specs.FailsAt.{Clashes, LeavesNull, Disagrees, Dangles, IsInOneOnly}
 use Rattle.one_table.specs.OneTable.{IsOneTable, first_table}
-use Rattle.emc_base.proofs.Lists.{nil_has_none}
+use Rattle.one_table.proofs.Lists.{nil_has_none}
 use Rattle.one_table.proofs.Entities.{member_in, key_told_of}
 use Rattle.one_table.proofs.Demands.{key_pair, same_demand, no_clash, demanded_row, cell_demanded}
 use Rattle.one_table.proofs.GoodTables.{first_of_tables, satisfied}

@@ -1,29 +1,10 @@
 -- The tables of a legal state: each row holds an entity and each entity is held, so they are legal and agree with the fragment.
 use Rattle.std.proofs.Common.{◌≡◌, ◌⊎◌, inl, inr, ⊎_elim, List, map, Bool, true, false, Contains, IsTrue, refl, sym, ap, subst, subst₂, ◌∙◌}
 use Rattle.std.proofs.lemmas.List.Elements.{All-contains}
-use Rattle.emc_base.specs.declared.ids.ColId.{ColId}
-use Rattle.emc_base.specs.declared.ids.TableId.{TableId}
-use Rattle.emc_base.specs.declared.value.Value.{Value}
-use Rattle.emc_base.specs.declared.value.Value.TheVariants.{Null}
-use Rattle.emc_base.specs.Domain.{InDomain}
-use Rattle.edm_types.specs.declared.mapping.Pair.{Pair}
-use Rattle.edm_types.specs.declared.store.Table.{Table}
-use Rattle.edm_types.specs.declared.store.Column.{Column}
-use Rattle.edm_types.specs.declared.data.Entity.{Entity}
-use Rattle.edm_types.specs.declared.data.Row.{Row}
-use Rattle.emc_base.specs.Lists.{At}
-use Rattle.edm_types.specs.Entities.{key_of, value_of, props_of}
-use Rattle.edm_types.specs.State.{State, entities_in}
-use Rattle.edm_types.specs.Rows.{Tables, rows_in, cell_of, cells_of, row_key}
-use Rattle.edm_types.specs.Selected.{MetByRow}
-use Rattle.round_trip.specs.Schema.{Schema}
-use Rattle.round_trip.specs.Legal.{IsLegal}
-use Rattle.round_trip.specs.LegalTables.{AreLegalTables, AreLegalRows, HasAllowedNullCells, HasCellsInDomain, KeepsForeignKey}
-use Rattle.round_trip.specs.Demand.{DemandsRow, DemandsCell, entity_cells}
-use Rattle.round_trip.specs.TablesAre.{TablesAre, AreDemandedRows, HasDemandedCells}
-use Rattle.round_trip.specs.Satisfies.{Satisfies, AreSameTuples, IsWrittenTuple, IsShownTuple, IsWrittenLinkTuple, IsShownLinkTuple}
+use Rattle.round_trip.specs.Words.{TableId, ColId, Value, Null, Table, Column, Pair, Schema, Entity, Row, At, InDomain, props_of, value_of, key_of, State, entities_in, Tables, rows_in, cell_of, cells_of, row_key, MetByRow, IsLegal, HasAllowedNullCells, HasCellsInDomain, AreLegalRows, KeepsForeignKey, AreLegalTables, entity_cells, DemandsRow, DemandsCell, HasDemandedCells, AreDemandedRows, TablesAre, IsWrittenTuple, IsShownTuple, IsWrittenLinkTuple, IsShownLinkTuple, AreSameTuples, Satisfies}
 use Rattle.one_table.specs.OneTable.{IsOneTable, IsFittingPair, first_set, first_table}
-use Rattle.emc_base.proofs.Lists.{only_place, only_at, at_once, all_of_one, all_of_none, all_from_members, member_of_any}
+use Rattle.emc_base.proofs.Lists.{only_place, at_once, all_from_members}
+use Rattle.one_table.proofs.Lists.{only_at, all_of_one, all_of_none, member_of_any}
 use Rattle.one_table.proofs.Cells.{IsPairValue, same_tuples}
 use Rattle.one_table.proofs.Entities.{IsMember, member_in, first_props, key_told_of}
 use Rattle.one_table.proofs.Demands.{key_pair, selected, demanded_row, row_demanded, demanded_cell, cell_demanded}
@@ -108,7 +89,7 @@ module _ (schema : Schema) (form : IsOneTable schema) (state : State) (legal : I
         ⊎_elim
         (λ null. inl (by.value_is ∙ null))
         (λ within. inr (subst₂ (λ (v : Value) (c : Column). InDomain v c.kind) (sym by.value_is) same (fitting.holds (value_of schema.model entity by.pair.prop) within)))
-        (member.domains by.pair.prop fitting.declared (record { among = among; told = fitting.told }))
+        (member.domains by.pair.prop fitting.declared (record { among = among; is_declared = fitting.is_declared }))
 
     -- B2: a cell is null, or in the domain of its column
     keeps_domains : (row : Row) → Contains (rows_in tables first_table) row → HasCellsInDomain form.table row

@@ -1,3 +1,5 @@
+pub mod Lists
+pub mod Permutations
 pub mod Cells
 pub mod Entities
 pub mod Demands
@@ -6,4 +8,4 @@ pub mod Fails
 pub mod Stored
 pub mod Apart
 pub mod Single
-pub mod Unwritten
+pub mod LostValues

@@ -3,26 +3,14 @@ use Rattle.std.proofs.Common.{◌≡◌, ◌≢◌, ◌⊎◌, inl, inr, ⊎_eli
 use Rattle.std.proofs.lemmas.List.Elements.{All-contains, All-nil}
 use Rattle.std.proofs.lemmas.Bool.Decides.{eqb_tells}
 use Rattle.std.proofs.Math.ListN.{length-map}
-use Rattle.emc_base.specs.declared.ids.PropId.{PropId}
-use Rattle.emc_base.specs.declared.ids.SetId.{SetId}
-use Rattle.emc_base.specs.declared.value.Kind.{Kind}
+use Rattle.round_trip.specs.Words.{SetId, PropId, Value, Null, Kind, EntityModel, EntityType, Prop, EntitySet, Assoc, InDomain, IsA, props_of, value_beside, value_of, IsEntity, entities_in, IsState, HasProp, HasFittingType, HasAllowedNulls, HasValuesInDomain, IsLegalSet, IsLegal}
 use Rattle.emc_base.specs.declared.value.Kind.TheVariants as kind
-use Rattle.emc_base.specs.declared.value.Value.{Value}
-use Rattle.emc_base.specs.declared.value.Value.TheVariants.{Null}
-use Rattle.emc_base.specs.Domain.{InDomain}
-use Rattle.edm_types.specs.declared.model.Assoc.{Assoc}
-use Rattle.edm_types.specs.declared.model.EntityModel.{EntityModel}
-use Rattle.edm_types.specs.declared.model.EntitySet.{EntitySet}
-use Rattle.edm_types.specs.declared.model.EntityType.{EntityType}
-use Rattle.edm_types.specs.declared.model.Prop.{Prop}
-use Rattle.edm_types.specs.IsA.{IsA, same as itself}
-use Rattle.edm_types.specs.Entities.{props_of, value_of, value_beside, IsEntity}
-use Rattle.edm_types.specs.State.{entities_in, IsState}
-use Rattle.round_trip.specs.Legal.{IsLegal, IsLegalSet, HasFittingType, HasAllowedNulls, HasValuesInDomain, HasProp}
+use Rattle.edm_types.specs.IsA.{same as itself}
 use Rattle.one_table.specs.OneTable.{IsOneType, first_set, first_type}
 use Rattle.one_table.specs.Lost.{entity_by, state_by, IsAllowed}
-use Rattle.emc_base.proofs.Lists.{only_place, only_at, at_once, nil_at_none, all_of_one}
-use Rattle.emc_base.proofs.Permutations.{contains_cases}
+use Rattle.emc_base.proofs.Lists.{only_place, at_once}
+use Rattle.one_table.proofs.Lists.{only_at, nil_at_none, all_of_one}
+use Rattle.one_table.proofs.Permutations.{contains_cases}
 use Rattle.one_table.proofs.Entities.{beside_here, beside_later, first_props}
 
 -- properties of one number are one
@@ -61,7 +49,7 @@ module _ (model : EntityModel) (type : EntityType) (key : PropId) (one : IsOneTy
       → ((value_of model (entity_by model values) prop ≡ Null) × IsTrue declared.nullable) ⊎ InDomain (value_of model (entity_by model values) prop) declared.kind
   allowed_as prop declared has =
       let may = All-contains (λ p. IsAllowed model p (values p)) (props_of model first_type) prop allowed has.among in
-      subst₂ (λ (v : Value) (d : Prop). ((v ≡ Null) × IsTrue d.nullable) ⊎ InDomain v d.kind) (sym (chosen prop has.among)) (at_once model.props prop.index may.0 declared may.1 has.told) may.2
+      subst₂ (λ (v : Value) (d : Prop). ((v ≡ Null) × IsTrue d.nullable) ⊎ InDomain v d.kind) (sym (chosen prop has.among)) (at_once model.props prop.index may.0 declared may.1 has.is_declared) may.2
 
   -- S2
   keeps_nulls : HasAllowedNulls model (entity_by model values)

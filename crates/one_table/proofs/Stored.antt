@@ -1,26 +1,10 @@
 -- Each legal state of the first form has tables: a row for each entity.
 use Rattle.std.proofs.Common.{◌≡◌, ◌⊎◌, inl, inr, ⊎_elim, List, [], ◌∷◌, map, length, All, Contains, refl, sym, ap, subst, subst₂, ◌∙◌}
 use Rattle.std.proofs.lemmas.List.Elements.{All-contains, All-map}
-use Rattle.emc_base.specs.declared.ids.ColId.{ColId}
-use Rattle.emc_base.specs.declared.ids.TableId.{TableId}
-use Rattle.emc_base.specs.declared.value.Value.{Value}
-use Rattle.emc_base.specs.declared.value.Value.TheVariants.{Null}
-use Rattle.edm_types.specs.declared.mapping.Pair.{Pair}
-use Rattle.edm_types.specs.declared.store.Table.{Table}
-use Rattle.edm_types.specs.declared.store.Column.{Column}
-use Rattle.edm_types.specs.declared.data.Entity.{Entity}
-use Rattle.edm_types.specs.declared.data.Row.{Row}
-use Rattle.emc_base.specs.Lists.{At}
-use Rattle.edm_types.specs.Entities.{key_of, value_of}
-use Rattle.edm_types.specs.State.{State, entities_in}
-use Rattle.edm_types.specs.Rows.{Tables, rows_in, cell_of, cells_of, row_key, AreTables}
-use Rattle.round_trip.specs.Schema.{Schema}
-use Rattle.round_trip.specs.Legal.{IsLegal}
-use Rattle.round_trip.specs.RoundTrips.{HasGoodTables}
-use Rattle.round_trip.specs.Demand.{DemandsRow, DemandsCell, entity_cells}
-use Rattle.round_trip.specs.TablesAre.{TablesAre, AreDemandedRows, HasDemandedCells}
+use Rattle.round_trip.specs.Words.{TableId, ColId, Value, Null, Table, Column, Pair, Schema, Entity, Row, At, value_of, key_of, State, entities_in, Tables, rows_in, cell_of, cells_of, row_key, AreTables, IsLegal, entity_cells, DemandsRow, DemandsCell, HasDemandedCells, AreDemandedRows, TablesAre, HasGoodTables}
 use Rattle.one_table.specs.OneTable.{IsOneTable, IsFittingPair, first_set, first_table}
-use Rattle.emc_base.proofs.Lists.{all_from_members, any_from_member, contains_map, apart_map}
+use Rattle.emc_base.proofs.Lists.{all_from_members}
+use Rattle.one_table.proofs.Lists.{any_from_member, contains_map, apart_map}
 use Rattle.one_table.proofs.Cells.{row_with, length-row_with, cell-row_with, written_once, written_cases}
 use Rattle.one_table.proofs.Entities.{member_in, first_key, legal_set}
 use Rattle.one_table.proofs.Demands.{key_pair, same_demand, demanded_row, row_demanded, demanded_cell, cell_demanded, one_entity, no_clash}

@@ -1,2 +1,4 @@
 pub mod OneTable
 pub mod Lost
+pub mod Unwritten
+pub mod Samples

@@ -1,18 +1,7 @@
 -- Two states of one entity each that differ in values which no pair writes: what a program shows where it refuses a mapping of the
 -- first form.
 use Rattle.std.specs.Prelude.{◌≡◌, ◌≢◌, ◌⊎◌, ◌==◌, [], ◌∷◌, map, All, Contains, IsTrue, pos, if◌then◌else◌}
-use Rattle.emc_base.specs.declared.ids.PropId.{PropId}
-use Rattle.emc_base.specs.declared.value.Value.{Value}
-use Rattle.emc_base.specs.declared.value.Value.TheVariants.{Null, Whole}
-use Rattle.emc_base.specs.Domain.{InDomain}
-use Rattle.edm_types.specs.declared.model.EntityModel.{EntityModel}
-use Rattle.edm_types.specs.declared.model.EntitySet.{EntitySet}
-use Rattle.edm_types.specs.declared.model.Prop.{Prop}
-use Rattle.edm_types.specs.declared.data.Entity.{Entity}
-use Rattle.emc_base.specs.Lists.{At}
-use Rattle.edm_types.specs.Entities.{props_of, key_props}
-use Rattle.edm_types.specs.State.{State}
-use Rattle.round_trip.specs.Schema.{Schema}
+use Rattle.round_trip.specs.Words.{PropId, Value, Null, Whole, EntityModel, Prop, EntitySet, Schema, Entity, At, InDomain, props_of, key_props, State}
 use Rattle.one_table.specs.OneTable.{first_type}
 
 -- the entity of the first type that has these values
@@ -52,10 +41,10 @@ pub record IsLost (schema : Schema) (set : EntitySet) (key lost : PropId) (value
   pub key_declared : Prop
   pub is_set : At schema.model.sets 0 set
   pub is_key : At (key_props schema.model first_type) 0 key
-  pub key_told : At schema.model.props key.index key_declared
+  pub key_is_declared : At schema.model.props key.index key_declared
   pub seven : InDomain (Whole (pos 7)) key_declared.kind
   pub has_prop : Contains (props_of schema.model first_type) lost
-  pub told : At schema.model.props lost.index declared
+  pub is_declared : At schema.model.props lost.index declared
   pub holds : InDomain value declared.kind
   pub unwritten : All (λ fragment. All (λ pair. pair.prop ≢ lost) fragment.pairs) schema.mapping.fragments
   pub nullable : All (λ prop. (prop ≡ key) ⊎ IsNullable schema.model prop) (props_of schema.model first_type)

@@ -1,24 +1,7 @@
 -- The first form of mapping, in terms of the lists of the models and the mapping: one set of one type, whose entities are written
 -- to one table by one fragment without conditions.
 use Rattle.std.specs.Prelude.{◌≡◌, ◌≢◌, [], ◌∷◌, All, Any, AllPairs, Contains, false}
-use Rattle.emc_base.specs.declared.ids.SetId.{SetId}
-use Rattle.emc_base.specs.declared.ids.TypeId.{TypeId}
-use Rattle.emc_base.specs.declared.ids.TableId.{TableId}
-use Rattle.emc_base.specs.declared.ids.PropId.{PropId}
-use Rattle.emc_base.specs.declared.ids.ColId.{ColId}
-use Rattle.emc_base.specs.declared.value.Value.{Value}
-use Rattle.emc_base.specs.Domain.{InDomain}
-use Rattle.edm_types.specs.declared.model.EntityModel.{EntityModel}
-use Rattle.edm_types.specs.declared.model.EntityType.{EntityType}
-use Rattle.edm_types.specs.declared.model.EntitySet.{EntitySet}
-use Rattle.edm_types.specs.declared.model.Prop.{Prop}
-use Rattle.edm_types.specs.declared.store.StoreModel.{StoreModel}
-use Rattle.edm_types.specs.declared.store.Table.{Table}
-use Rattle.edm_types.specs.declared.store.Column.{Column}
-use Rattle.edm_types.specs.declared.mapping.Fragment.{Fragment}
-use Rattle.edm_types.specs.declared.mapping.Pair.{Pair}
-use Rattle.emc_base.specs.Lists.{At}
-use Rattle.round_trip.specs.Schema.{Schema}
+use Rattle.round_trip.specs.Words.{SetId, TypeId, PropId, TableId, ColId, Value, EntityModel, EntityType, Prop, EntitySet, StoreModel, Table, Column, Fragment, Pair, Schema, At, InDomain}
 
 -- the one set
 abbrev pub first_set : SetId
@@ -45,7 +28,7 @@ pub record IsOneType (model : EntityModel) (type : EntityType) (key : PropId) : 
   pub different : AllPairs (λ prop other. prop ≢ other) type.props
   pub one_key : type.key ≡ key ∷ []
   pub has_key : Contains type.props key
-  pub key_told : At model.props key.index key_declared
+  pub key_is_declared : At model.props key.index key_declared
   pub key_not_null : key_declared.nullable ≡ false
 
 -- one table whose primary key is one column, the only one that can't be null; no foreign key
@@ -62,7 +45,7 @@ pub record IsFittingPair (model : EntityModel) (type : EntityType) (table : Tabl
   pub declared : Prop
   pub column : Column
   pub has_prop : Contains type.props pair.prop
-  pub told : At model.props pair.prop.index declared
+  pub is_declared : At model.props pair.prop.index declared
   pub has_column : At table.cols pair.col.index column
   pub holds : (value : Value) → InDomain value declared.kind → InDomain value column.kind
 

@@ -1,22 +1,17 @@
-//! The decision over the first form of mapping: one set of one type, written to one table by one fragment.
+//! The decision over the first form of mapping, one set of one type that one fragment writes to one table. It is no pattern, and goes
+//! when the general decision stands.
 #![tactic(auto)]
 
+mod unwritten;
+
 ghost use Rattle.std.specs.Prelude.{◌≡◌, List, [], ◌∷◌, pos};
-ghost use Rattle.emc_base.specs.declared.ids.PropId.{PropId};
-ghost use Rattle.emc_base.specs.declared.value.Value.{Value};
-ghost use Rattle.emc_base.specs.declared.value.Value.TheVariants.{Null, Whole};
-ghost use Rattle.edm_types.specs.declared.model.EntitySet.{EntitySet};
-ghost use Rattle.edm_types.specs.State.{State};
-ghost use Rattle.emc_base.specs.declared.place.Place.{Place};
+ghost use Rattle.round_trip.specs.Words.{PropId, Value, Null, Whole, Place, EntitySet, Schema, State, IsLegal, place_at, FailsAt, HasGoodTables, Keeps};
 ghost use Rattle.round_trip.specs.declared.FailKind.{FailKind};
 ghost use Rattle.round_trip.specs.declared.FailKind.TheVariants.{Same};
-ghost use Rattle.round_trip.specs.Breaches.{place_at};
-ghost use Rattle.round_trip.specs.FailsAt.{FailsAt};
-ghost use Rattle.round_trip.specs.Legal.{IsLegal};
-ghost use Rattle.round_trip.specs.Schema.{Schema};
-ghost use Rattle.round_trip.specs.RoundTrips.{HasGoodTables, KeepsEveryState, RoundTrips};
 ghost use Rattle.one_table.specs.Lost.{AreLost, IsLost, lost_values, state_by};
 ghost use Rattle.one_table.specs.OneTable.{IsOneTable, WritesEveryProperty};
+
+pub use unwritten::unwritten_property;
 
 /// What needs no premise on the properties: a state fails by another state with the same tables, or not at all, and each
 /// legal state has tables that are legal and agree with the fragment.
@@ -27,8 +22,7 @@ pub fn fails_by_same_alone()
 
 /// The law that accepts: where every property is written, no legal state fails, and each has tables of its own.
 pub fn accepts()
-    ensures round_trips { (schema : Schema) → IsOneTable schema → WritesEveryProperty schema → RoundTrips schema }
-    ensures keeps { (schema : Schema) → IsOneTable schema → WritesEveryProperty schema → KeepsEveryState schema }
+    ensures { (schema : Schema) → IsOneTable schema → WritesEveryProperty schema → Keeps schema }
 {}
 
 /// The law that refuses: two choices of values that differ in a property that no pair writes give states with the same tables;

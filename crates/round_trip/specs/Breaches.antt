@@ -5,30 +5,8 @@ use Rattle.std.specs.Prelude.{◌≡◌, ◌≢◌, ◌⊎◌, ℕ, ◌<◌, ◌
 use Rattle.std.specs.Ordering.{nat_cmp}
 use Rattle.std.specs.declared.cmp.Ordering.TheVariants.{Greater}
 use Rattle.std.specs.Cmp.Lexicographic.{slice_cmp}
-use Rattle.emc_base.specs.declared.ids.PropId.{PropId}
-use Rattle.emc_base.specs.declared.place.Place.{Place}
-use Rattle.emc_base.specs.declared.value.Value.{Value}
-use Rattle.emc_base.specs.declared.value.Value.TheVariants.{Null}
-use Rattle.emc_base.specs.Domain.{InDomain}
-use Rattle.edm_types.specs.declared.model.EntityModel.{EntityModel}
-use Rattle.edm_types.specs.declared.model.EntitySet.{EntitySet}
-use Rattle.edm_types.specs.declared.model.Prop.{Prop}
-use Rattle.edm_types.specs.declared.model.Assoc.{Assoc}
-use Rattle.edm_types.specs.declared.model.End.{End}
-use Rattle.edm_types.specs.declared.model.Mult.{Mult}
-use Rattle.edm_types.specs.declared.model.Constraint.{Constraint}
-use Rattle.edm_types.specs.declared.data.Entity.{Entity}
-use Rattle.edm_types.specs.declared.data.Link.{Link}
-use Rattle.edm_types.specs.declared.faults.Breach.{Breach}
-use Rattle.emc_base.specs.Lists.{At}
-use Rattle.edm_types.specs.IsA.{IsA}
-use Rattle.edm_types.specs.Entities.{props_of, value_of, values_of, key_of}
-use Rattle.edm_types.specs.State.{State, entities_in, links_in, IsIndependent}
+use Rattle.round_trip.specs.Types.{PropId, Value, Null, Place, place_at, EntityModel, Prop, EntitySet, Assoc, End, Mult, Constraint, Entity, Link, Breach, At, InDomain, IsA, props_of, value_of, values_of, key_of, State, entities_in, links_in, IsIndependent}
 use Rattle.round_trip.specs.Legal.{HasFittingType, HasEntityAt, HasCount, HasPrincipal, dependent_end}
-
--- a place by its three parts
-abbrev pub place_at : List ℕ → List Value → List ℕ → Place
-place_at name key part = record { name = name; key = key; part = part }
 
 -- the breach told is one, no smaller rule is broken, and its rule is broken at no earlier spot
 pub record IsFirstBreach (Breaks : ℕ → List ℕ → Place → Type 0) (breach : Breach) : Type 0 where
@@ -69,7 +47,7 @@ pub record StandsAtProp (model : EntityModel) (state : State) (spot : List ℕ) 
   pub prop : PropId
   pub stands : StandsIn model state s set i entity
   pub is_prop : At (props_of model entity.ty) j prop
-  pub told : At model.props prop.index declared
+  pub is_declared : At model.props prop.index declared
   pub value_is : value ≡ value_of model entity prop
   pub spot_is : spot ≡ s ∷ i ∷ j ∷ []
   pub place_is : place ≡ place_at set.name (key_of model entity) declared.name
@@ -148,7 +126,7 @@ pub record BreaksPrincipal (model : EntityModel) (state : State) (spot : List �
   pub constrained : assoc.constraint ≡ Some constraint
   pub stands : StandsIn model state (dependent_end assoc constraint).set.index set i entity
   pub typed : IsA model entity.ty (dependent_end assoc constraint).ty
-  pub told : All (λ value. value ≢ Null) (values_of model entity constraint.dependent)
+  pub not_null : All (λ value. value ≢ Null) (values_of model entity constraint.dependent)
   pub broken : ¬ HasPrincipal model state assoc constraint (values_of model entity constraint.dependent)
   pub spot_is : spot ≡ a ∷ i ∷ []
   pub place_is : place ≡ place_at set.name (key_of model entity) assoc.set_name

@@ -2,27 +2,9 @@
 -- Source: MSL version 3, MappingFragment, ScalarProperty, EndProperty and Condition; Melnik, Adya and Bernstein, SIGMOD 2007.
 use Rattle.std.specs.Prelude.{◌≡◌, ◌⊎◌, ◌==◌, List, [], ◌∷◌, ◌++◌, map, Contains, true, slice_get, if◌then◌else◌}
 use Rattle.std.specs.Option.{option_map_or}
-use Rattle.emc_base.specs.declared.ids.TableId.{TableId}
-use Rattle.emc_base.specs.declared.ids.ColId.{ColId}
-use Rattle.emc_base.specs.declared.ids.TypeId.{TypeId}
-use Rattle.emc_base.specs.declared.value.Value.{Value}
-use Rattle.emc_base.specs.declared.value.Value.TheVariants.{Null}
-use Rattle.edm_types.specs.declared.model.EntityModel.{EntityModel}
-use Rattle.edm_types.specs.declared.model.Assoc.{Assoc}
-use Rattle.edm_types.specs.declared.store.StoreModel.{StoreModel}
-use Rattle.edm_types.specs.declared.mapping.Fragment.{Fragment}
-use Rattle.edm_types.specs.declared.mapping.LinkFragment.{LinkFragment}
-use Rattle.edm_types.specs.declared.mapping.Pair.{Pair}
-use Rattle.edm_types.specs.declared.mapping.Cond.{Cond}
+use Rattle.round_trip.specs.Types.{TypeId, TableId, ColId, Value, Null, EntityModel, Assoc, StoreModel, Fragment, Pair, LinkFragment, Cond, Schema, Entity, Link, At, key_props, value_beside, value_of, State, entities_in, links_in, Selects}
 use Rattle.edm_types.specs.declared.mapping.CondOn.TheVariants as on
 use Rattle.edm_types.specs.declared.mapping.Test.TheVariants.{IsNull, Equals}
-use Rattle.edm_types.specs.declared.data.Entity.{Entity}
-use Rattle.edm_types.specs.declared.data.Link.{Link}
-use Rattle.emc_base.specs.Lists.{At}
-use Rattle.edm_types.specs.Entities.{key_props, value_beside, value_of}
-use Rattle.edm_types.specs.State.{State, entities_in, links_in}
-use Rattle.edm_types.specs.Selected.{Selects}
-use Rattle.round_trip.specs.Schema.{Schema}
 
 -- what one entity or link writes by one fragment: the written columns with their values, and the fragment's conditions
 pub record Writing : Type 0 where
@@ -75,9 +57,9 @@ key_columns store t = option_map_or (λ table. table.key) (slice_get store.table
 abbrev pub written_key : StoreModel → Writing → List Value
 written_key store writing = map (written_to writing.cells) (key_columns store writing.table)
 
--- a writing gives a column its written value, the constant of a Value condition, or null by an IsNull condition
-abbrev pub Gives : Writing → ColId → Value → Type 0
-Gives writing col value = Contains writing.cells (col, value)
+-- a writing fills a column with its written value, the constant of a Value condition, or null by an IsNull condition
+abbrev pub Fills : Writing → ColId → Value → Type 0
+Fills writing col value = Contains writing.cells (col, value)
     ⊎ Contains writing.conds (record { on = on.Col col; test = Equals value })
     ⊎ (Contains writing.conds (record { on = on.Col col; test = IsNull true }) × (value ≡ Null))
 
@@ -93,4 +75,4 @@ DemandsRow schema state t key = (writing : Writing) × WritesRow schema state t 
 
 -- the cell is demanded to hold the value
 abbrev pub DemandsCell : Schema → State → TableId → List Value → ColId → Value → Type 0
-DemandsCell schema state t key col value = (writing : Writing) × WritesRow schema state t key writing × Gives writing col value
+DemandsCell schema state t key col value = (writing : Writing) × WritesRow schema state t key writing × Fills writing col value

@@ -1,37 +1,12 @@
 -- The five ways in which a legal state fails, each with its place.
 -- Source: the round-trip criterion of Melnik, Adya and Bernstein, SIGMOD 2007, part by part.
-use Rattle.std.specs.Prelude.{◌≡◌, ◌≢◌, ◌⊎◌, List, [], ◌++◌, map, Contains, All, false, slice_get, length, take, drop}
+use Rattle.std.specs.Prelude.{◌≡◌, ◌≢◌, ◌⊎◌, ℕ, List, [], ◌++◌, map, Contains, All, false, slice_get, length, take, drop}
 use Rattle.std.specs.Option.{option_map_or}
-use Rattle.emc_base.specs.declared.ids.TableId.{TableId}
-use Rattle.emc_base.specs.declared.ids.ColId.{ColId}
-use Rattle.emc_base.specs.declared.ids.SetId.{SetId}
-use Rattle.emc_base.specs.declared.ids.AssocId.{AssocId}
-use Rattle.emc_base.specs.declared.ids.TypeId.{TypeId}
-use Rattle.emc_base.specs.declared.place.Place.{Place}
-use Rattle.emc_base.specs.declared.value.Value.{Value}
-use Rattle.emc_base.specs.declared.value.Value.TheVariants.{Null}
-use Rattle.edm_types.specs.declared.model.EntityModel.{EntityModel}
-use Rattle.edm_types.specs.declared.model.EntitySet.{EntitySet}
-use Rattle.edm_types.specs.declared.model.Assoc.{Assoc}
-use Rattle.edm_types.specs.declared.store.Table.{Table}
-use Rattle.edm_types.specs.declared.store.Column.{Column}
-use Rattle.edm_types.specs.declared.store.ForeignKey.{ForeignKey}
-use Rattle.edm_types.specs.declared.mapping.Fragment.{Fragment}
-use Rattle.edm_types.specs.declared.mapping.LinkFragment.{LinkFragment}
-use Rattle.edm_types.specs.declared.mapping.Pair.{Pair}
-use Rattle.edm_types.specs.declared.data.Entity.{Entity}
-use Rattle.edm_types.specs.declared.data.Link.{Link}
-use Rattle.edm_types.specs.declared.data.Row.{Row}
-use Rattle.emc_base.specs.Lists.{At}
-use Rattle.edm_types.specs.Entities.{key_props, key_of, value_beside}
-use Rattle.edm_types.specs.State.{State, entities_in, links_in, IsIndependent, IsSameState}
-use Rattle.edm_types.specs.Rows.{Tables, rows_in, row_key, AreSameTables}
+use Rattle.round_trip.specs.Types.{SetId, TypeId, TableId, ColId, AssocId, Value, Null, Place, place_at, EntityModel, EntitySet, Assoc, Table, Column, ForeignKey, Fragment, Pair, LinkFragment, Schema, Entity, Link, Row, At, key_props, value_beside, key_of, State, entities_in, links_in, IsIndependent, IsSameState, Tables, rows_in, row_key, AreSameTables}
 use Rattle.round_trip.specs.declared.FailKind.{FailKind}
 use Rattle.round_trip.specs.declared.FailKind.TheVariants as kind
-use Rattle.round_trip.specs.Schema.{Schema}
 use Rattle.round_trip.specs.Legal.{IsLegal}
 use Rattle.round_trip.specs.LegalTables.{Refers, FindsRow}
-use Rattle.round_trip.specs.Breaches.{place_at}
 use Rattle.round_trip.specs.Demand.{DemandsRow, DemandsCell, key_columns}
 use Rattle.round_trip.specs.TablesAre.{TablesAre}
 use Rattle.round_trip.specs.Satisfies.{IsWrittenTuple, IsShownTuple, IsWrittenLinkTuple, IsShownLinkTuple}
@@ -161,6 +136,14 @@ pub record IsSameAs (schema : Schema) (c d : State) (place : Place) : Type 0 whe
   pub other_legal : IsLegal schema.model d
   pub different : ¬ IsSameState c d
   pub differ : DifferAt schema c d place
+
+-- the place of a kind in the order in which kinds are told
+abbrev pub kind_number : FailKind → ℕ
+kind_number kind.Clash = 1
+kind_number kind.Null = 2
+kind_number kind.Disagrees = 3
+kind_number kind.Dangling = 4
+kind_number kind.Same = 5
 
 -- c fails by the kind at the place; d is looked at by the kind same alone
 abbrev pub FailsBy : Schema → FailKind → Place → State → State → Type 0

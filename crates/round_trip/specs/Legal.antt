@@ -1,31 +1,13 @@
 -- Legal entity states: the rules S1 to S8.
 -- Source: CSDL version 3, EntitySet, EntityType, Property, Key, AssociationSet, Multiplicity and ReferentialConstraint.
 use Rattle.std.specs.Prelude.{◌≡◌, ◌≢◌, ◌⊎◌, List, All, Any, AllPairs, Contains, IsTrue, Some, if◌then◌else◌, ⊤}
-use Rattle.emc_base.specs.declared.ids.SetId.{SetId}
-use Rattle.emc_base.specs.declared.ids.AssocId.{AssocId}
-use Rattle.emc_base.specs.declared.ids.PropId.{PropId}
-use Rattle.emc_base.specs.declared.value.Value.{Value}
-use Rattle.emc_base.specs.declared.value.Value.TheVariants.{Null}
-use Rattle.emc_base.specs.Domain.{InDomain}
-use Rattle.edm_types.specs.declared.model.EntityModel.{EntityModel}
-use Rattle.edm_types.specs.declared.model.EntitySet.{EntitySet}
-use Rattle.edm_types.specs.declared.model.Prop.{Prop}
-use Rattle.edm_types.specs.declared.model.Assoc.{Assoc}
-use Rattle.edm_types.specs.declared.model.End.{End}
-use Rattle.edm_types.specs.declared.model.Constraint.{Constraint}
-use Rattle.edm_types.specs.declared.model.Mult.{Mult}
+use Rattle.round_trip.specs.Types.{SetId, PropId, AssocId, Value, Null, EntityModel, Prop, EntitySet, Assoc, End, Mult, Constraint, Entity, Link, At, AtMostOne, InDomain, IsA, IsConcrete, props_of, value_of, values_of, key_of, State, entities_in, links_in, IsIndependent, IsState}
 use Rattle.edm_types.specs.declared.model.Mult.TheVariants.{One, ZeroOrOne, Many}
-use Rattle.edm_types.specs.declared.data.Entity.{Entity}
-use Rattle.edm_types.specs.declared.data.Link.{Link}
-use Rattle.emc_base.specs.Lists.{At, AtMostOne}
-use Rattle.edm_types.specs.IsA.{IsA, IsConcrete}
-use Rattle.edm_types.specs.Entities.{props_of, value_of, values_of, key_of}
-use Rattle.edm_types.specs.State.{State, entities_in, links_in, IsIndependent, IsState}
 
 -- prop is a property of the entity's type, declared as told
 pub record HasProp (model : EntityModel) (entity : Entity) (prop : PropId) (declared : Prop) : Type 0 where
   pub among : Contains (props_of model entity.ty) prop
-  pub told : At model.props prop.index declared
+  pub is_declared : At model.props prop.index declared
 
 -- S1: the entity's type is concrete, and the element type or under it
 pub record HasFittingType (model : EntityModel) (set : EntitySet) (entity : Entity) : Type 0 where

@@ -1,17 +1,7 @@
 -- Legal tables: the rules B1 to B4.
 -- Source: SSDL version 3, Property, Key and ReferentialConstraint.
 use Rattle.std.specs.Prelude.{◌≡◌, ◌≢◌, ◌⊎◌, List, All, Any, AllPairs, IsTrue}
-use Rattle.emc_base.specs.declared.ids.TableId.{TableId}
-use Rattle.emc_base.specs.declared.ids.ColId.{ColId}
-use Rattle.emc_base.specs.declared.value.Value.TheVariants.{Null}
-use Rattle.emc_base.specs.Domain.{InDomain}
-use Rattle.edm_types.specs.declared.store.StoreModel.{StoreModel}
-use Rattle.edm_types.specs.declared.store.Table.{Table}
-use Rattle.edm_types.specs.declared.store.Column.{Column}
-use Rattle.edm_types.specs.declared.store.ForeignKey.{ForeignKey}
-use Rattle.edm_types.specs.declared.data.Row.{Row}
-use Rattle.emc_base.specs.Lists.{At}
-use Rattle.edm_types.specs.Rows.{Tables, rows_in, cell_of, cells_of, row_key, AreTables}
+use Rattle.round_trip.specs.Types.{TableId, ColId, Null, StoreModel, Table, Column, ForeignKey, Row, At, InDomain, Tables, rows_in, cell_of, cells_of, row_key, AreTables}
 
 -- B1: null stands only in nullable columns
 abbrev pub HasAllowedNullCells : Table → Row → Type 0

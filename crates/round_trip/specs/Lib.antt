@@ -1,10 +1,11 @@
+pub mod Types
 pub mod Legal
 pub mod Breaches
 pub mod LegalTables
 pub mod TableBreaches
-pub mod Schema
 pub mod Demand
 pub mod TablesAre
 pub mod Satisfies
 pub mod FailsAt
 pub mod RoundTrips
+pub mod Words

@@ -1,9 +1,6 @@
 -- The round trip. Source: the criterion of Melnik, Adya and Bernstein, SIGMOD 2007, that query after update is the identity.
-use Rattle.emc_base.specs.declared.place.Place.{Place}
-use Rattle.edm_types.specs.State.{State, IsSameState}
-use Rattle.edm_types.specs.Rows.{Tables, AreSameTables}
+use Rattle.round_trip.specs.Types.{Place, Schema, State, IsSameState, Tables, AreSameTables}
 use Rattle.round_trip.specs.declared.FailKind.{FailKind}
-use Rattle.round_trip.specs.Schema.{Schema}
 use Rattle.round_trip.specs.Legal.{IsLegal}
 use Rattle.round_trip.specs.LegalTables.{AreLegalTables}
 use Rattle.round_trip.specs.TablesAre.{TablesAre}
@@ -27,3 +24,8 @@ pub record KeepsEveryState (schema : Schema) : Type 0 where
   pub stored : (state : State) → IsLegal schema.model state → HasGoodTables schema state
   pub told_apart : (c d : State) (s t : Tables) → IsLegal schema.model c → IsLegal schema.model d
       → TablesAre schema c s → TablesAre schema d t → AreSameTables s t → IsSameState c d
+
+-- what an accepted mapping promises: no legal state fails, and each has tables of its own
+pub record Keeps (schema : Schema) : Type 0 where
+  pub round_trips : RoundTrips schema
+  pub every_state : KeepsEveryState schema

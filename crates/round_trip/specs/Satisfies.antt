@@ -1,18 +1,7 @@
 -- Where a fragment agrees with the tables: what its entities or links write is what its table shows.
 -- Source: MSL version 3; the equations between select-project queries of Melnik, Adya and Bernstein, SIGMOD 2007.
 use Rattle.std.specs.Prelude.{◌≡◌, List, ◌++◌, map, Contains, All}
-use Rattle.emc_base.specs.declared.value.Value.{Value}
-use Rattle.edm_types.specs.declared.model.Assoc.{Assoc}
-use Rattle.edm_types.specs.declared.mapping.Fragment.{Fragment}
-use Rattle.edm_types.specs.declared.mapping.LinkFragment.{LinkFragment}
-use Rattle.edm_types.specs.declared.data.Entity.{Entity}
-use Rattle.edm_types.specs.declared.data.Link.{Link}
-use Rattle.edm_types.specs.declared.data.Row.{Row}
-use Rattle.emc_base.specs.Lists.{At}
-use Rattle.edm_types.specs.State.{State, entities_in, links_in}
-use Rattle.edm_types.specs.Rows.{Tables, rows_in, cells_of}
-use Rattle.edm_types.specs.Selected.{Selects, Shows, ShowsLink}
-use Rattle.round_trip.specs.Schema.{Schema}
+use Rattle.round_trip.specs.Types.{Value, Assoc, Fragment, LinkFragment, Schema, Entity, Link, Row, At, State, entities_in, links_in, Tables, rows_in, cells_of, Selects, Shows, ShowsLink}
 use Rattle.round_trip.specs.Demand.{entity_cells, link_cells}
 
 -- the tuple is written by a selected entity

@@ -2,19 +2,8 @@
 -- A spot orders the places of one rule: by table number, then by the order of the rows, then by column or foreign key number.
 -- Source: the rules of `LegalTables`.
 use Rattle.std.specs.Prelude.{◌≡◌, ◌≢◌, ◌⊎◌, ℕ, ◌<◌, List, [], ◌∷◌, false}
-use Rattle.emc_base.specs.declared.place.Place.{Place}
-use Rattle.emc_base.specs.declared.value.Value.{Value}
-use Rattle.emc_base.specs.declared.value.Value.TheVariants.{Null}
-use Rattle.emc_base.specs.Domain.{InDomain}
-use Rattle.edm_types.specs.declared.store.StoreModel.{StoreModel}
-use Rattle.edm_types.specs.declared.store.Table.{Table}
-use Rattle.edm_types.specs.declared.store.Column.{Column}
-use Rattle.edm_types.specs.declared.store.ForeignKey.{ForeignKey}
-use Rattle.edm_types.specs.declared.data.Row.{Row}
-use Rattle.edm_types.specs.declared.faults.Breach.{Breach}
-use Rattle.emc_base.specs.Lists.{At}
-use Rattle.edm_types.specs.Rows.{Tables, rows_in, cell_of, row_key}
-use Rattle.round_trip.specs.Breaches.{place_at, IsFirstBreach}
+use Rattle.round_trip.specs.Types.{Value, Null, Place, place_at, StoreModel, Table, Column, ForeignKey, Row, Breach, At, InDomain, Tables, rows_in, cell_of, row_key}
+use Rattle.round_trip.specs.Breaches.{IsFirstBreach}
 use Rattle.round_trip.specs.LegalTables.{Refers, FindsRow}
 
 -- the i-th row of the t-th table

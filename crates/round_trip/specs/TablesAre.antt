@@ -1,17 +1,7 @@
 -- The tables of a state.
 -- Source: the update views of Melnik, Adya and Bernstein, SIGMOD 2007; in this profile a column that nothing demands holds null.
 use Rattle.std.specs.Prelude.{◌≡◌, ◌≢◌, ◌⊎◌, List, All, Any, AllPairs}
-use Rattle.emc_base.specs.declared.ids.TableId.{TableId}
-use Rattle.emc_base.specs.declared.ids.ColId.{ColId}
-use Rattle.emc_base.specs.declared.value.Value.{Value}
-use Rattle.emc_base.specs.declared.value.Value.TheVariants.{Null}
-use Rattle.edm_types.specs.declared.store.Table.{Table}
-use Rattle.edm_types.specs.declared.store.Column.{Column}
-use Rattle.edm_types.specs.declared.data.Row.{Row}
-use Rattle.emc_base.specs.Lists.{At}
-use Rattle.edm_types.specs.State.{State}
-use Rattle.edm_types.specs.Rows.{Tables, rows_in, cell_of, row_key, AreTables}
-use Rattle.round_trip.specs.Schema.{Schema}
+use Rattle.round_trip.specs.Types.{TableId, ColId, Value, Null, Table, Column, Schema, Row, At, State, Tables, rows_in, cell_of, row_key, AreTables}
 use Rattle.round_trip.specs.Demand.{DemandsRow, DemandsCell}
 
 -- no cell has two different demanded values

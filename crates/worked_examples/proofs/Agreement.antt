@@ -3,20 +3,7 @@ use Rattle.std.proofs.Common.{◌≡◌, List, ◌++◌, sym, ap, subst, ◌∙�
 use Rattle.std.specs.Prelude.{map}
 use Rattle.std.specs.List.{AllByRecursion}
 use Rattle.std.proofs.lemmas.List.Elements.{All-from_recursion}
-use Rattle.emc_base.specs.declared.value.Value.{Value}
-use Rattle.edm_types.specs.declared.model.Assoc.{Assoc}
-use Rattle.edm_types.specs.declared.mapping.Fragment.{Fragment}
-use Rattle.edm_types.specs.declared.mapping.LinkFragment.{LinkFragment}
-use Rattle.edm_types.specs.declared.data.Entity.{Entity}
-use Rattle.edm_types.specs.declared.data.Link.{Link}
-use Rattle.edm_types.specs.declared.data.Row.{Row}
-use Rattle.emc_base.specs.Lists.{At}
-use Rattle.edm_types.specs.State.{State, entities_in, links_in}
-use Rattle.edm_types.specs.Rows.{Tables, rows_in, cells_of}
-use Rattle.edm_types.specs.Selected.{Selects, Shows, ShowsLink}
-use Rattle.round_trip.specs.Schema.{Schema}
-use Rattle.round_trip.specs.Demand.{entity_cells, link_cells}
-use Rattle.round_trip.specs.Satisfies.{IsWrittenTuple, IsShownTuple, IsWrittenLinkTuple, IsShownLinkTuple, AreSameTuples, Satisfies}
+use Rattle.round_trip.specs.Words.{Value, Assoc, Fragment, LinkFragment, Schema, Entity, Link, Row, At, State, entities_in, links_in, Tables, rows_in, cells_of, Selects, Shows, ShowsLink, entity_cells, link_cells, IsWrittenTuple, IsShownTuple, IsWrittenLinkTuple, IsShownLinkTuple, AreSameTuples, Satisfies}
 use Rattle.worked_examples.proofs.Small.{each_of}
 
 module _ (schema : Schema) (state : State) (tables : Tables) where

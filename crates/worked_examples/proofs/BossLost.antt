@@ -3,18 +3,9 @@ use Rattle.std.proofs.Common.{◌≡◌, inl, inr, List, [], ◌∷◌, refl, ar
 use Rattle.std.specs.Prelude.{Contains, pos}
 use Rattle.std.proofs.lemmas.List.Elements.{All-nil}
 use Rattle.std.proofs.lemmas.List.Sorted.{IsPermutation-refl, Contains-permutation}
-use Rattle.emc_base.specs.declared.value.Value.TheVariants.{Null}
-use Rattle.edm_types.specs.declared.model.EntityModel.{EntityModel}
+use Rattle.round_trip.specs.Words.{Null, EntityModel, LinkFragment, Link, Row, Tables, rows_in, MetByEntity, Selects, IsLegal, Writing, TablesAre}
 use Rattle.edm_types.specs.declared.model.Mult.TheVariants.{Many}
-use Rattle.edm_types.specs.declared.mapping.LinkFragment.{LinkFragment}
-use Rattle.edm_types.specs.declared.data.Link.{Link}
-use Rattle.edm_types.specs.declared.data.Row.{Row}
 use Rattle.edm_types.specs.IsA.{same}
-use Rattle.edm_types.specs.Rows.{Tables, rows_in}
-use Rattle.edm_types.specs.Selected.{MetByEntity, Selects}
-use Rattle.round_trip.specs.Legal.{IsLegal}
-use Rattle.round_trip.specs.Demand.{Writing}
-use Rattle.round_trip.specs.TablesAre.{TablesAre}
 use Rattle.worked_examples.specs.Ids.{type_id, assoc_id, just}
 use Rattle.worked_examples.specs.People.{people_table, person_row, only_rows}
 use Rattle.worked_examples.specs.Bosses.{bosses, bossed_model, boss_of, with_bosses, all_people}

@@ -3,14 +3,7 @@ use Rattle.std.proofs.Common.{◌≡◌, ◌≢◌, ℕ, ◌≤◌, List, [], �
 use Rattle.std.specs.Prelude.{pos}
 use Rattle.std.specs.List.{AllByRecursion}
 use Rattle.std.proofs.lemmas.List.Elements.{All-from_recursion, All-weaker}
-use Rattle.emc_base.specs.declared.value.Value.TheVariants.{Null, Whole}
-use Rattle.edm_types.specs.declared.model.Mult.{Mult}
-use Rattle.edm_types.specs.declared.data.Entity.{Entity}
-use Rattle.edm_types.specs.declared.data.Link.{Link}
-use Rattle.edm_types.specs.Entities.{key_of}
-use Rattle.edm_types.specs.IsA.{IsA}
-use Rattle.edm_types.specs.State.{IsLink}
-use Rattle.round_trip.specs.Legal.{IsLegal, AreLegalLinks, HasEntityAt, HasCount}
+use Rattle.round_trip.specs.Words.{Null, Whole, Mult, Entity, Link, IsA, key_of, IsLink, HasEntityAt, HasCount, AreLegalLinks, IsLegal}
 use Rattle.worked_examples.specs.People.{people_set, person}
 use Rattle.worked_examples.specs.Bosses.{bosses, bossed_model, boss_of, with_bosses}
 use Rattle.worked_examples.proofs.Small.{PairsByRecursion, all_pairs}

@@ -2,17 +2,10 @@
 use Rattle.std.proofs.Common.{◌≡◌, ◌≢◌, inl, inr, ℕ, List, [], ◌∷◌, refl, sym, ap, ◌∙◌, arith}
 use Rattle.std.specs.Prelude.{get_or, pos, codes, true, false, Some}
 use Rattle.std.proofs.lemmas.List.Elements.{All-from_recursion}
-use Rattle.emc_base.specs.declared.ids.TypeId.{TypeId}
-use Rattle.emc_base.specs.declared.value.Value.TheVariants.{Null, Whole, Text}
-use Rattle.edm_types.specs.declared.mapping.Cond.{Cond}
+use Rattle.round_trip.specs.Words.{TypeId, Null, Whole, Text, Cond, Entity, Row, cell_of, MetByEntity, MetByRow, IsPicked, Selects, Shows, Writing, Writes}
 use Rattle.edm_types.specs.declared.mapping.CondOn.TheVariants as on
 use Rattle.edm_types.specs.declared.mapping.Test.TheVariants.{IsNull, Equals}
-use Rattle.edm_types.specs.declared.data.Entity.{Entity}
-use Rattle.edm_types.specs.declared.data.Row.{Row}
 use Rattle.edm_types.specs.IsA.{base}
-use Rattle.edm_types.specs.Rows.{cell_of}
-use Rattle.edm_types.specs.Selected.{IsPicked, MetByEntity, MetByRow, Selects, Shows}
-use Rattle.round_trip.specs.Demand.{Writing, Writes}
 use Rattle.worked_examples.specs.Ids.{type_id, col_id, just, entity_of, row_of}
 use Rattle.worked_examples.specs.People.{id_prop, name_prop, people_set}
 use Rattle.worked_examples.specs.Salary.{staff, staff_model, staff_store, staff_table, employee_type, salary_prop, persons, employees, kind_is}
@@ -37,10 +30,10 @@ stands = record {
   shape = (employee_type, refl, refl);
   type = record { concrete = (employee_type, refl, refl); under = base (type_id 1) (type_id 0) (employee_type, refl, refl) };
   fits = (
-    record { declared = id_prop; told = refl; fits = whole_fits false 7 (omega arith) },
+    record { declared = id_prop; is_declared = refl; fits = whole_fits false 7 (omega arith) },
     (
-      record { declared = name_prop; told = refl; fits = no_name },
-      (record { declared = salary_prop; told = refl; fits = whole_fits false 5 (omega arith) }, tt),
+      record { declared = name_prop; is_declared = refl; fits = no_name },
+      (record { declared = salary_prop; is_declared = refl; fits = whole_fits false 5 (omega arith) }, tt),
     ),
   );
 }

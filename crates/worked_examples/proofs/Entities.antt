@@ -3,16 +3,8 @@ use Rattle.std.proofs.Common.{◌≡◌, ◌≢◌, ◌≤◌, List, subst, arit
 use Rattle.std.specs.Prelude.{All}
 use Rattle.std.specs.List.{AllByRecursion}
 use Rattle.std.proofs.lemmas.List.Elements.{All-from_recursion, All-weaker}
-use Rattle.emc_base.specs.declared.ids.TypeId.{TypeId}
-use Rattle.emc_base.specs.declared.ids.PropId.{PropId}
-use Rattle.edm_types.specs.declared.model.EntityModel.{EntityModel}
-use Rattle.edm_types.specs.declared.model.EntitySet.{EntitySet}
-use Rattle.edm_types.specs.declared.model.Prop.{Prop}
-use Rattle.edm_types.specs.declared.data.Entity.{Entity}
-use Rattle.emc_base.specs.Lists.{At}
-use Rattle.edm_types.specs.IsA.{IsA, HasBase, same, base, chain}
-use Rattle.edm_types.specs.Entities.{props_of, value_of, key_of, IsEntity}
-use Rattle.round_trip.specs.Legal.{HasProp, HasFittingType, HasAllowedNulls, HasValuesInDomain, IsLegalSet}
+use Rattle.round_trip.specs.Words.{TypeId, PropId, EntityModel, Prop, EntitySet, Entity, At, HasBase, IsA, props_of, value_of, key_of, IsEntity, HasProp, HasFittingType, HasAllowedNulls, HasValuesInDomain, IsLegalSet}
+use Rattle.edm_types.specs.IsA.{same, base, chain}
 use Rattle.worked_examples.proofs.Small.{each_of, PairsByRecursion, all_pairs}
 use Rattle.worked_examples.proofs.Values.{FitsIn}
 
@@ -27,14 +19,14 @@ IsA-after model after (chain s t u below above) =
 -- the property is declared, and the entity's value may stand in it
 pub record FitsAt (model : EntityModel) (entity : Entity) (prop : PropId) : Type 0 where
   pub declared : Prop
-  pub told : At model.props prop.index declared
+  pub is_declared : At model.props prop.index declared
   pub fits : FitsIn declared.kind declared.nullable (value_of model entity prop)
 
 module _ (model : EntityModel) (entity : Entity) (all : AllByRecursion (FitsAt model entity) (props_of model entity.ty)) where
   fits : (prop : PropId) (declared : Prop) → HasProp model entity prop declared → FitsIn declared.kind declared.nullable (value_of model entity prop)
   fits prop declared has =
       let here : FitsAt model entity prop = each_of (FitsAt model entity) (props_of model entity.ty) prop all has.among in
-      let one : here.declared ≡ declared = cc (here.told, has.told) in
+      let one : here.declared ≡ declared = cc (here.is_declared, has.is_declared) in
       subst (λ (d : Prop). FitsIn d.kind d.nullable (value_of model entity prop)) one here.fits
 
   pub nulls_fit : HasAllowedNulls model entity

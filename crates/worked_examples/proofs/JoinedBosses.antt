@@ -2,23 +2,9 @@
 use Rattle.std.proofs.Common.{◌≡◌, ◌≢◌, inl, inr, ℕ, ◌≤◌, zero, suc, List, [], ◌∷◌, ◌++◌, length, refl, sym, ap, arith}
 use Rattle.std.specs.Prelude.{All, Any, Contains, pos, false}
 use Rattle.std.proofs.lemmas.List.Elements.{All-nil, All-from_recursion}
-use Rattle.emc_base.specs.declared.ids.TableId.{TableId}
-use Rattle.emc_base.specs.declared.value.Value.{Value}
-use Rattle.emc_base.specs.declared.value.Value.TheVariants.{Null, Whole}
-use Rattle.edm_types.specs.declared.model.EntityModel.{EntityModel}
-use Rattle.edm_types.specs.declared.model.Assoc.{Assoc}
+use Rattle.round_trip.specs.Words.{TableId, Value, Null, Whole, EntityModel, Assoc, Cond, Entity, Link, Row, key_of, cell_of, row_key, MetByEntity, MetByRow, Selects, ShowsLink, Refers, FindsRow, KeepsForeignKey, Writing, Writes, WritesRow, AreDemandedRows}
 use Rattle.edm_types.specs.declared.model.Mult.TheVariants.{Many}
-use Rattle.edm_types.specs.declared.mapping.Cond.{Cond}
-use Rattle.edm_types.specs.declared.data.Entity.{Entity}
-use Rattle.edm_types.specs.declared.data.Link.{Link}
-use Rattle.edm_types.specs.declared.data.Row.{Row}
 use Rattle.edm_types.specs.IsA.{same}
-use Rattle.edm_types.specs.Entities.{key_of}
-use Rattle.edm_types.specs.Rows.{cell_of, row_key}
-use Rattle.edm_types.specs.Selected.{Selects, MetByEntity, MetByRow, ShowsLink}
-use Rattle.round_trip.specs.LegalTables.{KeepsForeignKey, Refers, FindsRow}
-use Rattle.round_trip.specs.Demand.{Writing, Writes, WritesRow}
-use Rattle.round_trip.specs.TablesAre.{AreDemandedRows}
 use Rattle.worked_examples.specs.Ids.{type_id, table_id, just, row_of}
 use Rattle.worked_examples.specs.People.{people_table, person_row}
 use Rattle.worked_examples.specs.Bosses.{bosses, bossed_model, boss_of, all_people}

@@ -3,18 +3,7 @@ use Rattle.std.proofs.Common.{◌≡◌, ◌⊎◌, ℕ, List, sym, ap, subst, �
 use Rattle.std.specs.Prelude.{Any}
 use Rattle.std.specs.List.{AllByRecursion}
 use Rattle.std.proofs.lemmas.List.Elements.{All-from_recursion, All-weaker}
-use Rattle.emc_base.specs.declared.ids.TableId.{TableId}
-use Rattle.emc_base.specs.declared.ids.ColId.{ColId}
-use Rattle.emc_base.specs.declared.value.Value.{Value}
-use Rattle.emc_base.specs.declared.value.Value.TheVariants.{Null}
-use Rattle.edm_types.specs.declared.store.Table.{Table}
-use Rattle.edm_types.specs.declared.store.Column.{Column}
-use Rattle.edm_types.specs.declared.data.Row.{Row}
-use Rattle.edm_types.specs.State.{State}
-use Rattle.edm_types.specs.Rows.{cell_of, row_key}
-use Rattle.round_trip.specs.Schema.{Schema}
-use Rattle.round_trip.specs.Demand.{Writing, Writes, DemandsRow, DemandsCell, Gives, written_key}
-use Rattle.round_trip.specs.TablesAre.{HasNoClash, HasDemandedCells, AreDemandedRows}
+use Rattle.round_trip.specs.Words.{TableId, ColId, Value, Null, Table, Column, Schema, Row, State, cell_of, row_key, Writing, Writes, written_key, Fills, DemandsRow, DemandsCell, HasNoClash, HasDemandedCells, AreDemandedRows}
 use Rattle.worked_examples.specs.Ids.{col_id}
 use Rattle.worked_examples.proofs.Small.{EachAt, each_at, PairsByRecursion, all_pairs}
 use Rattle.worked_examples.proofs.LegalRows.{HaveOwnRowKeys}
@@ -22,7 +11,7 @@ use Rattle.worked_examples.proofs.LegalRows.{HaveOwnRowKeys}
 module _ (schema : Schema) (state : State) (row_for : TableId → List Value → Row) where
   -- what the writing gives stands in the row of its key
   abbrev pub IsInItsRow : Writing → Type 0
-  IsInItsRow writing = (col : ColId) (value : Value) → Gives writing col value → value ≡ cell_of (row_for writing.table (written_key schema.store writing)) col
+  IsInItsRow writing = (col : ColId) (value : Value) → Fills writing col value → value ≡ cell_of (row_for writing.table (written_key schema.store writing)) col
 
   module _ (each : (writing : Writing) → Writes schema state writing → IsInItsRow writing) where
     value_is : (t : TableId) (key : List Value) (col : ColId) (value : Value) → DemandsCell schema state t key col value → value ≡ cell_of (row_for t key) col

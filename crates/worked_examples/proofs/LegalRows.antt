@@ -2,12 +2,7 @@
 use Rattle.std.proofs.Common.{◌≢◌, ℕ, List}
 use Rattle.std.specs.List.{AllByRecursion}
 use Rattle.std.proofs.lemmas.List.Elements.{All-from_recursion, All-weaker}
-use Rattle.edm_types.specs.declared.store.StoreModel.{StoreModel}
-use Rattle.edm_types.specs.declared.store.Table.{Table}
-use Rattle.edm_types.specs.declared.store.Column.{Column}
-use Rattle.edm_types.specs.declared.data.Row.{Row}
-use Rattle.edm_types.specs.Rows.{Tables, rows_in, cell_of, row_key, AreTables}
-use Rattle.round_trip.specs.LegalTables.{AreLegalRows, HasAllowedNullCells, HasCellsInDomain, KeepsForeignKey, AreLegalTables}
+use Rattle.round_trip.specs.Words.{StoreModel, Table, Column, Row, Tables, rows_in, cell_of, row_key, AreTables, HasAllowedNullCells, HasCellsInDomain, AreLegalRows, KeepsForeignKey, AreLegalTables}
 use Rattle.worked_examples.specs.Ids.{col_id, table_id}
 use Rattle.worked_examples.proofs.Small.{EachAt, each_at, PairsByRecursion, all_pairs}
 use Rattle.worked_examples.proofs.Values.{FitsIn}

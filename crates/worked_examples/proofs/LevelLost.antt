@@ -4,16 +4,8 @@ use Rattle.std.specs.Prelude.{Contains, pos, false}
 use Rattle.std.specs.List.{AllByRecursion}
 use Rattle.std.proofs.lemmas.List.Elements.{All-nil}
 use Rattle.std.proofs.lemmas.List.Sorted.{IsPermutation-refl, Contains-permutation}
-use Rattle.emc_base.specs.declared.value.Value.TheVariants.{Null, Whole}
-use Rattle.edm_types.specs.declared.data.Entity.{Entity}
-use Rattle.edm_types.specs.declared.data.Row.{Row}
+use Rattle.round_trip.specs.Words.{Null, Whole, Entity, Row, State, Tables, rows_in, Selects, IsLegal, Writing, Writes, TablesAre}
 use Rattle.edm_types.specs.IsA.{same}
-use Rattle.edm_types.specs.Rows.{Tables, rows_in}
-use Rattle.edm_types.specs.Selected.{Selects}
-use Rattle.edm_types.specs.State.{State}
-use Rattle.round_trip.specs.Legal.{IsLegal}
-use Rattle.round_trip.specs.Demand.{Writing, Writes}
-use Rattle.round_trip.specs.TablesAre.{TablesAre}
 use Rattle.worked_examples.specs.Ids.{type_id, set_id, table_id}
 use Rattle.worked_examples.specs.People.{id_prop}
 use Rattle.worked_examples.specs.LevelLost.{items, item_model, item_type, items_set, level_prop, item, only_items}
@@ -35,8 +27,8 @@ stands = record {
   shape = (item_type, refl, refl);
   type = record { concrete = (item_type, refl, refl); under = same (type_id 0) };
   fits = (
-    record { declared = id_prop; told = refl; fits = whole_fits false 1 (omega arith) },
-    (record { declared = level_prop; told = refl; fits = whole_fits false 3 (omega arith) }, tt),
+    record { declared = id_prop; is_declared = refl; fits = whole_fits false 1 (omega arith) },
+    (record { declared = level_prop; is_declared = refl; fits = whole_fits false 3 (omega arith) }, tt),
   );
 }
 

@@ -5,18 +5,8 @@ use Rattle.std.proofs.lemmas.Int.{ints}
 use Rattle.std.specs.Ordering.{nat_cmp}
 use Rattle.std.specs.declared.cmp.Ordering.TheVariants.{Equal, Greater}
 use Rattle.std.specs.Cmp.Lexicographic.{slice_cmp}
-use Rattle.emc_base.specs.declared.ids.PropId.{PropId}
-use Rattle.emc_base.specs.declared.place.Place.{Place}
-use Rattle.emc_base.specs.declared.value.Value.{Value}
-use Rattle.emc_base.specs.declared.value.Value.TheVariants.{Null, Whole, Text}
-use Rattle.emc_base.specs.Domain.{InDomain}
-use Rattle.edm_types.specs.declared.model.EntitySet.{EntitySet}
-use Rattle.edm_types.specs.declared.model.Prop.{Prop}
-use Rattle.edm_types.specs.declared.data.Entity.{Entity}
-use Rattle.emc_base.specs.Lists.{At}
-use Rattle.edm_types.specs.State.{entities_in}
-use Rattle.edm_types.specs.IsA.{IsA, IsConcrete, same}
-use Rattle.edm_types.specs.Entities.{props_of, value_of}
+use Rattle.round_trip.specs.Words.{PropId, Value, Null, Whole, Text, Place, Prop, EntitySet, Entity, At, InDomain, IsA, IsConcrete, props_of, value_of, entities_in}
+use Rattle.edm_types.specs.IsA.{same}
 use Rattle.round_trip.specs.Breaches.{StandsIn, StandsAtProp, BreaksType, BreaksNull, BreaksDomain, BreaksRule}
 use Rattle.worked_examples.specs.Ids.{type_id, set_id, prop_id}
 use Rattle.worked_examples.specs.People.{people_model, people_set, person_type, id_prop, name_prop, person, accented}
@@ -75,7 +65,7 @@ id_or_name spot place value declared stands =
     let spot_is : spot ≡ 0 ∷ 0 ∷ stands.j ∷ [] = stands.spot_is ∙ ap (λ k. k ∷ stands.i ∷ stands.j ∷ []) is.first_set ∙ ap (λ k. 0 ∷ k ∷ stands.j ∷ []) is.first in
     each_at (ToldAt value declared spot) (prop_id 0 ∷ prop_id 1 ∷ [])
     ((λ is_value told is_spot. inl (is_value, cc (told))), ((λ is_value told is_spot. inr (is_value, is_spot)), tt))
-    stands.j stands.prop at value_is stands.told spot_is
+    stands.j stands.prop at value_is stands.is_declared spot_is
 
 null_kept : (spot : List ℕ) (place : Place) → ¬ BreaksNull people_model long_named spot place
 null_kept spot place breaks = elim (id_or_name spot place Null breaks.0 breaks.1) [ inl id ↦ absurd (cc (id.0)) | inr name ↦ absurd (cc (name.0)) ]
@@ -126,7 +116,7 @@ long_name_is_told = record {
         prop = prop_id 1;
         stands = record { is_set = refl; is_entity = refl };
         is_prop = refl;
-        told = refl;
+        is_declared = refl;
         value_is = refl;
         spot_is = refl;
         place_is = refl;

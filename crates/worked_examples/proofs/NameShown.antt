@@ -2,18 +2,8 @@
 use Rattle.std.proofs.Common.{◌≡◌, ◌≢◌, inl, List, [], ◌∷◌, refl, ap, arith}
 use Rattle.std.specs.Prelude.{pos, true, false}
 use Rattle.std.proofs.lemmas.List.Elements.{All-from_recursion}
-use Rattle.emc_base.specs.declared.ids.ColId.{ColId}
-use Rattle.emc_base.specs.declared.value.Value.{Value}
-use Rattle.emc_base.specs.declared.value.Value.TheVariants.{Null, Whole}
-use Rattle.edm_types.specs.declared.mapping.Fragment.{Fragment}
-use Rattle.edm_types.specs.declared.mapping.Cond.{Cond}
+use Rattle.round_trip.specs.Words.{ColId, Value, Null, Whole, Fragment, Cond, Entity, Row, Tables, cell_of, MetByEntity, TablesAre, IsShownTuple}
 use Rattle.edm_types.specs.declared.mapping.Test.TheVariants.{IsNull, Equals}
-use Rattle.edm_types.specs.declared.data.Entity.{Entity}
-use Rattle.edm_types.specs.declared.data.Row.{Row}
-use Rattle.edm_types.specs.Rows.{Tables, cell_of}
-use Rattle.edm_types.specs.Selected.{MetByEntity}
-use Rattle.round_trip.specs.Satisfies.{IsShownTuple}
-use Rattle.round_trip.specs.TablesAre.{TablesAre}
 use Rattle.worked_examples.specs.Ids.{col_id}
 use Rattle.worked_examples.specs.People.{people_model, people_fragment, person, person_row, only_people, only_rows}
 use Rattle.worked_examples.specs.NameShown.{name_stands, people_with_names, NullNameIsHidden}

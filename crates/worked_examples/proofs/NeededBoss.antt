@@ -1,14 +1,9 @@
 -- Two people who need one boss each.
 use Rattle.std.proofs.Common.{◌≡◌, ◌≢◌, ℕ, List, [], ◌∷◌, refl, sym, ◌∙◌, arith}
 use Rattle.std.specs.Prelude.{pos}
-use Rattle.emc_base.specs.declared.value.Value.{Value}
-use Rattle.emc_base.specs.declared.value.Value.TheVariants.{Whole}
+use Rattle.round_trip.specs.Words.{Value, Whole, Entity, Link, AtMostOne, HasCount, AreLegalLinks}
 use Rattle.edm_types.specs.declared.model.Mult.TheVariants.{One}
-use Rattle.edm_types.specs.declared.data.Entity.{Entity}
-use Rattle.edm_types.specs.declared.data.Link.{Link}
-use Rattle.emc_base.specs.Lists.{AtMostOne}
 use Rattle.edm_types.specs.IsA.{same}
-use Rattle.round_trip.specs.Legal.{AreLegalLinks, HasCount}
 use Rattle.worked_examples.specs.Ids.{type_id, assoc_id}
 use Rattle.worked_examples.specs.Bosses.{bosses, bossed_model, boss_of}
 use Rattle.worked_examples.specs.NeededBoss.{pair_with, EachOthersBossIsLegal, MissingBossIsNot}

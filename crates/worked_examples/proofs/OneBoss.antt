@@ -3,25 +3,10 @@ use Rattle.std.proofs.Common.{◌≡◌, ◌≢◌, inl, inr, ℕ, zero, suc, Li
 use Rattle.std.specs.Prelude.{All, Contains, pos, codes, false, true}
 use Rattle.std.specs.List.{AllByRecursion}
 use Rattle.std.proofs.lemmas.List.Elements.{All-nil, All-from_recursion}
-use Rattle.emc_base.specs.declared.ids.TableId.{TableId}
-use Rattle.emc_base.specs.declared.value.Value.{Value}
-use Rattle.emc_base.specs.declared.value.Value.TheVariants.{Null, Whole, Text}
+use Rattle.round_trip.specs.Words.{TableId, Value, Null, Whole, Text, EntityModel, Assoc, Cond, Schema, Entity, Link, Row, AtMostOne, cell_of, MetByEntity, MetByRow, Selects, ShowsLink, Refers, FindsRow, KeepsForeignKey, Writing, Writes, WritesRow, AreDemandedRows}
 use Rattle.emc_base.specs.declared.value.Kind.TheVariants as kind
-use Rattle.edm_types.specs.declared.model.EntityModel.{EntityModel}
-use Rattle.edm_types.specs.declared.model.Assoc.{Assoc}
 use Rattle.edm_types.specs.declared.model.Mult.TheVariants.{ZeroOrOne}
-use Rattle.edm_types.specs.declared.mapping.Cond.{Cond}
-use Rattle.edm_types.specs.declared.data.Entity.{Entity}
-use Rattle.edm_types.specs.declared.data.Link.{Link}
-use Rattle.edm_types.specs.declared.data.Row.{Row}
-use Rattle.emc_base.specs.Lists.{AtMostOne}
 use Rattle.edm_types.specs.IsA.{same}
-use Rattle.edm_types.specs.Rows.{cell_of}
-use Rattle.edm_types.specs.Selected.{Selects, MetByEntity, MetByRow, ShowsLink}
-use Rattle.round_trip.specs.Schema.{Schema}
-use Rattle.round_trip.specs.LegalTables.{KeepsForeignKey, Refers, FindsRow}
-use Rattle.round_trip.specs.Demand.{Writing, Writes, WritesRow}
-use Rattle.round_trip.specs.TablesAre.{AreDemandedRows}
 use Rattle.worked_examples.specs.Ids.{type_id, table_id, col_id, just, pair_of, row_of}
 use Rattle.worked_examples.specs.People.{people_set, person}
 use Rattle.worked_examples.specs.Bosses.{bosses, bossed, bossed_model, bossed_table, bossed_store, boss_key, boss_links, boss_of, all_people}

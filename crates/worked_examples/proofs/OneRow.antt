@@ -1,16 +1,7 @@
 -- One person and the row of this, by a fragment of any pairs and conditions.
 use Rattle.std.proofs.Common.{◌≡◌, inl, ℤ, List, [], ◌∷◌, refl}
 use Rattle.std.specs.Prelude.{All}
-use Rattle.emc_base.specs.declared.value.Value.{Value}
-use Rattle.edm_types.specs.declared.mapping.Fragment.{Fragment}
-use Rattle.edm_types.specs.declared.mapping.Pair.{Pair}
-use Rattle.edm_types.specs.declared.mapping.Cond.{Cond}
-use Rattle.edm_types.specs.State.{State}
-use Rattle.edm_types.specs.Rows.{Tables}
-use Rattle.edm_types.specs.Selected.{IsPicked, MetByEntity, Selects}
-use Rattle.round_trip.specs.Schema.{Schema}
-use Rattle.round_trip.specs.Demand.{Writing, Writes}
-use Rattle.round_trip.specs.TablesAre.{TablesAre}
+use Rattle.round_trip.specs.Words.{Value, Fragment, Pair, Cond, Schema, State, Tables, MetByEntity, IsPicked, Selects, Writing, Writes, TablesAre}
 use Rattle.worked_examples.specs.Ids.{type_id, just}
 use Rattle.worked_examples.specs.People.{people_by, people_fragment, people_table, people_model, person, person_row, only_people, only_rows}
 use Rattle.worked_examples.proofs.Small.{here, any_here}

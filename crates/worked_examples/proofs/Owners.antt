@@ -2,22 +2,8 @@
 use Rattle.std.proofs.Common.{◌≡◌, ◌≢◌, inl, inr, ℕ, ◌≤◌, [], ◌∷◌, length, refl, sym, ap, subst, arith}
 use Rattle.std.specs.Prelude.{All, pos, Some, false}
 use Rattle.std.proofs.lemmas.List.Elements.{All-nil, All-from_recursion}
-use Rattle.emc_base.specs.declared.ids.TypeId.{TypeId}
-use Rattle.emc_base.specs.declared.ids.TableId.{TableId}
-use Rattle.emc_base.specs.declared.ids.ColId.{ColId}
-use Rattle.emc_base.specs.declared.value.Value.{Value}
-use Rattle.emc_base.specs.declared.value.Value.TheVariants.{Null, Whole}
-use Rattle.edm_types.specs.declared.model.EntityType.{EntityType}
-use Rattle.edm_types.specs.declared.data.Entity.{Entity}
-use Rattle.edm_types.specs.declared.data.Row.{Row}
-use Rattle.edm_types.specs.IsA.{IsA, HasBase, same}
-use Rattle.edm_types.specs.Entities.{values_of}
-use Rattle.edm_types.specs.State.{IsLink}
-use Rattle.edm_types.specs.Rows.{Tables}
-use Rattle.edm_types.specs.Selected.{IsPicked, MetByEntity, Selects}
-use Rattle.round_trip.specs.Legal.{IsLegal, HavePrincipals, HasPrincipal}
-use Rattle.round_trip.specs.Demand.{Writing, Writes, Gives, written_to}
-use Rattle.round_trip.specs.TablesAre.{TablesAre}
+use Rattle.round_trip.specs.Words.{TypeId, TableId, ColId, Value, Null, Whole, EntityType, Entity, Row, HasBase, IsA, values_of, IsLink, Tables, MetByEntity, IsPicked, Selects, HasPrincipal, HavePrincipals, IsLegal, Writing, Writes, written_to, Fills, TablesAre}
+use Rattle.edm_types.specs.IsA.{same}
 use Rattle.worked_examples.specs.Ids.{type_id, prop_id, table_id, just, with_below, row_of}
 use Rattle.worked_examples.specs.People.{id_prop, name_prop, person_type, people_set, people_table, person, person_row}
 use Rattle.worked_examples.specs.Owners.{employee_type, employees_table, order_id_prop, owner_id_prop, order_type, orders_set, owner, owner_constraint, owner_key}
@@ -39,7 +25,7 @@ may_stand : MayStand shop_model people_set someone
 may_stand = record {
   shape = (person_type, refl, refl);
   type = record { concrete = (person_type, refl, refl); under = same (type_id 0) };
-  fits = (record { declared = id_prop; told = refl; fits = whole_fits false 9 (omega arith) }, (record { declared = name_prop; told = refl; fits = no_name }, tt));
+  fits = (record { declared = id_prop; is_declared = refl; fits = whole_fits false 9 (omega arith) }, (record { declared = name_prop; is_declared = refl; fits = no_name }, tt));
 }
 
 may_be_ordered : MayStand shop_model orders_set ordered
@@ -47,8 +33,8 @@ may_be_ordered = record {
   shape = (order_type, refl, refl);
   type = record { concrete = (order_type, refl, refl); under = same (type_id 2) };
   fits = (
-    record { declared = order_id_prop; told = refl; fits = whole_fits false 5 (omega arith) },
-    (record { declared = owner_id_prop; told = refl; fits = whole_fits false 9 (omega arith) }, tt),
+    record { declared = order_id_prop; is_declared = refl; fits = whole_fits false 5 (omega arith) },
+    (record { declared = owner_id_prop; is_declared = refl; fits = whole_fits false 9 (omega arith) }, tt),
   );
 }
 
@@ -163,7 +149,7 @@ order_made = row_made shop orders_table order_writing order_stored refl (refl, (
 
 -- a writing gives a column what it writes to it
 abbrev GivesWritten : Writing → Type 0
-GivesWritten writing = (col : ColId) (value : Value) → Gives writing col value → value ≡ written_to writing.cells col
+GivesWritten writing = (col : ColId) (value : Value) → Fills writing col value → value ≡ written_to writing.cells col
 
 abbrev IsApart : Writing → Type 0
 IsApart writing = (other : Writing) → Writes shop owned_by_a_person other → writing.table ≡ other.table → writing ≡ other

@@ -2,14 +2,10 @@
 use Rattle.std.proofs.Common.{◌≢◌, inl, inr, ℕ, ◌≤◌, List, [], ◌∷◌, refl, arith, Some}
 use Rattle.std.specs.Prelude.{pos, true, false}
 use Rattle.std.specs.List.{AllByRecursion}
-use Rattle.emc_base.specs.declared.value.Value.{Value}
-use Rattle.emc_base.specs.declared.value.Value.TheVariants.{Null, Text}
+use Rattle.round_trip.specs.Words.{Value, Null, Text, Assoc, Entity, HasProp, IsLegalSet, IsLegal}
 use Rattle.emc_base.specs.declared.value.Kind.TheVariants as kind
 use Rattle.emc_base.specs.Domain.{IsText}
-use Rattle.edm_types.specs.declared.data.Entity.{Entity}
-use Rattle.edm_types.specs.declared.model.Assoc.{Assoc}
 use Rattle.edm_types.specs.IsA.{same}
-use Rattle.round_trip.specs.Legal.{IsLegal, HasProp, IsLegalSet}
 use Rattle.worked_examples.specs.Ids.{type_id, set_id, prop_id}
 use Rattle.worked_examples.specs.People.{TwentyOneCharactersAreNot, people_with, accented, people_model, people_set, person_type, id_prop, name_prop, person, only_people}
 use Rattle.worked_examples.proofs.Small.{PairsByRecursion}
@@ -27,7 +23,7 @@ pub may_stand_with : (assocs : List Assoc) (id : ℕ) (name : Value) → id ≤ 
 may_stand_with assocs id name below fits = record {
   shape = (person_type, refl, refl);
   type = record { concrete = (person_type, refl, refl); under = same (type_id 0) };
-  fits = (record { declared = id_prop; told = refl; fits = whole_fits false id below }, (record { declared = name_prop; told = refl; fits = fits }, tt));
+  fits = (record { declared = id_prop; is_declared = refl; fits = whole_fits false id below }, (record { declared = name_prop; is_declared = refl; fits = fits }, tt));
 }
 
 pub may_stand : (id : ℕ) (name : Value) → id ≤ 2147483647 → FitsName name → MayStand people_model people_set (person (pos id) name)
@@ -59,5 +55,5 @@ pub too_long : TwentyOneCharactersAreNot
 too_long legal =
     let e : Entity = person (pos 1) (Text (accented 21)) in
     let set : IsLegalSet people_model people_set (e ∷ []) = legal.sets (set_id 0) people_set refl in
-    let named : HasProp people_model e (prop_id 1) name_prop = record { among = (1, omega arith, refl); told = refl } in
+    let named : HasProp people_model e (prop_id 1) name_prop = record { among = (1, omega arith, refl); is_declared = refl } in
     elim (set.domains 0 e (omega arith) (prop_id 1) name_prop named) [ inl none ↦ absurd (cc) | inr text ↦ no_text_21 text ]

@@ -2,17 +2,9 @@
 use Rattle.std.proofs.Common.{◌≡◌, ◌≢◌, inl, ℕ, [], ◌∷◌, refl, ap, ◌∙◌, arith}
 use Rattle.std.specs.Prelude.{pos, codes, false}
 use Rattle.std.proofs.lemmas.List.Elements.{All-from_recursion}
-use Rattle.emc_base.specs.declared.ids.ColId.{ColId}
-use Rattle.emc_base.specs.declared.ids.TypeId.{TypeId}
-use Rattle.emc_base.specs.declared.value.Value.{Value}
-use Rattle.emc_base.specs.declared.value.Value.TheVariants.{Null, Whole}
-use Rattle.edm_types.specs.declared.mapping.Cond.{Cond}
+use Rattle.round_trip.specs.Words.{TypeId, ColId, Value, Null, Whole, Cond, Entity, MetByEntity, IsPicked, Selects, IsLegal, Writing, Writes, Fills}
 use Rattle.edm_types.specs.declared.mapping.CondOn.TheVariants as on
-use Rattle.edm_types.specs.declared.data.Entity.{Entity}
-use Rattle.edm_types.specs.Selected.{IsPicked, MetByEntity, Selects}
 use Rattle.edm_types.specs.IsA.{same}
-use Rattle.round_trip.specs.Legal.{IsLegal}
-use Rattle.round_trip.specs.Demand.{Writing, Writes, Gives}
 use Rattle.worked_examples.specs.Ids.{type_id, table_id, col_id, just}
 use Rattle.worked_examples.specs.People.{id_prop, name_prop, person_type, people_set, person, only_people}
 use Rattle.worked_examples.specs.Salary.{staff, staff_model, staff_table, salary_column, persons, employees, kind_is, SalaryIsLeftNull}
@@ -30,7 +22,7 @@ may_stand : MayStand staff_model people_set someone
 may_stand = record {
   shape = (person_type, refl, refl);
   type = record { concrete = (person_type, refl, refl); under = same (type_id 0) };
-  fits = (record { declared = id_prop; told = refl; fits = whole_fits false 7 (omega arith) }, (record { declared = name_prop; told = refl; fits = no_name }, tt));
+  fits = (record { declared = id_prop; is_declared = refl; fits = whole_fits false 7 (omega arith) }, (record { declared = name_prop; is_declared = refl; fits = no_name }, tt));
 }
 
 legal : IsLegal staff_model (only_people (someone ∷ []))
@@ -76,7 +68,7 @@ kind_given = record {
 
 -- nothing but null is given to the column of salaries
 abbrev GivesNoSalary : Writing → Type 0
-GivesNoSalary writing = (value : Value) → Gives writing (col_id 3) value → value ≡ Null
+GivesNoSalary writing = (value : Value) → Fills writing (col_id 3) value → value ≡ Null
 
 of_someone : GivesNoSalary written
 of_someone value gives = each_given written IsNullSalary (other_column 0 _ (omega arith), (other_column 1 _ (omega arith), tt)) (kind_given, tt) (col_id 3) value gives refl

@@ -4,7 +4,7 @@ use Rattle.std.specs.Prelude.{⊤, slice_get, unwrap_or, Any, AllPairs, Contains
 use Rattle.std.specs.List.{AllByRecursion}
 use Rattle.std.proofs.lemmas.List.Elements.{All-from_recursion, All-contains}
 use Rattle.std.proofs.lemmas.List.Kept.{AllPairs-cons}
-use Rattle.emc_base.specs.Lists.{At, AtMostOne}
+use Rattle.round_trip.specs.Words.{At, AtMostOne}
 
 -- Q of each place with its item
 abbrev pub EachAt : {X : Type 0} → (ℕ → X → Type 0) → List X → Type 0

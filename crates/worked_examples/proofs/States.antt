@@ -3,19 +3,7 @@ use Rattle.std.proofs.Common.{◌≡◌, ℕ, [], ◌∷◌, length, sym, ap, su
 use Rattle.std.specs.Prelude.{All, Some}
 use Rattle.std.specs.List.{AllByRecursion}
 use Rattle.std.proofs.lemmas.List.Elements.{All-nil, All-from_recursion}
-use Rattle.edm_types.specs.declared.model.EntityModel.{EntityModel}
-use Rattle.edm_types.specs.declared.model.EntitySet.{EntitySet}
-use Rattle.edm_types.specs.declared.model.Assoc.{Assoc}
-use Rattle.edm_types.specs.declared.model.Constraint.{Constraint}
-use Rattle.edm_types.specs.declared.store.Table.{Table}
-use Rattle.edm_types.specs.declared.data.Row.{Row}
-use Rattle.edm_types.specs.Entities.{IsEntity}
-use Rattle.edm_types.specs.State.{State, entities_in, links_in, IsLink, IsIndependent}
-use Rattle.edm_types.specs.Rows.{Tables, rows_in, cell_of}
-use Rattle.round_trip.specs.Schema.{Schema}
-use Rattle.round_trip.specs.Legal.{IsLegal, IsLegalSet, AreLegalLinks, HavePrincipals}
-use Rattle.round_trip.specs.Demand.{Writing, Writes, Gives}
-use Rattle.round_trip.specs.TablesAre.{TablesAre, HasNoClash, AreDemandedRows}
+use Rattle.round_trip.specs.Words.{EntityModel, EntitySet, Assoc, Constraint, Table, Schema, Row, IsEntity, State, entities_in, links_in, IsIndependent, IsLink, Tables, rows_in, cell_of, IsLegalSet, AreLegalLinks, HavePrincipals, IsLegal, Writing, Writes, Fills, HasNoClash, AreDemandedRows, TablesAre}
 use Rattle.worked_examples.specs.Ids.{set_id, assoc_id, table_id}
 use Rattle.worked_examples.proofs.Small.{EachAt, each_at, each_list}
 use Rattle.worked_examples.proofs.Writings.{IsOnlyWriting, IsRowOf, AreApart, no_clash, one_row}
@@ -78,7 +66,7 @@ module _ (schema : Schema) (state : State) (table : Table) (writing : Writing) (
     apart = record {
       only = λ one two by_one by_two same. only.only one by_one ∙ sym (only.only two by_two);
       value_at = λ w col. cell_of row col;
-      given = λ other by col value gives. sym (only.made.given col value (subst (λ w. Gives w col value) (only.only other by) gives));
+      given = λ other by col value gives. sym (only.made.given col value (subst (λ w. Fills w col value) (only.only other by) gives));
     }
 
     the_only : IsOnlyWriting schema state (table_id 0) writing

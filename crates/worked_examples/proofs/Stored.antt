@@ -3,15 +3,7 @@ use Rattle.std.proofs.Common.{◌≡◌, inl, inr, ℤ, List, [], ◌∷◌, ref
 use Rattle.std.specs.Prelude.{pos, codes, false}
 use Rattle.std.specs.List.{AllByRecursion}
 use Rattle.std.proofs.lemmas.List.Elements.{All-nil}
-use Rattle.emc_base.specs.declared.value.Value.{Value}
-use Rattle.emc_base.specs.declared.value.Value.TheVariants.{Text}
-use Rattle.edm_types.specs.declared.mapping.Fragment.{Fragment}
-use Rattle.edm_types.specs.declared.mapping.Pair.{Pair}
-use Rattle.edm_types.specs.declared.mapping.Cond.{Cond}
-use Rattle.edm_types.specs.declared.data.Entity.{Entity}
-use Rattle.edm_types.specs.declared.data.Row.{Row}
-use Rattle.edm_types.specs.Rows.{cell_of}
-use Rattle.edm_types.specs.Selected.{MetByEntity, MetByRow}
+use Rattle.round_trip.specs.Words.{Value, Text, Fragment, Pair, Cond, Entity, Row, cell_of, MetByEntity, MetByRow}
 use Rattle.worked_examples.specs.Ids.{pair_of}
 use Rattle.worked_examples.specs.People.{people, people_by, people_fragment, people_store, people_table, people_model}
 use Rattle.worked_examples.specs.People.{one_person, one_row, person, person_row, OneRowIsDemanded, OneRowIsLegal, OneRowSatisfies}

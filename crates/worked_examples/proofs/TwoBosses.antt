@@ -1,12 +1,9 @@
 -- A person with two bosses: both stand in one cell.
 use Rattle.std.proofs.Common.{inl, inr, ℕ, List, [], ◌∷◌, refl, arith}
 use Rattle.std.specs.Prelude.{Contains, pos}
-use Rattle.emc_base.specs.declared.value.Value.TheVariants.{Whole}
+use Rattle.round_trip.specs.Words.{Whole, Link, IsLegal, DemandsCell}
 use Rattle.edm_types.specs.declared.model.Mult.TheVariants.{Many}
-use Rattle.edm_types.specs.declared.data.Link.{Link}
 use Rattle.edm_types.specs.IsA.{same}
-use Rattle.round_trip.specs.Legal.{IsLegal}
-use Rattle.round_trip.specs.Demand.{DemandsCell}
 use Rattle.worked_examples.specs.Ids.{type_id, table_id, col_id}
 use Rattle.worked_examples.specs.Bosses.{bosses, bossed, bossed_model, bossed_table, boss_column, boss_links, boss_of}
 use Rattle.worked_examples.specs.TwoBosses.{two_bosses, TwoBossesClash}

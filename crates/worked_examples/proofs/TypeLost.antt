@@ -3,16 +3,8 @@ use Rattle.std.proofs.Common.{◌≡◌, inl, inr, ℕ, [], ◌∷◌, refl, ap,
 use Rattle.std.specs.Prelude.{Contains, pos, false}
 use Rattle.std.proofs.lemmas.List.Elements.{All-nil}
 use Rattle.std.proofs.lemmas.List.Sorted.{IsPermutation-refl, Contains-permutation}
-use Rattle.emc_base.specs.declared.ids.TypeId.{TypeId}
-use Rattle.emc_base.specs.declared.value.Value.TheVariants.{Null, Whole}
-use Rattle.edm_types.specs.declared.data.Entity.{Entity}
-use Rattle.edm_types.specs.declared.data.Row.{Row}
-use Rattle.edm_types.specs.IsA.{IsA, same, base}
-use Rattle.edm_types.specs.Rows.{Tables, rows_in}
-use Rattle.edm_types.specs.Selected.{MetByEntity, Selects}
-use Rattle.round_trip.specs.Legal.{IsLegal}
-use Rattle.round_trip.specs.Demand.{Writing, Writes}
-use Rattle.round_trip.specs.TablesAre.{TablesAre}
+use Rattle.round_trip.specs.Words.{TypeId, Null, Whole, Entity, Row, IsA, Tables, rows_in, MetByEntity, Selects, IsLegal, Writing, Writes, TablesAre}
+use Rattle.edm_types.specs.IsA.{same, base}
 use Rattle.worked_examples.specs.Ids.{type_id, set_id, with_below}
 use Rattle.worked_examples.specs.People.{id_prop, name_prop, person_type, people_set, people_table, person, person_row, only_people, only_rows}
 use Rattle.worked_examples.specs.Owners.{employee_type, all_people}
@@ -43,14 +35,14 @@ person_stands : MayStand untold_model people_set a_person
 person_stands = record {
   shape = (person_type, refl, refl);
   type = record { concrete = (person_type, refl, refl); under = same (type_id 0) };
-  fits = (record { declared = id_prop; told = refl; fits = whole_fits false 7 (omega arith) }, (record { declared = name_prop; told = refl; fits = no_name }, tt));
+  fits = (record { declared = id_prop; is_declared = refl; fits = whole_fits false 7 (omega arith) }, (record { declared = name_prop; is_declared = refl; fits = no_name }, tt));
 }
 
 employee_stands : MayStand untold_model people_set an_employee
 employee_stands = record {
   shape = (employee_type, refl, refl);
   type = record { concrete = (employee_type, refl, refl); under = employee_is_person };
-  fits = (record { declared = id_prop; told = refl; fits = whole_fits false 7 (omega arith) }, (record { declared = name_prop; told = refl; fits = no_name }, tt));
+  fits = (record { declared = id_prop; is_declared = refl; fits = whole_fits false 7 (omega arith) }, (record { declared = name_prop; is_declared = refl; fits = no_name }, tt));
 }
 
 legal : (entity : Entity) → MayStand untold_model people_set entity → IsLegal untold_model (only_people (entity ∷ []))

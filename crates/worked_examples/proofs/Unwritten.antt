@@ -3,13 +3,7 @@ use Rattle.std.proofs.Common.{◌≡◌, inl, inr, List, [], ◌∷◌, refl, ar
 use Rattle.std.specs.Prelude.{Contains, pos, codes}
 use Rattle.std.proofs.lemmas.List.Elements.{All-nil}
 use Rattle.std.proofs.lemmas.List.Sorted.{IsPermutation-refl, Contains-permutation}
-use Rattle.emc_base.specs.declared.value.Value.{Value}
-use Rattle.emc_base.specs.declared.value.Value.TheVariants.{Null, Whole, Text}
-use Rattle.edm_types.specs.declared.mapping.Pair.{Pair}
-use Rattle.edm_types.specs.declared.data.Entity.{Entity}
-use Rattle.edm_types.specs.Rows.{Tables, rows_in}
-use Rattle.edm_types.specs.Selected.{MetByEntity}
-use Rattle.round_trip.specs.TablesAre.{TablesAre}
+use Rattle.round_trip.specs.Words.{Value, Null, Whole, Text, Pair, Entity, Tables, rows_in, MetByEntity, TablesAre}
 use Rattle.worked_examples.specs.Ids.{pair_of, set_id}
 use Rattle.worked_examples.specs.People.{people_model, people_set, people_table, person, person_row, only_people, only_rows}
 use Rattle.worked_examples.specs.Unwritten.{people_without_names, NameIsLost}

@@ -4,11 +4,9 @@ use Rattle.std.proofs.lemmas.Int.{ints}
 use Rattle.std.proofs.lemmas.Str.{chars-encodes}
 use Rattle.std.specs.Prelude.{pos, true, codes, length, replicate}
 use Rattle.std.specs.Str.{chars}
-use Rattle.emc_base.specs.declared.value.Value.{Value}
-use Rattle.emc_base.specs.declared.value.Value.TheVariants.{Null, Whole, Text}
-use Rattle.emc_base.specs.declared.value.Kind.{Kind}
+use Rattle.round_trip.specs.Words.{Value, Null, Whole, Text, Kind, InDomain}
 use Rattle.emc_base.specs.declared.value.Kind.TheVariants as kind
-use Rattle.emc_base.specs.Domain.{InDomain, IsText}
+use Rattle.emc_base.specs.Domain.{IsText}
 use Rattle.worked_examples.specs.People.{accented}
 
 -- the value may stand where values are of the kind, and null or not

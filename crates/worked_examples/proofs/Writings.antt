@@ -3,28 +3,9 @@ use Rattle.std.proofs.Common.{ℕ, ◌≡◌, ◌≢◌, ◌⊎◌, inl, inr, []
 use Rattle.std.specs.Prelude.{true}
 use Rattle.std.specs.List.{AllByRecursion}
 use Rattle.std.proofs.lemmas.List.Elements.{All-from_recursion, All-nil}
-use Rattle.emc_base.specs.declared.ids.TableId.{TableId}
-use Rattle.emc_base.specs.declared.ids.ColId.{ColId}
-use Rattle.emc_base.specs.declared.value.Value.{Value}
-use Rattle.emc_base.specs.declared.value.Value.TheVariants.{Null}
-use Rattle.edm_types.specs.declared.model.Assoc.{Assoc}
-use Rattle.edm_types.specs.declared.store.Table.{Table}
-use Rattle.edm_types.specs.declared.store.Column.{Column}
-use Rattle.edm_types.specs.declared.mapping.Fragment.{Fragment}
-use Rattle.edm_types.specs.declared.mapping.LinkFragment.{LinkFragment}
-use Rattle.edm_types.specs.declared.mapping.Cond.{Cond}
+use Rattle.round_trip.specs.Words.{TableId, ColId, Value, Null, Assoc, Table, Column, Fragment, LinkFragment, Cond, Schema, Entity, Link, Row, At, State, entities_in, links_in, cell_of, row_key, Selects, Writing, entity_cells, link_cells, Writes, written_key, Fills, WritesRow, DemandsRow, HasNoClash, HasDemandedCells, AreDemandedRows}
 use Rattle.edm_types.specs.declared.mapping.CondOn.TheVariants as on
 use Rattle.edm_types.specs.declared.mapping.Test.TheVariants.{IsNull, Equals}
-use Rattle.edm_types.specs.declared.data.Entity.{Entity}
-use Rattle.edm_types.specs.declared.data.Link.{Link}
-use Rattle.edm_types.specs.declared.data.Row.{Row}
-use Rattle.emc_base.specs.Lists.{At}
-use Rattle.edm_types.specs.State.{State, entities_in, links_in}
-use Rattle.edm_types.specs.Rows.{cell_of, row_key}
-use Rattle.edm_types.specs.Selected.{Selects}
-use Rattle.round_trip.specs.Schema.{Schema}
-use Rattle.round_trip.specs.Demand.{Writing, Writes, WritesRow, DemandsRow, Gives, entity_cells, link_cells, written_key}
-use Rattle.round_trip.specs.TablesAre.{HasNoClash, HasDemandedCells, AreDemandedRows}
 use Rattle.worked_examples.specs.Ids.{col_id}
 use Rattle.worked_examples.proofs.Small.{EachAt, each_at, each_of, any_here, all_pairs}
 
@@ -76,8 +57,8 @@ pub record IsOnlyWriting (schema : Schema) (state : State) (t : TableId) (writin
 -- what the writing gives stands in the row, and nothing else
 pub record IsRowOf (schema : Schema) (table : Table) (writing : Writing) (row : Row) : Type 0 where
   pub key : written_key schema.store writing ≡ row_key table row
-  pub given : (col : ColId) (value : Value) → Gives writing col value → cell_of row col ≡ value
-  pub rest : (col : ColId) (column : Column) → At table.cols col.index column → (cell_of row col ≡ Null) ⊎ Gives writing col (cell_of row col)
+  pub given : (col : ColId) (value : Value) → Fills writing col value → cell_of row col ≡ value
+  pub rest : (col : ColId) (column : Column) → At table.cols col.index column → (cell_of row col ≡ Null) ⊎ Fills writing col (cell_of row col)
 
 module _ (schema : Schema) (state : State) (t : TableId) (table : Table) where
   -- a table to which there is one writing
@@ -92,7 +73,7 @@ module _ (schema : Schema) (state : State) (t : TableId) (table : Table) where
     cells = record {
       demanded = λ col value demands.
           let one : demands.0 ≡ writing = only.only demands.0 demands.1.writes demands.1.to_table in
-          made.given col value (subst (λ w. Gives w col value) one demands.2);
+          made.given col value (subst (λ w. Fills w col value) one demands.2);
       only = λ col column has. elim (made.rest col column has) [ inl none ↦ inl none | inr gives ↦ inr (writing, writes_row, gives) ];
     }
 
@@ -120,7 +101,7 @@ module _ (schema : Schema) (state : State) (t : TableId) (table : Table) where
 pub record AreApart (schema : Schema) (state : State) : Type 0 where
   pub only : (one two : Writing) → Writes schema state one → Writes schema state two → one.table ≡ two.table → one ≡ two
   pub value_at : Writing → ColId → Value
-  pub given : (writing : Writing) → Writes schema state writing → (col : ColId) (value : Value) → Gives writing col value → value ≡ value_at writing col
+  pub given : (writing : Writing) → Writes schema state writing → (col : ColId) (value : Value) → Fills writing col value → value ≡ value_at writing col
 
 pub no_clash : (schema : Schema) (state : State) → AreApart schema state → HasNoClash schema state
 no_clash schema state apart t key col one two by_one by_two =
@@ -139,7 +120,7 @@ module _ (writing : Writing) (Q : ColId → Value → Type 0) where
     pub null : (col : ColId) → cond ≡ record { on = on.Col col; test = IsNull true } → Q col Null
 
   -- Q of each value that a writing gives a column
-  pub each_given : AllByRecursion OfCell writing.cells → AllByRecursion OfCond writing.conds → (col : ColId) (value : Value) → Gives writing col value → Q col value
+  pub each_given : AllByRecursion OfCell writing.cells → AllByRecursion OfCond writing.conds → (col : ColId) (value : Value) → Fills writing col value → Q col value
   each_given written conds col value (inl among) = each_of OfCell writing.cells (col, value) written among
   each_given written conds col value (inr (inl among)) = (each_of OfCond writing.conds (record { on = on.Col col; test = Equals value }) conds among).constant col value refl
   each_given written conds col value (inr (inr among)) =
@@ -153,7 +134,7 @@ module _ (schema : Schema) (table : Table) (writing : Writing) (row : Row) where
 
   -- the row's i-th cell is null or written
   abbrev pub NullOrGiven : ℕ → Column → Type 0
-  NullOrGiven i column = (cell_of row (col_id i) ≡ Null) ⊎ Gives writing (col_id i) (cell_of row (col_id i))
+  NullOrGiven i column = (cell_of row (col_id i) ≡ Null) ⊎ Fills writing (col_id i) (cell_of row (col_id i))
 
   -- a row of what is written, cell by cell
   pub row_made : written_key schema.store writing ≡ row_key table row

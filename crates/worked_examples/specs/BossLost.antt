@@ -1,12 +1,8 @@
 -- BossLost: people whose bosses are written nowhere. Two states that differ in one link have the same tables.
 use Rattle.std.specs.Prelude.{pos, [], ◌∷◌, codes}
-use Rattle.emc_base.specs.declared.value.Value.TheVariants.{Null}
+use Rattle.round_trip.specs.Words.{Null, Schema, State, place_at, FailsAt}
 use Rattle.edm_types.specs.declared.model.Mult.TheVariants.{Many}
-use Rattle.edm_types.specs.State.{State}
 use Rattle.round_trip.specs.declared.FailKind.TheVariants as kinds
-use Rattle.round_trip.specs.Schema.{Schema}
-use Rattle.round_trip.specs.Breaches.{place_at}
-use Rattle.round_trip.specs.FailsAt.{FailsAt}
 use Rattle.worked_examples.specs.People.{people_store, person}
 use Rattle.worked_examples.specs.Bosses.{bossed_model, boss_of, with_bosses, all_people}
 

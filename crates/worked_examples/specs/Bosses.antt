@@ -1,22 +1,8 @@
 -- Bosses: people who have bosses among them, so many as a multiplicity says, and a table with a column for one boss.
 use Rattle.std.specs.Prelude.{ℕ, ℤ, List, [], ◌∷◌, Some, None, codes}
-use Rattle.emc_base.specs.declared.value.Value.TheVariants.{Whole}
+use Rattle.round_trip.specs.Words.{Whole, EntityModel, Assoc, End, Mult, StoreModel, Table, Column, ForeignKey, Fragment, LinkFragment, Schema, Entity, Link, State}
 use Rattle.emc_base.specs.declared.value.Kind.TheVariants as kind
-use Rattle.edm_types.specs.declared.model.EntityModel.{EntityModel}
-use Rattle.edm_types.specs.declared.model.Assoc.{Assoc}
-use Rattle.edm_types.specs.declared.model.End.{End}
-use Rattle.edm_types.specs.declared.model.Mult.{Mult}
 use Rattle.edm_types.specs.declared.model.Mult.TheVariants.{Many}
-use Rattle.edm_types.specs.declared.store.StoreModel.{StoreModel}
-use Rattle.edm_types.specs.declared.store.Table.{Table}
-use Rattle.edm_types.specs.declared.store.Column.{Column}
-use Rattle.edm_types.specs.declared.store.ForeignKey.{ForeignKey}
-use Rattle.edm_types.specs.declared.mapping.Fragment.{Fragment}
-use Rattle.edm_types.specs.declared.mapping.LinkFragment.{LinkFragment}
-use Rattle.edm_types.specs.declared.data.Entity.{Entity}
-use Rattle.edm_types.specs.declared.data.Link.{Link}
-use Rattle.edm_types.specs.State.{State}
-use Rattle.round_trip.specs.Schema.{Schema}
 use Rattle.worked_examples.specs.Ids.{type_id, set_id, table_id, col_id, assoc_id, needed_column, optional_column, pair_of}
 use Rattle.worked_examples.specs.People.{people_with, people_fragment}
 

@@ -1,12 +1,6 @@
 -- ByKind: an employee in the table of people and employees, whose column Kind tells the type.
 use Rattle.std.specs.Prelude.{pos, [], ◌∷◌, codes}
-use Rattle.emc_base.specs.declared.value.Value.TheVariants.{Null, Whole, Text}
-use Rattle.edm_types.specs.State.{State}
-use Rattle.edm_types.specs.Rows.{Tables}
-use Rattle.round_trip.specs.Legal.{IsLegal}
-use Rattle.round_trip.specs.LegalTables.{AreLegalTables}
-use Rattle.round_trip.specs.TablesAre.{TablesAre}
-use Rattle.round_trip.specs.Satisfies.{Satisfies}
+use Rattle.round_trip.specs.Words.{Null, Whole, Text, State, Tables, IsLegal, AreLegalTables, TablesAre, Satisfies}
 use Rattle.worked_examples.specs.Ids.{type_id, entity_of, row_of}
 use Rattle.worked_examples.specs.People.{only_people, only_rows}
 use Rattle.worked_examples.specs.Salary.{staff, staff_model, staff_store}

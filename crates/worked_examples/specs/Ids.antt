@@ -1,21 +1,7 @@
 -- Short words for the parts of small models: ids by their numbers, and what the examples share.
 use Rattle.std.specs.Prelude.{ℕ, List, [], ◌∷◌, true, false}
-use Rattle.emc_base.specs.declared.ids.TypeId.{TypeId}
-use Rattle.emc_base.specs.declared.ids.SetId.{SetId}
-use Rattle.emc_base.specs.declared.ids.PropId.{PropId}
-use Rattle.emc_base.specs.declared.ids.TableId.{TableId}
-use Rattle.emc_base.specs.declared.ids.ColId.{ColId}
-use Rattle.emc_base.specs.declared.ids.AssocId.{AssocId}
-use Rattle.emc_base.specs.declared.value.Value.{Value}
-use Rattle.emc_base.specs.declared.value.Kind.{Kind}
-use Rattle.edm_types.specs.declared.model.Prop.{Prop}
-use Rattle.edm_types.specs.declared.model.TypeNode.{TypeNode, TypeNode', end_of-TypeNode, more_of-TypeNode}
-use Rattle.edm_types.specs.declared.model.EntitySet.{EntitySet}
-use Rattle.edm_types.specs.declared.store.Column.{Column}
-use Rattle.edm_types.specs.declared.mapping.Pair.{Pair}
-use Rattle.edm_types.specs.declared.mapping.Pick.{Pick}
-use Rattle.edm_types.specs.declared.data.Entity.{Entity}
-use Rattle.edm_types.specs.declared.data.Row.{Row}
+use Rattle.round_trip.specs.Words.{SetId, TypeId, PropId, TableId, ColId, AssocId, Value, Kind, Prop, TypeNode, EntitySet, Column, Pick, Pair, Entity, Row}
+use Rattle.edm_types.specs.declared.model.TypeNode.{TypeNode', end_of-TypeNode, more_of-TypeNode}
 
 abbrev pub type_id : ℕ → TypeId
 type_id n = record { index = n }

@@ -1,20 +1,8 @@
 -- JoinedBosses: people who may have several bosses, in a table of its own whose key is the ids of both.
 use Rattle.std.specs.Prelude.{ℤ, pos, [], ◌∷◌, codes}
-use Rattle.emc_base.specs.declared.value.Value.TheVariants.{Null, Whole}
+use Rattle.round_trip.specs.Words.{Null, Whole, StoreModel, Table, ForeignKey, LinkFragment, Schema, Row, State, Tables, IsLegal, AreLegalTables, TablesAre, Satisfies}
 use Rattle.emc_base.specs.declared.value.Kind.TheVariants as kind
 use Rattle.edm_types.specs.declared.model.Mult.TheVariants.{Many}
-use Rattle.edm_types.specs.declared.store.StoreModel.{StoreModel}
-use Rattle.edm_types.specs.declared.store.Table.{Table}
-use Rattle.edm_types.specs.declared.store.ForeignKey.{ForeignKey}
-use Rattle.edm_types.specs.declared.mapping.LinkFragment.{LinkFragment}
-use Rattle.edm_types.specs.declared.data.Row.{Row}
-use Rattle.edm_types.specs.State.{State}
-use Rattle.edm_types.specs.Rows.{Tables}
-use Rattle.round_trip.specs.Schema.{Schema}
-use Rattle.round_trip.specs.Legal.{IsLegal}
-use Rattle.round_trip.specs.LegalTables.{AreLegalTables}
-use Rattle.round_trip.specs.TablesAre.{TablesAre}
-use Rattle.round_trip.specs.Satisfies.{Satisfies}
 use Rattle.worked_examples.specs.Ids.{table_id, col_id, assoc_id, needed_column, pair_of, row_of}
 use Rattle.worked_examples.specs.People.{people_table, person, person_row}
 use Rattle.worked_examples.specs.Bosses.{bossed_model, boss_of, with_bosses, all_people}

@@ -1,23 +1,10 @@
 -- LevelLost: items in two tables, one for those of level 1 and one for those of level 2. An item of level 3 stands in neither.
 use Rattle.std.specs.Prelude.{ℕ, ℤ, pos, List, [], ◌∷◌, None, false, codes}
-use Rattle.emc_base.specs.declared.value.Value.TheVariants.{Whole}
+use Rattle.round_trip.specs.Words.{Whole, EntityModel, EntityType, Prop, EntitySet, StoreModel, Table, Fragment, Cond, Schema, Entity, State, place_at, FailsAt}
 use Rattle.emc_base.specs.declared.value.Kind.TheVariants as kind
-use Rattle.edm_types.specs.declared.model.EntityModel.{EntityModel}
-use Rattle.edm_types.specs.declared.model.EntityType.{EntityType}
-use Rattle.edm_types.specs.declared.model.EntitySet.{EntitySet}
-use Rattle.edm_types.specs.declared.model.Prop.{Prop}
-use Rattle.edm_types.specs.declared.store.StoreModel.{StoreModel}
-use Rattle.edm_types.specs.declared.store.Table.{Table}
-use Rattle.edm_types.specs.declared.mapping.Fragment.{Fragment}
-use Rattle.edm_types.specs.declared.mapping.Cond.{Cond}
 use Rattle.edm_types.specs.declared.mapping.CondOn.TheVariants as on
 use Rattle.edm_types.specs.declared.mapping.Test.TheVariants.{Equals}
-use Rattle.edm_types.specs.declared.data.Entity.{Entity}
-use Rattle.edm_types.specs.State.{State}
 use Rattle.round_trip.specs.declared.FailKind.TheVariants as kinds
-use Rattle.round_trip.specs.Schema.{Schema}
-use Rattle.round_trip.specs.Breaches.{place_at}
-use Rattle.round_trip.specs.FailsAt.{FailsAt}
 use Rattle.worked_examples.specs.Ids.{type_id, set_id, prop_id, table_id, col_id, needed, needed_column, set_of, pair_of, just, entity_of, leaf}
 use Rattle.worked_examples.specs.People.{id_prop}
 

@@ -1,8 +1,6 @@
 -- LongName: what is told of a person whose name has 21 characters, where 20 are allowed.
 use Rattle.std.specs.Prelude.{pos, [], ◌∷◌, codes}
-use Rattle.emc_base.specs.declared.value.Value.TheVariants.{Whole, Text}
-use Rattle.edm_types.specs.State.{State}
-use Rattle.round_trip.specs.Breaches.{place_at, IsBreachOf}
+use Rattle.round_trip.specs.Words.{Whole, Text, State, place_at, IsBreachOf}
 use Rattle.worked_examples.specs.People.{people_model, person, only_people, accented}
 
 abbrev pub long_named : State

@@ -1,14 +1,9 @@
 -- NameShown: people by a fragment that shows only rows with a name. A person without a name is written and not shown.
 use Rattle.std.specs.Prelude.{pos, [], ◌∷◌, codes, false}
-use Rattle.emc_base.specs.declared.value.Value.TheVariants.{Null, Whole}
-use Rattle.edm_types.specs.declared.mapping.Cond.{Cond}
+use Rattle.round_trip.specs.Words.{Null, Whole, Cond, Schema, State, place_at, FailsAt}
 use Rattle.edm_types.specs.declared.mapping.CondOn.TheVariants as on
 use Rattle.edm_types.specs.declared.mapping.Test.TheVariants.{IsNull}
-use Rattle.edm_types.specs.State.{State}
 use Rattle.round_trip.specs.declared.FailKind.TheVariants as kind
-use Rattle.round_trip.specs.Schema.{Schema}
-use Rattle.round_trip.specs.Breaches.{place_at}
-use Rattle.round_trip.specs.FailsAt.{FailsAt}
 use Rattle.worked_examples.specs.Ids.{pair_of, col_id}
 use Rattle.worked_examples.specs.People.{people_by, people_fragment, person, only_people}
 

@@ -1,10 +1,7 @@
 -- NeededBoss: people of whom each has exactly one boss.
 use Rattle.std.specs.Prelude.{pos, List, [], ◌∷◌}
-use Rattle.emc_base.specs.declared.value.Value.TheVariants.{Null}
+use Rattle.round_trip.specs.Words.{Null, Link, State, IsLegal}
 use Rattle.edm_types.specs.declared.model.Mult.TheVariants.{One}
-use Rattle.edm_types.specs.declared.data.Link.{Link}
-use Rattle.edm_types.specs.State.{State}
-use Rattle.round_trip.specs.Legal.{IsLegal}
 use Rattle.worked_examples.specs.People.{person}
 use Rattle.worked_examples.specs.Bosses.{bossed_model, boss_of, with_bosses}
 

@@ -1,15 +1,7 @@
 -- OneBoss: people whose boss stands in one column, where a person has at most one. A row comes of a person and of a link.
 use Rattle.std.specs.Prelude.{ℕ, ℤ, pos, List, [], ◌∷◌, codes}
-use Rattle.emc_base.specs.declared.value.Value.{Value}
-use Rattle.emc_base.specs.declared.value.Value.TheVariants.{Null, Whole, Text}
+use Rattle.round_trip.specs.Words.{Value, Null, Whole, Text, Row, State, Tables, IsLegal, AreLegalTables, TablesAre, Satisfies}
 use Rattle.edm_types.specs.declared.model.Mult.TheVariants.{ZeroOrOne}
-use Rattle.edm_types.specs.declared.data.Row.{Row}
-use Rattle.edm_types.specs.State.{State}
-use Rattle.edm_types.specs.Rows.{Tables}
-use Rattle.round_trip.specs.Legal.{IsLegal}
-use Rattle.round_trip.specs.LegalTables.{AreLegalTables}
-use Rattle.round_trip.specs.TablesAre.{TablesAre}
-use Rattle.round_trip.specs.Satisfies.{Satisfies}
 use Rattle.worked_examples.specs.Ids.{row_of}
 use Rattle.worked_examples.specs.People.{person}
 use Rattle.worked_examples.specs.Bosses.{bossed, bossed_model, bossed_store, boss_of, with_bosses}

@@ -1,25 +1,10 @@
 -- Owners: orders owned by people, in a store whose foreign key points to the table of employees. An order of a person who is no
 -- employee dangles.
 use Rattle.std.specs.Prelude.{ℤ, pos, [], ◌∷◌, Some, None, false, codes}
-use Rattle.emc_base.specs.declared.value.Value.TheVariants.{Null, Whole}
+use Rattle.round_trip.specs.Words.{Null, Whole, EntityModel, EntityType, Prop, EntitySet, Assoc, Constraint, StoreModel, Table, ForeignKey, Fragment, Schema, Entity, State, place_at, FailsAt}
 use Rattle.emc_base.specs.declared.value.Kind.TheVariants as kind
-use Rattle.edm_types.specs.declared.model.EntityModel.{EntityModel}
-use Rattle.edm_types.specs.declared.model.EntityType.{EntityType}
-use Rattle.edm_types.specs.declared.model.EntitySet.{EntitySet}
-use Rattle.edm_types.specs.declared.model.Prop.{Prop}
-use Rattle.edm_types.specs.declared.model.Assoc.{Assoc}
-use Rattle.edm_types.specs.declared.model.Constraint.{Constraint}
 use Rattle.edm_types.specs.declared.model.Mult.TheVariants.{One, Many}
-use Rattle.edm_types.specs.declared.store.StoreModel.{StoreModel}
-use Rattle.edm_types.specs.declared.store.Table.{Table}
-use Rattle.edm_types.specs.declared.store.ForeignKey.{ForeignKey}
-use Rattle.edm_types.specs.declared.mapping.Fragment.{Fragment}
-use Rattle.edm_types.specs.declared.data.Entity.{Entity}
-use Rattle.edm_types.specs.State.{State}
 use Rattle.round_trip.specs.declared.FailKind.TheVariants as kinds
-use Rattle.round_trip.specs.Schema.{Schema}
-use Rattle.round_trip.specs.Breaches.{place_at}
-use Rattle.round_trip.specs.FailsAt.{FailsAt}
 use Rattle.worked_examples.specs.Ids.{type_id, set_id, prop_id, table_id, col_id, needed, needed_column, set_of, pair_of, just, with_below, entity_of, leaf, stem}
 use Rattle.worked_examples.specs.People.{id_prop, name_prop, person_type, people_set, people_table, person}
 

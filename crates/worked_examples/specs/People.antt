@@ -1,27 +1,7 @@
 -- People: one type with an id and a name that may be null, one table, and one fragment that writes both.
 use Rattle.std.specs.Prelude.{ℕ, zero, suc, ℤ, pos, List, [], ◌∷◌, Some, None, false, codes}
-use Rattle.emc_base.specs.declared.value.Value.{Value}
-use Rattle.emc_base.specs.declared.value.Value.TheVariants.{Null, Whole, Text}
+use Rattle.round_trip.specs.Words.{Value, Null, Whole, Text, EntityModel, EntityType, Prop, EntitySet, Assoc, StoreModel, Table, Fragment, Pair, Cond, Schema, Entity, Row, State, Tables, IsLegal, AreLegalTables, TablesAre, Satisfies}
 use Rattle.emc_base.specs.declared.value.Kind.TheVariants as kind
-use Rattle.edm_types.specs.declared.model.EntityModel.{EntityModel}
-use Rattle.edm_types.specs.declared.model.EntityType.{EntityType}
-use Rattle.edm_types.specs.declared.model.EntitySet.{EntitySet}
-use Rattle.edm_types.specs.declared.model.Prop.{Prop}
-use Rattle.edm_types.specs.declared.model.Assoc.{Assoc}
-use Rattle.edm_types.specs.declared.store.StoreModel.{StoreModel}
-use Rattle.edm_types.specs.declared.store.Table.{Table}
-use Rattle.edm_types.specs.declared.mapping.Fragment.{Fragment}
-use Rattle.edm_types.specs.declared.mapping.Pair.{Pair}
-use Rattle.edm_types.specs.declared.mapping.Cond.{Cond}
-use Rattle.edm_types.specs.declared.data.Entity.{Entity}
-use Rattle.edm_types.specs.declared.data.Row.{Row}
-use Rattle.edm_types.specs.State.{State}
-use Rattle.edm_types.specs.Rows.{Tables}
-use Rattle.round_trip.specs.Schema.{Schema}
-use Rattle.round_trip.specs.Legal.{IsLegal}
-use Rattle.round_trip.specs.LegalTables.{AreLegalTables}
-use Rattle.round_trip.specs.TablesAre.{TablesAre}
-use Rattle.round_trip.specs.Satisfies.{Satisfies}
 use Rattle.worked_examples.specs.Ids.{type_id, set_id, prop_id, table_id, col_id, needed, optional, needed_column, optional_column, set_of, pair_of, just, entity_of, row_of, leaf}
 
 -- an id, which is the key, and a name of at most 20 characters that may be null

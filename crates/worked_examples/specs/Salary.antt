@@ -1,25 +1,11 @@
 -- Salary: people and employees in one table, told apart by the column Kind. The column of salaries can't be null, and nothing
 -- writes it for a person who is no employee.
 use Rattle.std.specs.Prelude.{ℕ, pos, List, [], ◌∷◌, Some, None, false, codes}
-use Rattle.emc_base.specs.declared.ids.TypeId.{TypeId}
-use Rattle.emc_base.specs.declared.value.Value.TheVariants.{Null, Whole, Text}
+use Rattle.round_trip.specs.Words.{TypeId, Null, Whole, Text, EntityModel, EntityType, Prop, StoreModel, Table, Column, Fragment, Pair, Cond, Schema, State, place_at, FailsAt}
 use Rattle.emc_base.specs.declared.value.Kind.TheVariants as kind
-use Rattle.edm_types.specs.declared.model.EntityModel.{EntityModel}
-use Rattle.edm_types.specs.declared.model.EntityType.{EntityType}
-use Rattle.edm_types.specs.declared.model.Prop.{Prop}
-use Rattle.edm_types.specs.declared.store.StoreModel.{StoreModel}
-use Rattle.edm_types.specs.declared.store.Table.{Table}
-use Rattle.edm_types.specs.declared.store.Column.{Column}
-use Rattle.edm_types.specs.declared.mapping.Fragment.{Fragment}
-use Rattle.edm_types.specs.declared.mapping.Pair.{Pair}
-use Rattle.edm_types.specs.declared.mapping.Cond.{Cond}
 use Rattle.edm_types.specs.declared.mapping.CondOn.TheVariants as on
 use Rattle.edm_types.specs.declared.mapping.Test.TheVariants.{Equals}
-use Rattle.edm_types.specs.State.{State}
 use Rattle.round_trip.specs.declared.FailKind.TheVariants as kinds
-use Rattle.round_trip.specs.Schema.{Schema}
-use Rattle.round_trip.specs.Breaches.{place_at}
-use Rattle.round_trip.specs.FailsAt.{FailsAt}
 use Rattle.worked_examples.specs.Ids.{type_id, set_id, prop_id, table_id, col_id, needed, needed_column, optional_column, pair_of, just, stem}
 use Rattle.worked_examples.specs.People.{id_prop, name_prop, person_type, people_set, person, only_people}
 

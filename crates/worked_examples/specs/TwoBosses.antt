@@ -1,11 +1,8 @@
 -- TwoBosses: people whose bosses stand in one column, though a person may have several.
 use Rattle.std.specs.Prelude.{pos, [], ◌∷◌, codes}
-use Rattle.emc_base.specs.declared.value.Value.TheVariants.{Null, Whole}
+use Rattle.round_trip.specs.Words.{Null, Whole, State, place_at, FailsAt}
 use Rattle.edm_types.specs.declared.model.Mult.TheVariants.{Many}
-use Rattle.edm_types.specs.State.{State}
 use Rattle.round_trip.specs.declared.FailKind.TheVariants as kinds
-use Rattle.round_trip.specs.Breaches.{place_at}
-use Rattle.round_trip.specs.FailsAt.{FailsAt}
 use Rattle.worked_examples.specs.People.{person}
 use Rattle.worked_examples.specs.Bosses.{bossed, boss_of, with_bosses}
 

@@ -1,14 +1,8 @@
 -- TypeLost: people and employees by one fragment that picks both, in a table with no column for the type. A person and an employee
 -- of one id have the same tables.
 use Rattle.std.specs.Prelude.{ℤ, pos, [], ◌∷◌, None, codes}
-use Rattle.emc_base.specs.declared.value.Value.{Value}
-use Rattle.emc_base.specs.declared.value.Value.TheVariants.{Null, Whole}
-use Rattle.edm_types.specs.declared.model.EntityModel.{EntityModel}
-use Rattle.edm_types.specs.declared.data.Entity.{Entity}
+use Rattle.round_trip.specs.Words.{Value, Null, Whole, EntityModel, Schema, Entity, place_at, FailsAt}
 use Rattle.round_trip.specs.declared.FailKind.TheVariants as kinds
-use Rattle.round_trip.specs.Schema.{Schema}
-use Rattle.round_trip.specs.Breaches.{place_at}
-use Rattle.round_trip.specs.FailsAt.{FailsAt}
 use Rattle.worked_examples.specs.Ids.{type_id, entity_of, stem}
 use Rattle.worked_examples.specs.People.{id_prop, name_prop, person_type, people_set, people_store, person, only_people}
 use Rattle.worked_examples.specs.Owners.{employee_type, all_people}

@@ -1,10 +1,7 @@
 -- Unwritten: people whose names are written nowhere. Two people of one id with different names have the same tables.
 use Rattle.std.specs.Prelude.{pos, [], ◌∷◌, codes}
-use Rattle.emc_base.specs.declared.value.Value.TheVariants.{Null, Whole, Text}
+use Rattle.round_trip.specs.Words.{Null, Whole, Text, Schema, place_at, FailsAt}
 use Rattle.round_trip.specs.declared.FailKind.TheVariants as kind
-use Rattle.round_trip.specs.Schema.{Schema}
-use Rattle.round_trip.specs.Breaches.{place_at}
-use Rattle.round_trip.specs.FailsAt.{FailsAt}
 use Rattle.worked_examples.specs.Ids.{pair_of}
 use Rattle.worked_examples.specs.People.{people_by, people_fragment, person, only_people}
 

@@ -1,4 +1,4 @@
-use Rattle.one_table.proofs.Unwritten.{lost_fails, value_fails}
+use Rattle.one_table.proofs.LostValues.{lost_fails, value_fails}
 use Rattle.one_table.proofs.refuses.Goals as goal
 
 pub returns-clause-choices : goal.returns-clause-choices

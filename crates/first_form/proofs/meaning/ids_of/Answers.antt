@@ -1,6 +1,5 @@
 use Rattle.std.proofs.Common.{◌≡◌, ◌∙◌, ap, add-one, zero-add, ◌++◌, ◌∷◌, [], take, ◌+◌, List, ℕ, suc}
-use Rattle.emc_base.specs.declared.ids.PropId.{PropId}
-use Rattle.edm_types.specs.declared.store.Column.{Column}
+use Rattle.round_trip.specs.Words.{PropId, Column}
 use Rattle.first_form.specs.Meaning.{ids_from}
 use Rattle.first_form.proofs.Ids.{ids_from-take}
 use Rattle.first_form.proofs.meaning.ids_of.Goals as goal

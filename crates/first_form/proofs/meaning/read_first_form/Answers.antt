@@ -2,7 +2,7 @@ use Rattle.std.proofs.Common.{◌≡◌, ◌∙◌, sym, false, Option, Some, No
 use Rattle.std.proofs.lemmas.Bool.{cond-false}
 use Rattle.serde_json.specs.Data.{Data}
 use Rattle.json_form.specs.Documents.{tree_of}
-use Rattle.round_trip.specs.Schema.{Schema}
+use Rattle.round_trip.specs.Words.{Schema}
 use Rattle.first_form.specs.Form.{content_in, have_few_columns, is_first_form}
 use Rattle.first_form.specs.Meaning.{first_form_meaning, meaning_of}
 use Rattle.first_form.proofs.OneTable.{too_many}

@@ -1,7 +1,7 @@
 use Rattle.std.proofs.Common.{◌≡◌, ◌∙◌, ap, refl, codes, false}
 use Rattle.serde_json.specs.Data.{string, no_members, put}
 use Rattle.serde_json.specs.Written.{compact_text, has_float}
-use Rattle.emc_base.specs.declared.place.Place.{Place}
+use Rattle.round_trip.specs.Words.{Place}
 use Rattle.json_form.specs.Trees.{key_tree}
 use Rattle.json_form.proofs.Objects.{members_have_float-put, key_tree-plain}
 use Rattle.mapping_cli.specs.Texts.{place_tree}

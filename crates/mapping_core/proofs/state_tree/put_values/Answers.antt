@@ -1,6 +1,6 @@
 use Rattle.std.proofs.Common.{◌∙◌, ap, sym, get_or}
 use Rattle.std.proofs.lemmas.Option.{slice_get-get_or}
-use Rattle.emc_base.specs.declared.ids.PropId.{PropId}
+use Rattle.round_trip.specs.Words.{PropId}
 use Rattle.serde_json.specs.Data.{put}
 use Rattle.serde_json.specs.View.{members_view}
 use Rattle.json_form.proofs.Objects.{put_all-take}

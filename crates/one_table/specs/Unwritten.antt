@@ -1,10 +1,7 @@
 -- Properties that a mapping doesn't write.
 -- Source: MSL version 3, ScalarProperty.
 use Rattle.std.specs.Prelude.{◌≡◌, ◌≢◌, List, All, Any, Contains}
-use Rattle.emc_base.specs.declared.ids.PropId.{PropId}
-use Rattle.edm_types.specs.declared.model.EntityType.{EntityType}
-use Rattle.edm_types.specs.declared.mapping.Fragment.{Fragment}
-use Rattle.round_trip.specs.Schema.{Schema}
+use Rattle.round_trip.specs.Words.{PropId, EntityType, Fragment, Schema}
 
 -- some pair names the property
 abbrev pub IsNamedIn : List Fragment → PropId → Type 0

@@ -1,14 +1,10 @@
 use Rattle.std.proofs.Common.{◌≡◌, ℕ, ◌+◌, ◌<◌, ◌≤◌, List, All, length, take, get_or, sym, subst, subst₂}
 use Rattle.std.proofs.lemmas.List.{take_all}
 use Rattle.std.proofs.lemmas.List.Elements.{All-more, All-same}
-use Rattle.emc_base.specs.declared.ids.PropId.{PropId}
-use Rattle.edm_types.specs.declared.model.EntityType.{EntityType}
-use Rattle.edm_types.specs.declared.mapping.Fragment.{Fragment}
-use Rattle.round_trip.specs.Schema.{Schema}
+use Rattle.round_trip.specs.Words.{PropId, EntityType, Fragment, Schema}
 use Rattle.one_table.specs.OneTable.{WritesEveryProperty}
-use Rattle.first_form.specs.Schemas.{schema_of}
-use Rattle.first_form.specs.Unwritten.{IsNamedIn}
-use Rattle.first_form.proofs.unwritten.unwritten_property.Goals as goal
+use Rattle.one_table.specs.Unwritten.{IsNamedIn}
+use Rattle.one_table.proofs.unwritten.unwritten_property.Goals as goal
 
 -- each property of each of these types is named
 abbrev AreNamed : List Fragment → List EntityType → Type 0
@@ -30,5 +26,5 @@ loop-declared-preserved c = one_more c.as_slice-fragments.result.now c.as_slice-
     c.loop-declared-test.true c.declared-item.is c.as_slice.ensures.items c.loop-declared.invariant c.in_default.ensures.named
 
 pub returns-clause-written : goal.returns-clause-written
-returns-clause-written c = all_named (schema_of c.args.meaning.now) c.as_slice-fragments.result.now c.as_slice-declared-items.result.now c.loop-declared.declared-index
+returns-clause-written c = all_named c.args.schema.now c.as_slice-fragments.result.now c.as_slice-declared-items.result.now c.loop-declared.declared-index
     c.as_slice-fragments.ensures.items c.as_slice-declared-items.ensures.items c.loop-declared-test.false c.loop-declared.invariant

@@ -1,15 +1,8 @@
 -- Values that a model of the first form allows, with which a state can be shown.
 use Rattle.std.specs.Prelude.{◌⊎◌, Contains, IsTrue, pos, codes}
-use Rattle.emc_base.specs.declared.ids.PropId.{PropId}
-use Rattle.emc_base.specs.declared.value.Value.{Value}
+use Rattle.round_trip.specs.Words.{PropId, Value, Kind, EntityModel, Prop, At, InDomain, props_of, key_props}
 use Rattle.emc_base.specs.declared.value.Value.TheVariants as value
-use Rattle.emc_base.specs.declared.value.Kind.{Kind}
 use Rattle.emc_base.specs.declared.value.Kind.TheVariants as kind
-use Rattle.emc_base.specs.Domain.{InDomain}
-use Rattle.edm_types.specs.declared.model.EntityModel.{EntityModel}
-use Rattle.edm_types.specs.declared.model.Prop.{Prop}
-use Rattle.emc_base.specs.Lists.{At}
-use Rattle.edm_types.specs.Entities.{props_of, key_props}
 use Rattle.one_table.specs.OneTable.{first_type}
 
 -- a small value of a kind of the first form
@@ -25,7 +18,7 @@ sample_of (kind.Binary bound) = value.Whole (pos 0)
 -- prop is a property of the one type, declared as told
 pub record IsDeclared (model : EntityModel) (prop : PropId) (declared : Prop) : Type 0 where
   pub has_prop : Contains (props_of model first_type) prop
-  pub told : At model.props prop.index declared
+  pub is_declared : At model.props prop.index declared
 
 -- The key may be 7, each property may hold a sample of its kind, and each but the key may be null.
 pub record AllowsSamples (model : EntityModel) : Type 0 where

@@ -1,20 +1,18 @@
 ghost use Rattle.std.specs.Prelude.{◌≡◌, ◌↔◌, All, Any, Contains, IfNone, IfSome, IsTrue};
 ghost use Rattle.one_table.specs.OneTable.{WritesEveryProperty};
-ghost use Rattle.first_form.specs.Schemas.{schema_of};
-ghost use Rattle.first_form.specs.Unwritten.{IsNamedIn, IsNowhereNamed, IsUnwritten};
+ghost use Rattle.one_table.specs.Unwritten.{IsNamedIn, IsNowhereNamed, IsUnwritten};
 
-use crate::meaning::Meaning;
-use edm_types::{Fragment, Pair};
+use edm_types::{Fragment, Pair, Schema};
 use emc_base::PropId;
 
 /// A property of the model's types that no pair of the mapping names; `None` where each is named. Which one it is, where there are
 /// several, is no promise.
-pub fn unwritten_property(meaning: &Meaning) -> Option<PropId>
-    ensures written { IfNone result (WritesEveryProperty (schema_of meaning.now)) }
-    ensures lost { IfSome result (λ prop. IsUnwritten (schema_of meaning.now) prop) }
+pub fn unwritten_property(schema: &Schema) -> Option<PropId>
+    ensures written { IfNone result (WritesEveryProperty schema.now) }
+    ensures lost { IfSome result (λ prop. IsUnwritten schema.now prop) }
 {
-    let fragments = meaning.mapping.fragments.as_slice();
-    for declared in meaning.model.types.as_slice() {
+    let fragments = schema.mapping.fragments.as_slice();
+    for declared in schema.model.types.as_slice() {
         let Some(prop) = unnamed_property(declared.props.as_slice(), fragments) else {
             continue;
         };

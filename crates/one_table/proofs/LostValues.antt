@@ -3,21 +3,9 @@ use Rattle.std.proofs.Common.{◌≡◌, ◌≢◌, ◌⊎◌, inl, inr, ⊎_eli
 use Rattle.std.proofs.lemmas.Bool.Decides.{eqb_tells}
 use Rattle.std.proofs.lemmas.List.Elements.{All-contains, All-weaker}
 use Rattle.std.proofs.lemmas.List.Sorted.{IsPermutation-refl, Contains-permutation}
-use Rattle.emc_base.specs.declared.ids.PropId.{PropId}
-use Rattle.emc_base.specs.declared.value.Value.{Value}
-use Rattle.emc_base.specs.declared.value.Value.TheVariants.{Null, Whole}
-use Rattle.emc_base.specs.Domain.{InDomain}
-use Rattle.edm_types.specs.declared.model.EntitySet.{EntitySet}
-use Rattle.edm_types.specs.declared.mapping.Fragment.{Fragment}
-use Rattle.edm_types.specs.declared.mapping.Pair.{Pair}
-use Rattle.edm_types.specs.declared.data.Row.{Row}
-use Rattle.edm_types.specs.Entities.{props_of, key_of, value_of}
-use Rattle.edm_types.specs.State.{entities_in, IsSameState}
-use Rattle.edm_types.specs.Rows.{rows_in, AreSameTables}
+use Rattle.round_trip.specs.Words.{PropId, Value, Null, Whole, EntitySet, Fragment, Pair, Schema, Row, InDomain, props_of, value_of, key_of, entities_in, IsSameState, rows_in, AreSameTables, place_at, FailsAt}
 use Rattle.round_trip.specs.declared.FailKind.TheVariants.{Same}
-use Rattle.round_trip.specs.Schema.{Schema}
-use Rattle.round_trip.specs.Breaches.{place_at}
-use Rattle.round_trip.specs.FailsAt.{FailsAt, HasEntityOnly}
+use Rattle.round_trip.specs.FailsAt.{HasEntityOnly}
 use Rattle.one_table.specs.OneTable.{IsOneTable, IsFittingPair, first_set, first_type}
 use Rattle.one_table.specs.Lost.{entity_by, state_by, lost_values, IsAllowed, AreLost, IsLost, IsNullable}
 use Rattle.emc_base.proofs.Lists.{only_place, only_member, only_stands, all_from_members}
@@ -146,7 +134,7 @@ module _ (schema : Schema) (form : IsOneTable schema) (set : EntitySet) (key los
       → IsAllowed schema.model prop (lost_values key lost chosen prop)
   chosen_allowed chosen may prop has = ⊎_elim
       (λ at_key. let here = same_prop prop key at_key.1 in
-      subst₂ (IsAllowed schema.model) (sym here) (sym (value_at_key key lost chosen prop at_key.1)) (is_lost.key_declared, is_lost.key_told, inr is_lost.seven))
+      subst₂ (IsAllowed schema.model) (sym here) (sym (value_at_key key lost chosen prop at_key.1)) (is_lost.key_declared, is_lost.key_is_declared, inr is_lost.seven))
       (λ other. ⊎_elim
       (λ at_lost. let here = same_prop prop lost at_lost.1 in
       subst₂ (IsAllowed schema.model) (sym here) (sym (value_at_lost key lost chosen prop other.1 at_lost.1)) may)
@@ -164,7 +152,7 @@ module _ (schema : Schema) (form : IsOneTable schema) (set : EntitySet) (key los
     ones_allowed = all_from_members (λ prop. IsAllowed schema.model prop (lost_values key lost Null prop)) (props_of schema.model first_type)
         (chosen_allowed Null (null_allowed lost is_lost.has_prop not_key));
     twos_allowed = all_from_members (λ prop. IsAllowed schema.model prop (lost_values key lost value prop)) (props_of schema.model first_type)
-        (chosen_allowed value (is_lost.declared, is_lost.told, inr is_lost.holds));
+        (chosen_allowed value (is_lost.declared, is_lost.is_declared, inr is_lost.holds));
     agree = All-weaker (λ (f : Fragment). All (λ (p : Pair). p.prop ≢ lost) f.pairs)
         (λ (f : Fragment). All (λ (p : Pair). lost_values key lost Null p.prop ≡ lost_values key lost value p.prop) f.pairs)
         (λ f. All-weaker (λ (p : Pair). p.prop ≢ lost) (λ (p : Pair). lost_values key lost Null p.prop ≡ lost_values key lost value p.prop)

@@ -1,8 +1,8 @@
 use Rattle.std.proofs.Common.{sym}
 use Rattle.std.proofs.lemmas.List.{take_all}
 use Rattle.std.proofs.lemmas.List.Elements.{All-more, All-same}
-use Rattle.first_form.specs.Unwritten.{IsNamedIn}
-use Rattle.first_form.proofs.unwritten.unnamed_property.Goals as goal
+use Rattle.one_table.specs.Unwritten.{IsNamedIn}
+use Rattle.one_table.proofs.unwritten.unnamed_property.Goals as goal
 
 pub loop-prop-preserved : goal.loop-prop-preserved
 loop-prop-preserved c = All-more (IsNamedIn c.args.fragments.now) c.args.props.now c.loop-prop.prop-index (record { index = 0 })
