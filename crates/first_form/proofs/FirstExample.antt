@@ -5,7 +5,7 @@ use Rattle.serde_json.proofs.OnLiterals.{serde_json_on_literals}
 use Rattle.first_form.specs.Declaring.{declared_in, reference_in}
 use Rattle.first_form.specs.Form.{has_good_pairs, is_declaring, is_first_form, is_mapping, mapped_in, names_both, pairs_of, path_of}
 use Rattle.first_form.specs.Meaning.{mapping_of, meaning_of_texts, model_of, store_of}
-use Rattle.first_form.specs.Parts.{has_members, items_at, part_at, text_at}
+use Rattle.first_form.specs.Pointed.{has_members, items_at, part_at, text_at}
 use Rattle.first_form.specs.Shapes.{allowed_of, needed_of}
 use Rattle.first_form.specs.FirstExample.{csdl_text, ssdl_text, msl_text, people_mapping, people_model, people_schema, people_store}
 

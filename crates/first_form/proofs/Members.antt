@@ -2,7 +2,7 @@
 use Rattle.std.proofs.Common.{◌≡◌, ◌||◌, ℕ, List, [], ◌∷◌, Bool, refl, ap}
 use Rattle.std.specs.Borrow.{Bor}
 use Rattle.std.specs.List.{list_any}
-use Rattle.first_form.specs.Parts.{texts}
+use Rattle.first_form.specs.Pointed.{texts}
 
 pub list_any-texts : (p : List ℕ → Bool) (names : List (Bor (List ℕ))) → list_any (λ name. p name.now) names ≡ list_any p (texts names)
 list_any-texts p [] = refl

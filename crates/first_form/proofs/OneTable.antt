@@ -14,7 +14,7 @@ use Rattle.first_form.specs.declared.declared_form.Declared.{Declared}
 use Rattle.first_form.specs.declared.declared_form.Vocabulary.{Vocabulary}
 use Rattle.first_form.specs.declared.declared_form.Vocabulary.TheVariants.{Model, Store}
 use Rattle.first_form.specs.Declaring.{column_of, declared_in, is_property}
-use Rattle.first_form.specs.Parts.{items_at}
+use Rattle.first_form.specs.Pointed.{items_at}
 use Rattle.first_form.specs.Form.{content_in, does_content_fit, has_container_layout, has_few_columns, has_good_columns, has_good_names, has_good_pairs, has_set_layout, has_type_layout, is_declaring, is_first_form, have_few_columns, is_mapping, names_both, pair_fits, place_of}
 use Rattle.first_form.specs.Meaning.{fragment_of, mapping_of, meaning_of, model_of, prop_of, set_of, store_of, table_of, type_of}
 use Rattle.first_form.proofs.Ids.{different_ids, has_id, prop_at, told_ids}

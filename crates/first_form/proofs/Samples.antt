@@ -14,12 +14,12 @@ use Rattle.first_form.specs.declared.declared_form.Vocabulary.{Vocabulary}
 use Rattle.first_form.specs.Declaring.{bound_of, column_of, has_known_type, is_bound, text_word, whole_word}
 use Rattle.first_form.specs.Form.{is_whole}
 use Rattle.one_table.specs.Samples.{AllowsSamples, sample_of}
-use Rattle.first_form.specs.Parts.{items_at, part_at, text_at}
+use Rattle.first_form.specs.Pointed.{items_at, part_at, text_at}
 use Rattle.std.proofs.Common.{nat_le, not, unwrap_or, zero, suc}
 use Rattle.std.specs.Option.{option_and_then}
 use Rattle.std.proofs.lemmas.Bool.Decides.{nat_tests}
 use Rattle.std.proofs.lemmas.Int.{ints}
-use Rattle.json_form.specs.Parts.{whole_of}
+use Rattle.json_form.specs.TreeParts.{whole_of}
 use Rattle.first_form.specs.declared.content.Content.{Content}
 use Rattle.first_form.specs.declared.declared_form.Declared.{Declared}
 use Rattle.first_form.specs.declared.declared_form.Vocabulary.TheVariants.{Model, Store}

@@ -4,13 +4,13 @@ use Rattle.std.specs.Prelude.{◌&&◌, ◌||◌, ℕ, ℤ, pos, negsuc, ◌^◌
 use Rattle.std.specs.Str.{bytes_eq}
 use Rattle.serde_json.specs.Data.{Data}
 use Rattle.serde_json.specs.Find.{get, pointer, as_bool}
-use Rattle.json_form.specs.Parts.{whole_of}
+use Rattle.json_form.specs.TreeParts.{whole_of}
 use Rattle.emc_base.specs.declared.value.Kind.TheVariants as kind
 use Rattle.round_trip.specs.Words.{Column}
 use Rattle.first_form.specs.declared.declared_form.Declared.{Declared}
 use Rattle.first_form.specs.declared.declared_form.Vocabulary.{Vocabulary}
 use Rattle.first_form.specs.declared.declared_form.Vocabulary.TheVariants.{Model, Store}
-use Rattle.first_form.specs.Parts.{text_at, items_at, part_at}
+use Rattle.first_form.specs.Pointed.{text_at, items_at, part_at}
 use Rattle.first_form.specs.declared.shape.Shape.TheVariants as shape
 use Rattle.first_form.specs.Shapes.{has_shape}
 use Rattle.first_form.specs.Names.{is_name, is_plain_name}

@@ -4,7 +4,7 @@ use Rattle.std.specs.Prelude.{◌&&◌, ◌||◌, ◌==◌, ℕ, List, [], ◌�
 use Rattle.std.specs.List.{list_any, list_all, position_or_len}
 use Rattle.std.specs.Str.{bytes_eq}
 use Rattle.serde_json.specs.Data.{Data}
-use Rattle.json_form.specs.Parts.{items_in}
+use Rattle.json_form.specs.TreeParts.{items_in}
 use Rattle.round_trip.specs.Words.{Kind, Column, Pair}
 use Rattle.emc_base.specs.declared.value.Kind.TheVariants as kind
 use Rattle.first_form.specs.declared.declared_form.Declared.{Declared}
@@ -15,7 +15,7 @@ use Rattle.first_form.specs.declared.mapped_form.MappingPart.{MappingPart}
 use Rattle.first_form.specs.declared.mapped_form.MappingPart.TheVariants as part
 use Rattle.first_form.specs.declared.mapped_form.NamedPair.{NamedPair}
 use Rattle.first_form.specs.declared.content.Content.{Content}
-use Rattle.first_form.specs.Parts.{text_at, items_at, part_at}
+use Rattle.first_form.specs.Pointed.{text_at, items_at, part_at}
 use Rattle.first_form.specs.declared.shape.Shape.TheVariants as shape
 use Rattle.first_form.specs.Shapes.{has_shape}
 use Rattle.first_form.specs.Names.{is_name, is_plain_name, is_namespace}

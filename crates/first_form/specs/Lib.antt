@@ -1,4 +1,4 @@
-pub mod Parts
+pub mod Pointed
 pub mod Names
 pub mod Shapes
 pub mod Declaring

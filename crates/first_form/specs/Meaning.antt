@@ -2,7 +2,7 @@
 -- Source: CSDL, SSDL and MSL version 3.
 use Rattle.std.specs.Prelude.{◌+◌, ℕ, List, [], ◌∷◌, map, false, Option, Some, None, option_and_then, if◌then◌else◌}
 use Rattle.serde_json.specs.Data.{Data}
-use Rattle.json_form.specs.Parts.{tree_at}
+use Rattle.json_form.specs.TreeParts.{tree_at}
 use Rattle.round_trip.specs.Words.{PropId, EntityModel, EntityType, Prop, TypeNode, EntitySet, StoreModel, Table, Column, Mapping, Fragment, Pair, Schema}
 use Rattle.edm_types.specs.declared.model.TypeNode.{roll-TypeNode}
 use Rattle.first_form.specs.declared.declared_form.Declared.{Declared}

@@ -4,7 +4,7 @@ use Rattle.std.specs.Prelude.{ℕ, List, [], ◌∷◌, Bool, codes}
 use Rattle.serde_json.specs.Data.{Data}
 use Rattle.first_form.specs.declared.shape.Shape.{Shape}
 use Rattle.first_form.specs.declared.shape.Shape.TheVariants as shape
-use Rattle.first_form.specs.Parts.{has_members}
+use Rattle.first_form.specs.Pointed.{has_members}
 
 -- the members that an object of the shape has
 unfoldable pub needed_of : Shape → List (List ℕ)

@@ -3,11 +3,11 @@ ghost use Rattle.std.specs.List.{list_all};
 ghost use Rattle.serde_json.specs.Find.{as_bool, get};
 ghost use Rattle.serde_json.specs.View.{view};
 ghost use Rattle.json_form.specs.Nodes.{part_of};
-ghost use Rattle.first_form.specs.Parts.{items_at, part_at, text_at};
+ghost use Rattle.first_form.specs.Pointed.{items_at, part_at, text_at};
 ghost use Rattle.first_form.specs.Declaring.{bound_of, column_of, declared_in, has_known_nullable, has_known_type, is_bound, is_given_name, is_property, is_typed, reference_in, short_number, text_word, whole_word};
 
 use crate::names::{is_name, is_plain_name};
-use crate::parts::{items_at, str_at, text_at, two_texts_at};
+use crate::pointed::{items_at, str_at, text_at, two_texts_at};
 use crate::shape::{Shape, has_shape};
 use edm_types::Column;
 use emc_base::{Kind, Memory, Seq, Txt};
@@ -135,14 +135,14 @@ fn read_column(alloc: Global, vocabulary: Vocabulary, node: &Node<'_>) -> Result
     })
 }
 
-#[tactic(auto, unfolding(crate::specs::Parts::part_at))]
+#[tactic(auto, unfolding(crate::specs::Pointed::part_at))]
 fn flag_at(node: &Node<'_>, path: &str) -> Option<bool>
     ensures { result ≡ as_bool (part_at path.now (part_of node.now)) }
 {
     node.pointer(path)?.flag()
 }
 
-#[tactic(auto, unfolding(crate::specs::Parts::part_at))]
+#[tactic(auto, unfolding(crate::specs::Pointed::part_at))]
 fn bound_of(node: &Node<'_>) -> Option<u32>
     ensures { result ≡ bound_of (part_of node.now) }
 {

@@ -8,7 +8,7 @@ mod form;
 mod mapped_form;
 mod meaning;
 mod names;
-mod parts;
+mod pointed;
 mod shape;
 mod unwritten;
 

@@ -2,10 +2,10 @@ ghost use Rattle.std.specs.Prelude.{◌≡◌, IfOk, map};
 ghost use Rattle.std.specs.List.{list_all};
 ghost use Rattle.serde_json.specs.View.{view};
 ghost use Rattle.json_form.specs.Nodes.{part_of};
-ghost use Rattle.first_form.specs.Parts.{items_at, text_at};
+ghost use Rattle.first_form.specs.Pointed.{items_at, text_at};
 ghost use Rattle.first_form.specs.Form.{has_fragment_layout, has_set_mapping_layout, has_type_mapping_layout, is_mapping, is_named_pair, mapped_in, named_pair_of, path_of};
 
-use crate::parts::{has_one_item_at, items_at, text_at, two_texts_at};
+use crate::pointed::{has_one_item_at, items_at, text_at, two_texts_at};
 use crate::shape::{Shape, has_shape, has_shape_at};
 use emc_base::{Memory, Seq, Txt};
 use json_form::Node;

@@ -1,9 +1,9 @@
 ghost use Rattle.std.specs.Prelude.{◌≡◌};
 ghost use Rattle.json_form.specs.Nodes.{part_of};
-ghost use Rattle.first_form.specs.Parts.{part_at, texts};
+ghost use Rattle.first_form.specs.Pointed.{part_at, texts};
 ghost use Rattle.first_form.specs.Shapes.{allowed_of, has_shape, needed_of};
 
-use crate::parts::{has_members, has_members_at};
+use crate::pointed::{has_members, has_members_at};
 use json_form::Node;
 
 /// The objects of documents of the first form.

@@ -13,7 +13,7 @@ use Rattle.serde_json.specs.Find.{at, get_item, as_object}
 use Rattle.serde_json.specs.View.{view, items_view, members_view}
 use Rattle.serde_json.specs.declared.value.Value.{Value, Array, Object}
 use Rattle.serde_json.proofs.Views.{view-Array, view-Object, Entry}
-use Rattle.json_form.specs.Parts.{items_in, members_in, count_in, tree_at, list_of_items, list_of_members}
+use Rattle.json_form.specs.TreeParts.{items_in, members_in, count_in, tree_at, list_of_items, list_of_members}
 
 -- an object's entries as names and trees
 abbrev pub shown : Entry → List ℕ × Data

@@ -1,4 +1,5 @@
-pub mod Parts
+pub mod TreeParts
 pub mod Documents
 pub mod Nodes
 pub mod Trees
+pub mod Pointers

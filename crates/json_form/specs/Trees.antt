@@ -1,10 +1,12 @@
--- Values and keys as JSON trees, and objects made member by member.
+-- Values, keys and places as JSON trees, texts in quotes, and objects made member by member.
 -- Source: RFC 8259; a byte list is told as the text of its bytes in two lower-case hexadecimal digits each.
-use Rattle.std.specs.Prelude.{ℕ, List, [], ◌∷◌, map}
+use Rattle.std.specs.Prelude.{ℕ, List, [], ◌∷◌, map, codes}
 use Rattle.hex.specs.Hex.{encode_lower}
 use Rattle.serde_json.specs.Data.{Data, null, boolean, number, string, array, object, Members, no_members, put}
 use Rattle.serde_json.specs.Find.{of_integer}
 use Rattle.serde_json.specs.View.{items_of}
+use Rattle.serde_json.specs.Written.{compact_text}
+use Rattle.emc_base.specs.declared.place.Place.{Place}
 use Rattle.emc_base.specs.declared.value.Value.{Value}
 use Rattle.emc_base.specs.declared.value.Value.TheVariants as value
 
@@ -32,3 +34,11 @@ put_all members (entry ∷ entries) = put_all (put entry.0 entry.1 members) entr
 -- the object of these members
 abbrev pub object_of : List (List ℕ × Data) → Data
 object_of entries = object (put_all no_members entries)
+
+-- a text as JSON text
+abbrev pub quoted : List ℕ → List ℕ
+quoted text = compact_text (string text)
+
+-- a place: the object of its three parts
+abbrev pub place_tree : Place → Data
+place_tree place = object (put (codes "part") (string place.part) (put (codes "name") (string place.name) (put (codes "key") (key_tree place.key) no_members)))

@@ -1,7 +1,7 @@
 ghost use Rattle.std.specs.Prelude.{◌≡◌, IfOk, false};
 ghost use Rattle.serde_json.specs.View.{view};
 ghost use Rattle.serde_json.specs.Written.{has_float};
-ghost use Rattle.json_form.specs.Parts.{tree_at};
+ghost use Rattle.json_form.specs.TreeParts.{tree_at};
 ghost use Rattle.json_form.specs.Documents.{Reads, printed, tree_of};
 ghost use Rattle.json_form.specs.Nodes.{part_of};
 

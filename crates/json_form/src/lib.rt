@@ -3,10 +3,12 @@
 
 mod doc;
 mod node;
+mod pointer;
 #[cfg(test)]
 mod tests;
 mod tree;
 
 pub use doc::{Doc, DocFault};
 pub use node::Node;
-pub use tree::{array_tree, key_tree, object_tree, text_tree, value_tree};
+pub use pointer::{Step, pointer_of};
+pub use tree::{array_tree, key_tree, object_tree, place_text, quoted, text_tree, value_tree};

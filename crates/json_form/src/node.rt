@@ -2,7 +2,7 @@ ghost use Rattle.std.specs.Prelude.{◌≡◌, is_some, option_map, slice_get, l
 ghost use Rattle.std.specs.Map.Iter.{deref_pair};
 ghost use Rattle.serde_json.specs.Find.{get, as_array, as_bool, as_null, as_object, as_str, pointer as points_to};
 ghost use Rattle.serde_json.specs.View.{members_view, view};
-ghost use Rattle.json_form.specs.Parts.{count_in, items_in, members_in, whole_of};
+ghost use Rattle.json_form.specs.TreeParts.{count_in, items_in, members_in, whole_of};
 ghost use Rattle.json_form.specs.Nodes.{part_of};
 
 use serde_json::{Map, Value};

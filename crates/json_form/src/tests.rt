@@ -1,5 +1,8 @@
-use crate::{Doc, DocFault, array_tree, key_tree, object_tree, text_tree, value_tree};
-use emc_base::{Bin, Key, Seq, Txt, Value};
+use crate::{
+    Doc, DocFault, Step, array_tree, key_tree, object_tree, place_text, pointer_of, quoted,
+    text_tree, value_tree,
+};
+use emc_base::{Bin, Key, Place, Seq, Txt, Value};
 use serde_json::Map;
 use std::alloc::Global;
 use std::test::Fail;
@@ -88,5 +91,34 @@ fn other_bytes_are_no_document(rt: HostRuntime) -> Result<(), Fail> {
         let read = Doc::of_bytes(rt.alloc(), &Bin::of(rt.alloc(), text.as_bytes())?);
         assert_eq!(rt; read.err(), Some(DocFault::NotJson), "at {text}");
     }
+    Ok(())
+}
+
+#[test]
+fn pointers_are_spelled(rt: HostRuntime) -> Result<(), Fail> {
+    let steps = [
+        Step::Member(Txt::of(rt.alloc(), "EntityType")?),
+        Step::Item(10),
+        Step::Member(Txt::of(rt.alloc(), "a/b~c å")?),
+    ];
+    let pointer = pointer_of(rt.alloc(), steps.as_slice())?;
+    assert_eq!(rt; pointer.as_str(), "/EntityType/10/a~1b~0c å");
+    let root = pointer_of(rt.alloc(), &[])?;
+    assert_eq!(rt; root.as_str(), "");
+    Ok(())
+}
+
+#[test]
+fn places_are_printed(rt: HostRuntime) -> Result<(), Fail> {
+    let place = Place {
+        name: Txt::of(rt.alloc(), "People \"old\"")?,
+        key: a_value_of_each_sort(rt.alloc())?,
+        part: Txt::of(rt.alloc(), "Name")?,
+    };
+    let text = place_text(rt.alloc(), &place)?;
+    let want =
+        r#"{"key":[null,-7,true,"say \"hey\"","00af"],"name":"People \"old\"","part":"Name"}"#;
+    assert_eq!(rt; text.as_str(), want);
+    assert_eq!(rt; quoted(rt.alloc(), "a\nb")?.as_str(), r#""a\nb""#);
     Ok(())
 }

@@ -1,10 +1,11 @@
-ghost use Rattle.std.specs.Prelude.{◌≡◌, IfOk, map};
+ghost use Rattle.std.specs.Prelude.{◌≡◌, IfOk, map, string_bytes};
 ghost use Rattle.serde_json.specs.Data.{string};
+ghost use Rattle.serde_json.specs.Written.{compact_text};
 ghost use Rattle.serde_json.specs.View.{items_of, items_view, members_view, view};
 ghost use Rattle.serde_json.specs.Data.{array, object};
-ghost use Rattle.json_form.specs.Trees.{key_tree, value_tree};
+ghost use Rattle.json_form.specs.Trees.{key_tree, place_tree, quoted, value_tree};
 
-use emc_base::{Key, Memory, Value};
+use emc_base::{Key, Memory, Place, Value};
 use serde_json::{Map, Value as Tree};
 use std::alloc::Global;
 
@@ -54,4 +55,33 @@ pub fn object_tree(members: Map<String, Tree>) -> Tree
     ensures { view result ≡ object (members_view members.entries) }
 {
     Tree::Object(members)
+}
+
+/// A text as JSON text: in quotes, with escapes where they are needed.
+pub fn quoted(alloc: Global, text: &str) -> Result<String, Memory>
+    ensures { IfOk result (λ text_of. string_bytes text_of ≡ quoted text.now) }
+{
+    let tree = text_tree(alloc, text)?;
+    Ok(tree.to_string(alloc)?)
+}
+
+/// A place as compact JSON text: an object with the members `key`, `name` and `part`.
+pub fn place_text(alloc: Global, place: &Place) -> Result<String, Memory>
+    ensures { IfOk result (λ text. string_bytes text ≡ compact_text (place_tree place.now)) }
+{
+    let tree = place_tree(alloc, place)?;
+    Ok(tree.to_string(alloc)?)
+}
+
+fn place_tree(alloc: Global, place: &Place) -> Result<Tree, Memory>
+    ensures { IfOk result (λ tree. view tree ≡ place_tree place.now) }
+{
+    let mut members = Map::new(alloc);
+    let key = key_tree(alloc, &place.key)?;
+    serde_json::put(&mut members, alloc, "key", key)?;
+    let name = text_tree(alloc, place.name.as_str())?;
+    serde_json::put(&mut members, alloc, "name", name)?;
+    let part = text_tree(alloc, place.part.as_str())?;
+    serde_json::put(&mut members, alloc, "part", part)?;
+    Ok(object_tree(members))
 }

@@ -8,7 +8,7 @@ use Rattle.round_trip.specs.declared.FailKind.{FailKind}
 use Rattle.edm_types.specs.declared.faults.VocabFile.TheVariants.{Csdl, Ssdl, Msl}
 use Rattle.round_trip.specs.declared.FailKind.TheVariants as kind
 use Rattle.mapping_core.specs.declared.verdict.Failure.{Failure}
-use Rattle.mapping_core.specs.StateTree.{state_tree}
+use Rattle.entity_state.specs.StateTree.{state_tree}
 
 -- the words, and a line feed
 abbrev pub line : List ℕ → List ℕ

@@ -1,7 +1,7 @@
 -- Documents whose trees are of the first form break no rule.
 use Rattle.std.proofs.Common.{◌≡◌, ℕ, List, Some, sym, ap}
 use Rattle.serde_json.specs.Data.{Data}
-use Rattle.json_form.specs.Parts.{tree_at}
+use Rattle.json_form.specs.TreeParts.{tree_at}
 use Rattle.round_trip.specs.Words.{Schema}
 use Rattle.first_form.specs.Meaning.{first_form_meaning}
 use Rattle.mapping_core.specs.Rules.{IsMeant, Means, unbuilt}

@@ -8,7 +8,7 @@ use Rattle.mapping_core.specs.declared.verdict.Failure.{Failure}
 use Rattle.mapping_core.specs.declared.verdict.Verdict.{Verdict}
 use Rattle.mapping_core.specs.declared.verdict.Verdict.TheVariants.{Rule, Fails, Memory}
 use Rattle.mapping_core.specs.Rules.{Means, least_rule}
-use Rattle.mapping_core.specs.StateTree.{IsInKeyOrder}
+use Rattle.entity_state.specs.StateTree.{IsInKeyOrder}
 
 -- the place of a kind in the order in which kinds are told
 abbrev pub kind_number : FailKind → ℕ

@@ -2,7 +2,7 @@
 -- Rule 1: the bytes aren't JSON. Rule 99: the documents aren't of the form that is built so far; it comes last.
 use Rattle.std.specs.Prelude.{◌≡◌, ℕ, List, [], Option, Some, None}
 use Rattle.serde_json.specs.Data.{Data}
-use Rattle.json_form.specs.Parts.{tree_at}
+use Rattle.json_form.specs.TreeParts.{tree_at}
 use Rattle.round_trip.specs.Words.{Schema, VocabFile, RuleFault}
 use Rattle.edm_types.specs.declared.faults.VocabFile.TheVariants.{Csdl, Ssdl, Msl}
 use Rattle.first_form.specs.Meaning.{meaning_of_texts}

@@ -1,7 +1,7 @@
 ghost use Rattle.std.specs.Prelude.{◌≡◌, ◌<◌, IfOk, length, option_map};
 ghost use Rattle.round_trip.specs.Words.{At};
 ghost use Rattle.json_form.specs.Documents.{tree_of};
-ghost use Rattle.json_form.specs.Parts.{tree_at};
+ghost use Rattle.json_form.specs.TreeParts.{tree_at};
 ghost use Rattle.one_table.specs.OneTable.{IsOneTable, WritesEveryProperty};
 ghost use Rattle.one_table.specs.Samples.{AllowsSamples};
 ghost use Rattle.first_form.specs.Schemas.{schema_of};

@@ -27,22 +27,26 @@ pub record AreLost (schema : Schema) (set : EntitySet) (key : PropId) (ones twos
   pub has_prop : Contains (props_of schema.model first_type) lost
   pub differ : ones lost ≢ twos lost
 
--- 7 in the key, the value in the lost property, and null elsewhere
+-- the key of the entities that are shown
+abbrev pub shown_key : Value
+shown_key = Whole (pos 7)
+
+-- the shown key, the value in the lost property, and null elsewhere
 abbrev pub lost_values : PropId → PropId → Value → PropId → Value
-lost_values key lost value prop = if prop.index == key.index then Whole (pos 7) else if prop.index == lost.index then value else Null
+lost_values key lost value prop = if prop.index == key.index then shown_key else if prop.index == lost.index then value else Null
 
 -- the property may be null
 abbrev pub IsNullable : EntityModel → PropId → Type 0
 IsNullable model prop = (declared : Prop) × At model.props prop.index declared × IsTrue declared.nullable
 
--- a property of the first type that no pair writes and that may hold the value, where the key may be 7 and all else null
+-- a property of the first type that no pair writes and that may hold the value, where the key may be the shown one and all else null
 pub record IsLost (schema : Schema) (set : EntitySet) (key lost : PropId) (value : Value) : Type 0 where
   pub declared : Prop
   pub key_declared : Prop
   pub is_set : At schema.model.sets 0 set
   pub is_key : At (key_props schema.model first_type) 0 key
   pub key_is_declared : At schema.model.props key.index key_declared
-  pub seven : InDomain (Whole (pos 7)) key_declared.kind
+  pub seven : InDomain shown_key key_declared.kind
   pub has_prop : Contains (props_of schema.model first_type) lost
   pub is_declared : At schema.model.props lost.index declared
   pub holds : InDomain value declared.kind

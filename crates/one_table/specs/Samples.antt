@@ -4,6 +4,7 @@ use Rattle.round_trip.specs.Words.{PropId, Value, Kind, EntityModel, Prop, At, I
 use Rattle.emc_base.specs.declared.value.Value.TheVariants as value
 use Rattle.emc_base.specs.declared.value.Kind.TheVariants as kind
 use Rattle.one_table.specs.OneTable.{first_type}
+use Rattle.one_table.specs.Lost.{shown_key}
 
 -- a small value of a kind of the first form
 abbrev pub sample_of : Kind → Value
@@ -20,8 +21,8 @@ pub record IsDeclared (model : EntityModel) (prop : PropId) (declared : Prop) : 
   pub has_prop : Contains (props_of model first_type) prop
   pub is_declared : At model.props prop.index declared
 
--- The key may be 7, each property may hold a sample of its kind, and each but the key may be null.
+-- The key may be the shown one, each property may hold a sample of its kind, and each but the key may be null.
 pub record AllowsSamples (model : EntityModel) : Type 0 where
-  pub seven : (prop : PropId) (declared : Prop) → IsDeclared model prop declared → Contains (key_props model first_type) prop → InDomain (value.Whole (pos 7)) declared.kind
+  pub seven : (prop : PropId) (declared : Prop) → IsDeclared model prop declared → Contains (key_props model first_type) prop → InDomain shown_key declared.kind
   pub samples : (prop : PropId) (declared : Prop) → IsDeclared model prop declared → InDomain (sample_of declared.kind) declared.kind
   pub nullable : (prop : PropId) (declared : Prop) → IsDeclared model prop declared → Contains (key_props model first_type) prop ⊎ IsTrue declared.nullable

@@ -4,11 +4,11 @@
 
 mod unwritten;
 
-ghost use Rattle.std.specs.Prelude.{◌≡◌, List, [], ◌∷◌, pos};
-ghost use Rattle.round_trip.specs.Words.{PropId, Value, Null, Whole, Place, EntitySet, Schema, State, IsLegal, place_at, FailsAt, HasGoodTables, Keeps};
+ghost use Rattle.std.specs.Prelude.{◌≡◌, List, [], ◌∷◌};
+ghost use Rattle.round_trip.specs.Words.{PropId, Value, Null, Place, EntitySet, Schema, State, IsLegal, place_at, FailsAt, HasGoodTables, Keeps};
 ghost use Rattle.round_trip.specs.declared.FailKind.{FailKind};
 ghost use Rattle.round_trip.specs.declared.FailKind.TheVariants.{Same};
-ghost use Rattle.one_table.specs.Lost.{AreLost, IsLost, lost_values, state_by};
+ghost use Rattle.one_table.specs.Lost.{AreLost, IsLost, lost_values, shown_key, state_by};
 ghost use Rattle.one_table.specs.OneTable.{IsOneTable, WritesEveryProperty};
 
 pub use unwritten::unwritten_property;
@@ -29,5 +29,5 @@ pub fn accepts()
 /// so does null against a value, where every other property but the key may be null.
 pub fn refuses()
     ensures choices { (schema : Schema) → IsOneTable schema → (set : EntitySet) (key : PropId) (ones twos : PropId → Value) → AreLost schema set key ones twos → FailsAt schema Same (place_at set.name (ones key ∷ []) []) (state_by schema.model ones) (state_by schema.model twos) }
-    ensures value { (schema : Schema) → IsOneTable schema → (set : EntitySet) (key lost : PropId) (value : Value) → IsLost schema set key lost value → FailsAt schema Same (place_at set.name (Whole (pos 7) ∷ []) []) (state_by schema.model (lost_values key lost Null)) (state_by schema.model (lost_values key lost value)) }
+    ensures value { (schema : Schema) → IsOneTable schema → (set : EntitySet) (key lost : PropId) (value : Value) → IsLost schema set key lost value → FailsAt schema Same (place_at set.name (shown_key ∷ []) []) (state_by schema.model (lost_values key lost Null)) (state_by schema.model (lost_values key lost value)) }
 {}

@@ -1,5 +1,5 @@
 use Rattle.std.proofs.Common.{ap, sym, ◌∙◌, true≢false}
-use Rattle.json_form.specs.Parts.{tree_at}
+use Rattle.json_form.specs.TreeParts.{tree_at}
 use Rattle.json_form.proofs.Views.{tree_at-None, tree_at-text}
 use Rattle.json_form.proofs.doc.Doc.of_bytes.Goals as goal
 

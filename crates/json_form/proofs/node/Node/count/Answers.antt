@@ -1,6 +1,6 @@
 use Rattle.std.proofs.Common.{◌∙◌, ap, sym}
 use Rattle.json_form.proofs.Views.{count_in-Array, count_in-Object}
-use Rattle.json_form.specs.Parts.{count_in}
+use Rattle.json_form.specs.TreeParts.{count_in}
 use Rattle.serde_json.specs.View.{view}
 use Rattle.json_form.proofs.node.Node.count.Goals as goal
 

@@ -1,6 +1,6 @@
 use Rattle.std.proofs.Common.{ap, sym, ◌∙◌, map}
 use Rattle.serde_json.specs.View.{view}
-use Rattle.json_form.specs.Parts.{items_in}
+use Rattle.json_form.specs.TreeParts.{items_in}
 use Rattle.json_form.proofs.Views.{items_in-Array}
 use Rattle.json_form.proofs.node.Node.items.Goals as goal
 

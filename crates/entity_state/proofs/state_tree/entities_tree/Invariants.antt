@@ -1,0 +1,7 @@
+use Rattle.std.proofs.Common.{◌≡◌, map, take}
+use Rattle.serde_json.specs.View.{view}
+use Rattle.entity_state.specs.StateTree.{entity_tree}
+use Rattle.entity_state.proofs.state_tree.entities_tree.Given as goal
+
+abbrev pub invariant-loop-entity : goal.invariant-loop-entity
+invariant-loop-entity l = map view l.trees.items ≡ map (entity_tree l.model) (take l.entity-index l.entities)

@@ -1,7 +1,0 @@
-use Rattle.std.proofs.Common.{◌≡◌, map, take}
-use Rattle.serde_json.specs.View.{view}
-use Rattle.mapping_core.specs.StateTree.{link_tree}
-use Rattle.mapping_core.proofs.state_tree.links_tree.Given as goal
-
-abbrev pub invariant-loop-link : goal.invariant-loop-link
-invariant-loop-link l = map view l.trees.items ≡ map (link_tree l.assoc) (take l.link-index l.links)

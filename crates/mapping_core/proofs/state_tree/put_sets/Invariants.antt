@@ -1,9 +1,0 @@
-use Rattle.std.proofs.Common.{◌≡◌, map, take}
-use Rattle.std.specs.List.{enumerate_from}
-use Rattle.serde_json.specs.View.{members_view}
-use Rattle.json_form.specs.Trees.{put_all}
-use Rattle.mapping_core.specs.StateTree.{set_member}
-use Rattle.mapping_core.proofs.state_tree.put_sets.Given as goal
-
-abbrev pub invariant-loop-i : goal.invariant-loop-i
-invariant-loop-i l = members_view l.members.entries ≡ put_all (members_view l.initial.members.entries) (map (set_member l.model l.state) (take l.i (enumerate_from 0 l.sets)))
