@@ -4,4 +4,5 @@ pub mod Entities
 pub mod State
 pub mod Rows
 pub mod Selected
+pub mod Names
 pub mod Words

@@ -5,6 +5,7 @@ mod data;
 mod faults;
 mod mapping;
 mod model;
+mod names;
 mod schema;
 mod store;
 
@@ -14,5 +15,6 @@ pub use mapping::{Cond, CondOn, Fragment, LinkFragment, Mapping, Pair, Pick, Tes
 pub use model::{
     Assoc, Constraint, End, EntityModel, EntitySet, EntityType, Mult, Nav, Prop, TypeNode,
 };
+pub use names::{is_name, is_namespace, is_plain_name};
 pub use schema::Schema;
 pub use store::{Column, ForeignKey, StoreModel, Table};

@@ -7,3 +7,4 @@ pub mod Named
 pub mod Pairs
 pub mod OneTable
 pub mod FirstExample
+pub mod Meant

@@ -138,7 +138,7 @@ too_many csdl ssdl msl many = false_from_ne_true (is_first_form csdl ssdl msl)
     let few : have_few_columns csdl ssdl ≡ true = rw (few_in Model csdl two.0, few_in Store ssdl two.1) refl in both_ways (have_few_columns csdl ssdl) many few)
 
 -- documents of the first form mean a mapping of one table
-one_table : (csdl ssdl msl : Data) → is_first_form csdl ssdl msl ≡ true → IsOneTable (meaning_of (content_in csdl ssdl msl))
+pub one_table : (csdl ssdl msl : Data) → is_first_form csdl ssdl msl ≡ true → IsOneTable (meaning_of (content_in csdl ssdl msl))
 unfolding is_first_form
 one_table csdl ssdl msl form =
     let content : Content = content_in csdl ssdl msl in
@@ -146,9 +146,3 @@ one_table csdl ssdl msl form =
     let two = both_declare csdl ssdl msl form in
     let fits = and_parts (names_both content.model content.store content.mapped) (has_good_pairs content.model content.store content.pairs) all.1 in
     one_table_of content (good_in Model csdl two.0) (good_in Store ssdl two.1) (are_paired content.model content.store content.pairs fits.1)
-
--- the same of what is read of them
-pub one_table_read : (csdl ssdl msl : Data) (content : Content) (schema : Schema) → is_first_form csdl ssdl msl ≡ true → content ≡ content_in csdl ssdl msl
-    → schema ≡ meaning_of content → IsOneTable schema
-one_table_read csdl ssdl msl content schema form read means =
-    subst IsOneTable (sym (means ∙ ap meaning_of read)) (one_table csdl ssdl msl form)

@@ -135,10 +135,9 @@ module _ (declared : Declared) (good : AreGood declared)
   }
 
 -- documents of the first form mean a model that allows the samples
-pub form_allows : (csdl ssdl msl : Data) (content : Content) (schema : Schema) → is_first_form csdl ssdl msl ≡ true → content ≡ content_in csdl ssdl msl
-    → schema ≡ meaning_of content → AllowsSamples schema.model
+pub form_allows : (csdl ssdl msl : Data) → is_first_form csdl ssdl msl ≡ true → AllowsSamples (meaning_of (content_in csdl ssdl msl)).model
 unfolding is_first_form is_declaring declared_in
-form_allows csdl ssdl msl content schema form read means =
+form_allows csdl ssdl msl form =
     let all = and_parts (is_declaring Model csdl && is_declaring Store ssdl && is_mapping msl) (does_content_fit (content_in csdl ssdl msl)) form in
     let three = and_parts (is_declaring Model csdl && is_declaring Store ssdl) (is_mapping msl) all.0 in
     let two = and_parts (is_declaring Model csdl) (is_declaring Store ssdl) three.0 in
@@ -146,7 +145,5 @@ form_allows csdl ssdl msl content schema form read means =
     let layout = has_container_layout csdl && has_set_layout csdl && has_type_layout csdl in
     let named = and_parts (layout && list_all (is_property Model) items && has_good_names Model (declared_in Model csdl)) (has_good_columns (declared_in Model csdl)) two.0 in
     let parts = and_parts (layout && list_all (is_property Model) items) (has_good_names Model (declared_in Model csdl)) named.0 in
-    let P : Schema → Type 0 = λ s. AllowsSamples s.model in
-    subst P (sym (means ∙ ap meaning_of read))
-    (model_allows (declared_in Model csdl) (are_good (declared_in Model csdl) named.1)
-    (λ i column here. columns_allow Model items i column (and_parts layout (list_all (is_property Model) items) parts.0).1 here))
+    model_allows (declared_in Model csdl) (are_good (declared_in Model csdl) named.1)
+    (λ i column here. columns_allow Model items i column (and_parts layout (list_all (is_property Model) items) parts.0).1 here)

@@ -5,31 +5,6 @@ use Rattle.emc_base.specs.declared.value.Kind.TheVariants.{Int32, Text}
 use Rattle.round_trip.specs.Words.{EntityModel, StoreModel, Mapping, Schema}
 use Rattle.edm_types.specs.declared.model.TypeNode.{roll-TypeNode}
 
--- a set of people with an id and a name
-unfoldable pub csdl_text : List ℕ
-csdl_text = codes "{\"Namespace\":\"N\","
-    ++ codes "\"EntityContainer\":{\"Name\":\"C\",\"EntitySet\":[{\"Name\":\"People\",\"EntityType\":\"N.Person\"}]},"
-    ++ codes "\"EntityType\":[{\"Name\":\"Person\",\"Key\":[\"Id\"],\"Property\":["
-    ++ codes "{\"Name\":\"Id\",\"Type\":\"Int32\",\"Nullable\":false},"
-    ++ codes "{\"Name\":\"Name\",\"Type\":\"String\",\"MaxLength\":20}]}]}"
-
--- a table for them
-unfoldable pub ssdl_text : List ℕ
-ssdl_text = codes "{\"Namespace\":\"S\","
-    ++ codes "\"EntityContainer\":{\"Name\":\"D\",\"EntitySet\":[{\"Name\":\"People\",\"EntityType\":\"S.People\"}]},"
-    ++ codes "\"EntityType\":[{\"Name\":\"People\",\"Key\":[\"Id\"],\"Property\":["
-    ++ codes "{\"Name\":\"Id\",\"Type\":\"int\",\"Nullable\":false},"
-    ++ codes "{\"Name\":\"Name\",\"Type\":\"nvarchar\",\"MaxLength\":20}]}]}"
-
--- each property to the column of its name
-unfoldable pub msl_text : List ℕ
-msl_text = codes "{\"EntityContainerMapping\":{\"StorageEntityContainer\":\"D\",\"CdmEntityContainer\":\"C\","
-    ++ codes "\"EntitySetMapping\":[{\"Name\":\"People\","
-    ++ codes "\"EntityTypeMapping\":[{\"TypeName\":\"N.Person\","
-    ++ codes "\"MappingFragment\":[{\"StoreEntitySet\":\"People\",\"ScalarProperty\":["
-    ++ codes "{\"Name\":\"Id\",\"ColumnName\":\"Id\"},"
-    ++ codes "{\"Name\":\"Name\",\"ColumnName\":\"Name\"}]}]}]}]}}"
-
 -- the container C of the namespace N with one set, People, of one type, Person: a whole number Id as its key, and a Name of at most
 -- 20 characters that may be null
 unfoldable pub people_model : EntityModel
@@ -81,6 +56,6 @@ people_mapping = record {
   links = [];
 }
 
--- what the three texts mean
+-- what the three texts of the example mean
 abbrev pub people_schema : Schema
 people_schema = record { model = people_model; store = people_store; mapping = people_mapping }

@@ -18,7 +18,7 @@ use Rattle.first_form.specs.declared.content.Content.{Content}
 use Rattle.first_form.specs.Pointed.{text_at, items_at, part_at}
 use Rattle.first_form.specs.declared.shape.Shape.TheVariants as shape
 use Rattle.first_form.specs.Shapes.{has_shape}
-use Rattle.first_form.specs.Names.{is_name, is_plain_name, is_namespace}
+use Rattle.edm_types.specs.Names.{is_name, is_plain_name, is_namespace}
 use Rattle.first_form.specs.Declaring.{is_property, is_given_name, declared_in}
 
 -- an array of one item
@@ -72,13 +72,17 @@ place_of name columns = position_or_len (λ column. bytes_eq column.name name) c
 abbrev pub has_column : List ℕ → List Column → Bool
 has_column name columns = nat_lt (place_of name columns) (length columns)
 
+-- the most properties of the one type, and columns of the one table
+abbrev pub most_columns : ℕ
+most_columns = 16
+
 -- no more properties or columns than the form has
 abbrev pub has_few_columns : Data → Bool
-has_few_columns d = nat_le (length (items_at (codes "/EntityType/0/Property") d)) 16
+has_few_columns d = nat_le (length (items_at (codes "/EntityType/0/Property") d)) most_columns
 
--- one to sixteen properties or columns of different names, one of them the key
+-- at least one and not too many properties or columns of different names, one of them the key
 abbrev pub has_good_columns : Declared → Bool
-has_good_columns declared = nat_le 1 (length declared.columns) && nat_le (length declared.columns) 16 && have_different_names declared.columns
+has_good_columns declared = nat_le 1 (length declared.columns) && nat_le (length declared.columns) most_columns && have_different_names declared.columns
     && has_column declared.key declared.columns && list_all (is_key_or_nullable declared.key) declared.columns
 
 -- no more properties or columns than the form has, in either document

@@ -1,10 +1,10 @@
-ghost use Rattle.std.specs.Prelude.{◌≡◌, ◌<◌, ◌^◌, [], ◌∷◌, IfOk, IfSome, length, map, option_map};
+ghost use Rattle.std.specs.Prelude.{◌≡◌, ◌<◌, ◌^◌, ℕ, List, [], ◌∷◌, IfOk, Some, length, map};
+ghost use Rattle.round_trip.specs.Words.{Schema};
 ghost use Rattle.json_form.specs.Documents.{tree_of};
 ghost use Rattle.json_form.specs.Nodes.{part_of};
 ghost use Rattle.first_form.specs.Form.{content_in};
-ghost use Rattle.first_form.specs.Meaning.{first_form_meaning, fragment_of, ids_from, mapping_of, meaning_of, model_of, one_tree, prop_of, set_of, store_of, table_of, type_of};
+ghost use Rattle.first_form.specs.Meaning.{first_form_meaning, fragment_of, ids_from, mapping_of, meaning_of, meaning_of_texts, model_of, one_tree, prop_of, set_of, store_of, table_of, type_of};
 ghost use Rattle.one_table.specs.Samples.{AllowsSamples};
-ghost use Rattle.first_form.specs.Schemas.{schema_of};
 ghost use Rattle.one_table.specs.OneTable.{IsOneTable};
 
 use crate::content::{Content, is_first_form, read_content};
@@ -12,31 +12,27 @@ use crate::declared_form::Declared;
 use crate::form::{have_few_columns, short_place_of};
 use crate::mapped_form::MappingPart;
 use edm_types::{
-    Column, EntityModel, EntitySet, EntityType, Fragment, Mapping, Pair, Pick, Prop, StoreModel,
-    Table, TypeNode,
+    Column, EntityModel, EntitySet, EntityType, Fragment, Mapping, Pair, Pick, Prop, Schema,
+    StoreModel, Table, TypeNode,
 };
 use emc_base::{ColId, Memory, PropId, Seq, SetId, TableId, Txt, TypeId};
 use json_form::{Doc, Node};
 use std::alloc::Global;
 
-/// What three documents mean together.
-#[derive(Drop)]
-pub struct Meaning {
-    pub model: EntityModel,
-    pub store: StoreModel,
-    pub mapping: Mapping,
-}
+/// The law of the first form: what its documents mean maps one set to one table, and allows the values with which a state is shown.
+pub fn first_form_is_one_table()
+    ensures one_table { (csdl ssdl msl : List ℕ) (schema : Schema) → meaning_of_texts csdl ssdl msl ≡ Some schema → IsOneTable schema }
+    ensures samples { (csdl ssdl msl : List ℕ) (schema : Schema) → meaning_of_texts csdl ssdl msl ≡ Some schema → AllowsSamples schema.model }
+{}
 
-/// What three documents mean; None where they aren't of the first form.
+/// What three documents mean together; `None` exactly where they aren't of the first form. `Memory` comes where there is none for it.
 pub fn read_first_form(
     alloc: Global,
     csdl: &Doc,
     ssdl: &Doc,
     msl: &Doc,
-) -> Result<Option<Meaning>, Memory>
-    ensures meaning { IfOk result (λ found. option_map schema_of found ≡ first_form_meaning (tree_of csdl.now) (tree_of ssdl.now) (tree_of msl.now)) }
-    ensures one_table { IfOk result (λ found. IfSome found (λ meaning. IsOneTable (schema_of meaning))) }
-    ensures samples { IfOk result (λ found. IfSome found (λ meaning. AllowsSamples meaning.model)) }
+) -> Result<Option<Schema>, Memory>
+    ensures { IfOk result (λ found. found ≡ first_form_meaning (tree_of csdl.now) (tree_of ssdl.now) (tree_of msl.now)) }
 {
     let (csdl, ssdl, msl) = (csdl.root(), ssdl.root(), msl.root());
     if !have_few_columns(&csdl, &ssdl) {
@@ -59,21 +55,19 @@ fn meaning_in(
     ssdl: &Node<'_>,
     msl: &Node<'_>,
     content: &Content,
-) -> Result<Option<Meaning>, Memory>
+) -> Result<Option<Schema>, Memory>
     requires { content.now ≡ content_in (part_of csdl.now) (part_of ssdl.now) (part_of msl.now) }
-    ensures meaning { IfOk result (λ found. option_map schema_of found ≡ first_form_meaning (part_of csdl.now) (part_of ssdl.now) (part_of msl.now)) }
-    ensures one_table { IfOk result (λ found. IfSome found (λ meaning. IsOneTable (schema_of meaning))) }
-    ensures samples { IfOk result (λ found. IfSome found (λ meaning. AllowsSamples meaning.model)) }
+    ensures { IfOk result (λ found. found ≡ first_form_meaning (part_of csdl.now) (part_of ssdl.now) (part_of msl.now)) }
 {
     if !is_first_form(csdl, ssdl, msl, content) {
         return Ok(None);
     }
-    let meaning = meaning_of(alloc, content)?;
-    Ok(Some(meaning))
+    let schema = meaning_of(alloc, content)?;
+    Ok(Some(schema))
 }
 
-fn meaning_of(alloc: Global, content: &Content) -> Result<Meaning, Memory>
-    ensures { IfOk result (λ meaning. schema_of meaning ≡ meaning_of content.now) }
+fn meaning_of(alloc: Global, content: &Content) -> Result<Schema, Memory>
+    ensures { IfOk result (λ schema. schema ≡ meaning_of content.now) }
 {
     let model = model_of(alloc, &content.model)?;
     let store = match store_of(alloc, &content.store) {
@@ -84,7 +78,7 @@ fn meaning_of(alloc: Global, content: &Content) -> Result<Meaning, Memory>
         }
     };
     match mapping_of(alloc, &content.pairs) {
-        Ok(mapping) => Ok(Meaning {
+        Ok(mapping) => Ok(Schema {
             model,
             store,
             mapping,

@@ -1,3 +1,1 @@
-pub mod Plain
-pub mod LostProperty
-pub mod Meant
+pub mod Told

@@ -1,36 +1,35 @@
--- What compiling three documents answers, and when.
-use Rattle.std.specs.Prelude.{◌≡◌, ◌↔◌, ℕ, ◌≤◌, List, Some, Result, Ok, Err, IsSome, unwrap_or, ⊤}
-use Rattle.round_trip.specs.Words.{Place, Schema, State, FailsAt, RoundTrips, KeepsEveryState}
-use Rattle.round_trip.specs.declared.FailKind.{FailKind}
-use Rattle.round_trip.specs.declared.FailKind.TheVariants as kind
+-- What reading three documents answers, what deciding on what they mean answers, and what both together do.
+use Rattle.std.specs.Prelude.{◌≡◌, ℕ, List, Result, Ok, Err, ⊤}
+use Rattle.edm_types.specs.declared.faults.VocabFault.{VocabFault}
+use Rattle.edm_types.specs.declared.faults.VocabFault.TheVariants as read
+use Rattle.round_trip.specs.Words.{Keeps, Schema}
+use Rattle.witness_state.specs.Failures.{IsFailureOf, IsPrintable}
 use Rattle.mapping_core.specs.declared.compiled.Compiled.{Compiled}
-use Rattle.mapping_core.specs.declared.verdict.Failure.{Failure}
+use Rattle.mapping_core.specs.declared.verdict.Refusal.{Refusal}
+use Rattle.mapping_core.specs.declared.verdict.Refusal.TheVariants as refusal
 use Rattle.mapping_core.specs.declared.verdict.Verdict.{Verdict}
-use Rattle.mapping_core.specs.declared.verdict.Verdict.TheVariants.{Rule, Fails, Memory}
-use Rattle.mapping_core.specs.Rules.{Means, least_rule}
-use Rattle.entity_state.specs.StateTree.{IsInKeyOrder}
+use Rattle.mapping_core.specs.declared.verdict.Verdict.TheVariants.{Rule, Limit, Fails, Memory}
+use Rattle.mapping_core.specs.Rules.{IsToldRule, Means}
 
--- the place of a kind in the order in which kinds are told
-abbrev pub kind_number : FailKind → ℕ
-kind_number kind.Clash = 1
-kind_number kind.Null = 2
-kind_number kind.Disagrees = 3
-kind_number kind.Dangling = 4
-kind_number kind.Same = 5
+-- Ok with what the documents mean, where they break no rule; else the rule that is told. Memory says nothing.
+abbrev pub ReadsSchema : List ℕ → List ℕ → List ℕ → Result Schema VocabFault → Type 0
+ReadsSchema csdl ssdl msl (Ok schema) = Means csdl ssdl msl schema
+ReadsSchema csdl ssdl msl (Err (read.Rule fault)) = IsToldRule csdl ssdl msl fault
+ReadsSchema csdl ssdl msl (Err read.Memory) = ⊤
 
--- A legal state that fails, by the first kind by which any does, at a place at which it does. The other state is given exactly for
--- the kind same. Both stand in key order.
-pub record IsFailureOf (schema : Schema) (failure : Failure) : Type 0 where
-  pub fails : FailsAt schema failure.kind failure.place failure.state (unwrap_or failure.other failure.state)
-  pub earliest : (kind : FailKind) (place : Place) (c d : State) → FailsAt schema kind place c d → kind_number failure.kind ≤ kind_number kind
-  pub given : IsSome failure.other ↔ (failure.kind ≡ kind.Same)
-  pub ordered : IsInKeyOrder schema.model failure.state
-  pub other_ordered : IsInKeyOrder schema.model (unwrap_or failure.other failure.state)
+-- Ok where every legal state of the schema has tables of its own; else a legal state that fails, with the schema given back. No limit is
+-- passed so far. Memory says nothing.
+abbrev pub Decides : Schema → Result Compiled Refusal → Type 0
+Decides schema (Ok compiled) = (compiled ≡ schema) × Keeps schema
+Decides schema (Err (refusal.Limit back fault)) = ⊥
+Decides schema (Err (refusal.Fails back failure)) = (back ≡ schema) × IsFailureOf schema failure × IsPrintable schema.model failure
+Decides schema (Err refusal.Memory) = ⊤
 
--- Ok where every legal state of what the documents mean round-trips; Rule where one is broken, with the one that is told; Fails
--- where a legal state fails. Memory says nothing.
+-- Ok where the documents break no rule and every legal state of what they mean has tables of its own; else the rule that is told, or,
+-- where none is broken, a legal state that fails. No limit is passed so far. Memory says nothing.
 abbrev pub Compiles : List ℕ → List ℕ → List ℕ → Result Compiled Verdict → Type 0
-Compiles csdl ssdl msl (Ok compiled) = Means csdl ssdl msl compiled × RoundTrips compiled × KeepsEveryState compiled
-Compiles csdl ssdl msl (Err (Rule fault)) = least_rule csdl ssdl msl ≡ Some fault
-Compiles csdl ssdl msl (Err (Fails failure)) = (schema : Schema) × Means csdl ssdl msl schema × IsFailureOf schema failure
+Compiles csdl ssdl msl (Ok compiled) = Means csdl ssdl msl compiled × Keeps compiled
+Compiles csdl ssdl msl (Err (Rule fault)) = IsToldRule csdl ssdl msl fault
+Compiles csdl ssdl msl (Err (Limit fault)) = ⊥
+Compiles csdl ssdl msl (Err (Fails failure)) = (schema : Schema) × Means csdl ssdl msl schema × IsFailureOf schema failure × IsPrintable schema.model failure
 Compiles csdl ssdl msl (Err Memory) = ⊤

@@ -1,6 +1,5 @@
-pub mod Parts
-pub mod StateTree
 pub mod Rules
+pub mod Verdicts
 pub mod Compiles
-pub mod Witness
-pub mod Steps
+pub mod Reading
+pub mod Words

@@ -4,15 +4,18 @@
 
 mod compiled;
 mod compiling;
-mod failure;
-mod state;
-mod state_tree;
+mod deciding;
+mod reading;
 mod verdict;
 
-pub use compiled::{Compiled, Parts};
-pub use compiling::{compile, model_of};
-pub use edm_types::{EntityModel, RuleFault, VocabFile};
+pub use compiled::Compiled;
+pub use compiling::compile;
+pub use deciding::decide;
+pub use edm_types::{EntityModel, LimitFault, LimitKind, RuleFault, Schema, VocabFault, VocabFile};
+pub use entity_state::{EntityState, state_text};
+pub use first_form::{PEOPLE_CSDL, PEOPLE_MSL, PEOPLE_SSDL};
+pub use json_form::{Doc, DocFault, place_text, quoted};
+pub use reading::read;
 pub use round_trip::FailKind;
-pub use state::EntityState;
-pub use state_tree::state_text;
-pub use verdict::{Failure, Verdict};
+pub use verdict::{Refusal, Verdict};
+pub use witness_state::Failure;

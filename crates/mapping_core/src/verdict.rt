@@ -1,35 +1,53 @@
-use crate::state::EntityState;
-use edm_types::RuleFault;
-use emc_base::Place;
-use round_trip::FailKind;
+use edm_types::{LimitFault, RuleFault, Schema, VocabFault};
+use witness_state::Failure;
 
-/// A legal state that fails: how, where, and the state whole; for the kind `Same` the other state with the same tables.
+/// Why a schema is not accepted. It is given back, so that what is told can be told by its names.
 #[derive(Drop)]
-pub struct Failure {
-    pub kind: FailKind,
-    pub place: Place,
-    pub state: EntityState,
-    pub other: Option<EntityState>,
+pub enum Refusal {
+    /// A limit is passed. No document of today's form passes one.
+    Limit(Schema, LimitFault),
+    /// No limit is passed, and a legal state fails.
+    Fails(Schema, Failure),
+    /// Memory ran out.
+    Memory,
 }
 
-/// Why three documents were not accepted.
+/// Why three documents are not accepted.
 #[derive(Drop)]
 pub enum Verdict {
-    /// A rule of the documents is broken: that of the first document that breaks one.
+    /// A rule of the documents is broken: that of the first document that breaks one, the least of that document, at its first place.
     Rule(RuleFault),
-    /// No rule is broken, and a legal state fails.
+    /// No rule is broken, and a limit is passed. No document of today's form passes one.
+    Limit(LimitFault),
+    /// No rule is broken, no limit is passed, and a legal state fails.
     Fails(Failure),
     /// Memory ran out.
     Memory,
 }
 
-impl From<emc_base::Memory> for Verdict {
-    ghost use Rattle.std.specs.Prelude.{◌≡◌};
-    ghost use Rattle.mapping_core.specs.declared.verdict.Verdict.TheVariants.{Memory};
+impl From<VocabFault> for Verdict {
+    ghost use Rattle.mapping_core.specs.Verdicts.{TellsFault};
 
-    ghost from_gives = { λ _ verdict. verdict ≡ Memory };
+    ghost from_gives = { TellsFault };
 
-    fn from(_memory: emc_base::Memory) -> Verdict {
-        Verdict::Memory
+    fn from(fault: VocabFault) -> Verdict {
+        match fault {
+            VocabFault::Rule(fault) => Verdict::Rule(fault),
+            VocabFault::Memory => Verdict::Memory,
+        }
+    }
+}
+
+impl From<Refusal> for Verdict {
+    ghost use Rattle.mapping_core.specs.Verdicts.{TellsRefusal};
+
+    ghost from_gives = { TellsRefusal };
+
+    fn from(refusal: Refusal) -> Verdict {
+        match refusal {
+            Refusal::Limit(_schema, fault) => Verdict::Limit(fault),
+            Refusal::Fails(_schema, failure) => Verdict::Fails(failure),
+            Refusal::Memory => Verdict::Memory,
+        }
     }
 }

@@ -13,6 +13,6 @@ no_meaning csdl ssdl msl many =
     let nothing : Option Schema = None in
     sym (cond-false (is_first_form csdl ssdl msl) (Some (meaning_of (content_in csdl ssdl msl))) nothing (too_many csdl ssdl msl many))
 
-pub returns-then-not-have_few_columns-clause-meaning : goal.returns-then-not-have_few_columns-clause-meaning
-returns-then-not-have_few_columns-clause-meaning c = no_meaning (tree_of c.args.csdl.now) (tree_of c.args.ssdl.now) (tree_of c.args.msl.now)
+pub returns-then-not-have_few_columns : goal.returns-then-not-have_few_columns
+returns-then-not-have_few_columns c = no_meaning (tree_of c.args.csdl.now) (tree_of c.args.ssdl.now) (tree_of c.args.msl.now)
     (sym (λ i. have_few_columns (c.root-csdl.ensures i) (c.root-ssdl.ensures i)) ∙ sym c.if-not-have_few_columns.ensures)

@@ -4,9 +4,13 @@ use Rattle.std.specs.Prelude.{◌&&◌, ◌||◌, ◌==◌, ℕ, List, Bool, not
 use Rattle.std.specs.List.{list_all}
 use Rattle.std.specs.Str.{chars}
 
+-- the most Unicode scalar values of a name
+abbrev pub longest_name : ℕ
+longest_name = 480
+
 -- 1 to 480 Unicode scalar values
 abbrev pub is_name : List ℕ → Bool
-is_name text = nat_le 1 (length (chars text)) && nat_le (length (chars text)) 480
+is_name text = nat_le 1 (length (chars text)) && nat_le (length (chars text)) longest_name
 
 -- one of ; ( ) $
 abbrev pub is_bracket_or_sign : ℕ → Bool

@@ -1,19 +1,22 @@
 ghost use Rattle.std.specs.Prelude.{◌≡◌, ◌==◌, not};
 ghost use Rattle.std.specs.List.{list_all};
-ghost use Rattle.first_form.specs.Names.{is_bracket_or_sign, is_name, is_namespace, is_plain_name};
+ghost use Rattle.edm_types.specs.Names.{is_bracket_or_sign, is_name, is_namespace, is_plain_name};
 
 use emc_base::character_count;
 
-// A text of 1 to 480 Unicode scalar values.
-pub(crate) fn is_name(text: &str) -> bool
+/// The most Unicode scalar values of a name.
+const LONGEST_NAME: usize = 480;
+
+/// Whether a text is a name: 1 to 480 Unicode scalar values. Source: the names of CSDL, SSDL and MSL in this project's profile.
+pub fn is_name(text: &str) -> bool
     ensures { result ≡ is_name text.now }
 {
     let count = character_count(text);
-    1 <= count && count <= 480
+    1 <= count && count <= LONGEST_NAME
 }
 
-// A name that may hold a dot, and none of ; ( ) $.
-pub(crate) fn is_namespace(text: &str) -> bool
+/// Whether a text is a name that holds none of `;` `(` `)` `$`, as a Namespace is. It may hold a dot.
+pub fn is_namespace(text: &str) -> bool
     ensures { result ≡ is_namespace text.now }
 {
     is_name(text) && has_no_bracket_or_sign(text.as_bytes())
@@ -31,8 +34,8 @@ fn is_bracket_or_sign(byte: u8) -> bool
     byte == b';' || byte == b'(' || byte == b')' || byte == b'$'
 }
 
-// A name that holds none of . ; ( ) $.
-pub(crate) fn is_plain_name(text: &str) -> bool
+/// Whether a text is a name that holds none of `.` `;` `(` `)` `$`, as those of types, sets and properties are.
+pub fn is_plain_name(text: &str) -> bool
     ensures { result ≡ is_plain_name text.now }
 {
     is_namespace(text) && has_no_dot(text.as_bytes())

@@ -1,0 +1,126 @@
+-- Which rule is told, by how far the three documents could be read.
+use Rattle.std.proofs.Common.{◌≡◌, ◌≢◌, ◌<◌, ◌≤◌, ℕ, List, [], Option, Some, None, Result, Ok, Err, IsErrAnd, inl, inr, ⊎_elim, refl, sym, subst, arith}
+use Rattle.std.proofs.lemmas.Bool.{cases_lt}
+use Rattle.std.specs.declared.cmp.Ordering.TheVariants.{Greater}
+use Rattle.serde_json.specs.Data.{Data}
+use Rattle.json_form.specs.declared.pointer.Step.{Step}
+use Rattle.json_form.specs.Pointers.{steps_cmp}
+use Rattle.json_form.specs.TreeParts.{tree_at}
+use Rattle.edm_types.specs.declared.faults.VocabFault.{VocabFault}
+use Rattle.edm_types.specs.declared.faults.VocabFault.TheVariants as read
+use Rattle.edm_types.specs.declared.faults.VocabFile.TheVariants.{Csdl, Ssdl, Msl}
+use Rattle.round_trip.specs.Words.{Schema, VocabFile}
+use Rattle.first_form.specs.Meaning.{first_form_meaning, meaning_of_texts}
+use Rattle.mapping_core.specs.Compiles.{ReadsSchema}
+use Rattle.mapping_core.specs.Reading.{IsFaultOrMemory, ReadsAs, fault_at_root}
+use Rattle.mapping_core.specs.Rules.{AreUnbuilt, BreaksAt, IsNotJson, IsToldRule, Means, bytes_of, file_number, not_json, unbuilt}
+
+-- the root comes after no place
+root_first : (place : List Step) → place ≡ [] → steps_cmp [] place ≢ Greater
+root_first place root = let P : List Step → Type 0 = λ other. steps_cmp [] other ≢ Greater in subst P (sym root) (λ greater. cc)
+
+module _ (csdl ssdl msl : List ℕ) where
+  -- the first file that isn't JSON is told
+  tells_not_json : (file : VocabFile) → IsNotJson csdl ssdl msl file
+      → ((earlier : VocabFile) → file_number earlier < file_number file → ¬ IsNotJson csdl ssdl msl earlier) → IsToldRule csdl ssdl msl (fault_at_root file not_json)
+  tells_not_json file broken before = record {
+    place = [];
+    broken = inl (refl, refl, broken);
+    spelled = refl;
+    in_first_file = first_file;
+    least = least_rule;
+    first = first_place;
+  }
+    where
+      first_file : (other : VocabFile) (rule : ℕ) (place : List Step) → BreaksAt csdl ssdl msl other rule place → file_number file ≤ file_number other
+      first_file other rule place (inl json) = ⊎_elim
+          (λ (earlier : file_number other < file_number file). absurd (before other earlier json.2))
+          (λ (later : file_number file ≤ file_number other). later)
+          (cases_lt (file_number other) (file_number file))
+      first_file other rule place (inr last) = absurd (last.3.json file broken)
+
+      least_rule : (rule : ℕ) (place : List Step) → BreaksAt csdl ssdl msl file rule place → not_json ≤ rule
+      least_rule rule place (inl json) = let is : rule ≡ not_json = json.0 in omega arith
+      least_rule rule place (inr last) = absurd (last.3.json file broken)
+
+      first_place : (place : List Step) → BreaksAt csdl ssdl msl file not_json place → steps_cmp [] place ≢ Greater
+      first_place place (inl json) = root_first place json.1
+      first_place place (inr last) = root_first place last.1
+
+  -- what stops the reading of a file is told
+  stops : (file : VocabFile) (fault : VocabFault) → ReadsAs file (tree_at (bytes_of csdl ssdl msl file)) (Err fault)
+      → ((earlier : VocabFile) → file_number earlier < file_number file → ¬ IsNotJson csdl ssdl msl earlier) → ReadsSchema csdl ssdl msl (Err fault)
+  stops file (read.Rule fault) reads before = subst (IsToldRule csdl ssdl msl) (sym reads.1) (tells_not_json file reads.0 before)
+  stops file read.Memory reads before = cc
+
+  pub stops_at_csdl : (fault : VocabFault) → ReadsAs Csdl (tree_at csdl) (Err fault) → ReadsSchema csdl ssdl msl (Err fault)
+  stops_at_csdl fault reads = stops Csdl fault reads (λ earlier below. absurd (omega arith))
+
+  module _ (c : Data) (is_csdl : tree_at csdl ≡ Some c) where
+    pub stops_at_ssdl : (fault : VocabFault) → ReadsAs Ssdl (tree_at ssdl) (Err fault) → ReadsSchema csdl ssdl msl (Err fault)
+    stops_at_ssdl fault reads = stops Ssdl fault reads before
+      where
+        before : (earlier : VocabFile) → file_number earlier < 1 → ¬ IsNotJson csdl ssdl msl earlier
+        before Csdl below none = cc
+        before Ssdl below none = absurd (omega arith)
+        before Msl below none = absurd (omega arith)
+
+    module _ (s : Data) (is_ssdl : tree_at ssdl ≡ Some s) where
+      pub stops_at_msl : (fault : VocabFault) → ReadsAs Msl (tree_at msl) (Err fault) → ReadsSchema csdl ssdl msl (Err fault)
+      stops_at_msl fault reads = stops Msl fault reads before
+        where
+          before : (earlier : VocabFile) → file_number earlier < 2 → ¬ IsNotJson csdl ssdl msl earlier
+          before Csdl below none = cc
+          before Ssdl below none = cc
+          before Msl below none = absurd (omega arith)
+
+      module _ (m : Data) (is_msl : tree_at msl ≡ Some m) where
+        -- the three are JSON
+        all_json : (file : VocabFile) → ¬ IsNotJson csdl ssdl msl file
+        all_json Csdl none = cc
+        all_json Ssdl none = cc
+        all_json Msl none = cc
+
+        meaning_is : meaning_of_texts csdl ssdl msl ≡ first_form_meaning c s m
+        meaning_is = rw (is_csdl, is_ssdl, is_msl) refl
+
+        -- documents that mean something break no rule
+        pub means : (schema : Schema) → Some schema ≡ first_form_meaning c s m → Means csdl ssdl msl schema
+        means schema is = record { unbroken = unbroken; meaning = cc (meaning_is, is) }
+          where
+            unbroken : (file : VocabFile) (rule : ℕ) (place : List Step) → ¬ BreaksAt csdl ssdl msl file rule place
+            unbroken file rule place (inl json) = all_json file json.2
+            unbroken file rule place (inr last) = let none : meaning_of_texts csdl ssdl msl ≡ None = last.3.meaningless in cc (meaning_is, is)
+
+        -- documents that mean nothing break the last rule
+        tells_unbuilt : None ≡ first_form_meaning c s m → IsToldRule csdl ssdl msl (fault_at_root Msl unbuilt)
+        tells_unbuilt is = record {
+          place = [];
+          broken = inr (refl, refl, refl, record { json = all_json; meaningless = cc (meaning_is, is) });
+          spelled = refl;
+          in_first_file = first_file;
+          least = least_rule;
+          first = first_place;
+        }
+          where
+            first_file : (other : VocabFile) (rule : ℕ) (place : List Step) → BreaksAt csdl ssdl msl other rule place → 2 ≤ file_number other
+            first_file other rule place (inl json) = absurd (all_json other json.2)
+            first_file other rule place (inr last) = let P : VocabFile → Type 0 = λ file. 2 ≤ file_number file in subst P (sym last.2) (omega arith)
+
+            least_rule : (rule : ℕ) (place : List Step) → BreaksAt csdl ssdl msl Msl rule place → unbuilt ≤ rule
+            least_rule rule place (inl json) = absurd (all_json Msl json.2)
+            least_rule rule place (inr last) = let is_last : rule ≡ unbuilt = last.0 in omega arith
+
+            first_place : (place : List Step) → BreaksAt csdl ssdl msl Msl unbuilt place → steps_cmp [] place ≢ Greater
+            first_place place (inl json) = root_first place json.1
+            first_place place (inr last) = root_first place last.1
+
+        pub is_unbuilt : (fault : VocabFault) → None ≡ first_form_meaning c s m → IsFaultOrMemory (fault_at_root Msl unbuilt) fault → ReadsSchema csdl ssdl msl (Err fault)
+        is_unbuilt (read.Rule fault) is told = subst (IsToldRule csdl ssdl msl) (sym told) (tells_unbuilt is)
+        is_unbuilt read.Memory is told = cc
+
+-- what stops the reading is what it answers
+pub handed_on : (csdl ssdl msl : List ℕ) (told : VocabFault) (result : Result Schema VocabFault) → IsErrAnd result (λ fault. fault ≡ told)
+    → ReadsSchema csdl ssdl msl (Err told) → ReadsSchema csdl ssdl msl result
+handed_on csdl ssdl msl told (Ok schema) is reads = absurd is
+handed_on csdl ssdl msl told (Err fault) is reads = let P : VocabFault → Type 0 = λ other. ReadsSchema csdl ssdl msl (Err other) in subst P (sym is) reads
