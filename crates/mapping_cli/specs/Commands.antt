@@ -1,16 +1,14 @@
 -- The forms of words that are commands.
-use Rattle.std.specs.Prelude.{ℕ, List, [], ◌∷◌, Option, Some, None, if◌then◌else◌, codes}
+use Rattle.std.specs.Prelude.{ℕ, List, [], ◌∷◌, drop, length, ◌==◌, ◌&&◌, Option, Some, None, if◌then◌else◌, codes}
 use Rattle.std.specs.Str.{bytes_eq}
-
--- a command with the names of its files
-pub data Command : Type 0 where
-  check : (csdl ssdl msl : List ℕ) → Command
+use Rattle.mapping_cli.specs.declared.words.Command.{Command}
+use Rattle.mapping_cli.specs.declared.words.Command.TheVariants.{Check}
 
 -- the command that the words are; None where they are none
 abbrev pub command_of : List (List ℕ) → Option Command
-command_of (word ∷ csdl ∷ ssdl ∷ msl ∷ []) = if bytes_eq word (codes "check") then Some (check csdl ssdl msl) else None
-command_of _ = None
+command_of [] = None
+command_of (word ∷ names) = if bytes_eq word (codes "check") && length names == 3 then Some Check else None
 
--- the input files, in the order of the words
-abbrev pub inputs_of : Command → List (List ℕ)
-inputs_of (check csdl ssdl msl) = csdl ∷ ssdl ∷ msl ∷ []
+-- the words that name the input files of a command, in the order in which the files are read
+abbrev pub inputs_of : Command → List (List ℕ) → List (List ℕ)
+inputs_of Check words = drop 1 words

@@ -1,7 +1,8 @@
 pub mod Statuses
 pub mod Texts
-pub mod World
 pub mod Commands
+pub mod Inputs
 pub mod Gives
+pub mod World
 pub mod Runs
-pub mod Steps
+pub mod Reading

@@ -1,22 +1,13 @@
 -- What the program prints. Each text ends with a line feed.
 use Rattle.std.specs.Prelude.{ℕ, List, [], ◌∷◌, ◌++◌, Option, Some, None, codes, decimal}
-use Rattle.serde_json.specs.Data.{Data, string, object, no_members, put}
-use Rattle.serde_json.specs.Written.{compact_text}
-use Rattle.json_form.specs.Trees.{key_tree}
-use Rattle.round_trip.specs.Words.{Place, EntityModel, VocabFile, RuleFault, State}
-use Rattle.round_trip.specs.declared.FailKind.{FailKind}
-use Rattle.edm_types.specs.declared.faults.VocabFile.TheVariants.{Csdl, Ssdl, Msl}
-use Rattle.round_trip.specs.declared.FailKind.TheVariants as kind
-use Rattle.mapping_core.specs.declared.verdict.Failure.{Failure}
-use Rattle.entity_state.specs.StateTree.{state_tree}
+use Rattle.mapping_core.specs.Words.{EntityModel, FailKind, Failure, LimitFault, LimitKind, RuleFault, State, VocabFile, compact_text, place_tree, quoted, state_tree}
+use Rattle.mapping_core.specs.Words.{Csdl, Ssdl, Msl}
+use Rattle.mapping_core.specs.Words.{Sets, Associations, Types, Properties, Tables, Columns, Foreign, Fragments, Constants, Regions}
+use Rattle.mapping_core.specs.Words.{Clash, Null, Disagrees, Dangling, Same}
 
 -- the words, and a line feed
 abbrev pub line : List ℕ → List ℕ
 line text = text ++ 10 ∷ []
-
--- a text as JSON
-abbrev pub quote : List ℕ → List ℕ
-quote text = compact_text (string text)
 
 -- all commands, also those that aren't built
 unfoldable pub usage_text : List ℕ
@@ -28,7 +19,7 @@ accepted_text = line (codes "accepted")
 
 -- what is wrong with a named file
 unfoldable pub file_text : List ℕ → List ℕ → List ℕ
-file_text word name = codes "file " ++ (word ++ (codes " " ++ line (quote name)))
+file_text word name = codes "file " ++ (word ++ (codes " " ++ line (quoted name)))
 
 -- the word for a document
 abbrev pub file_word : VocabFile → List ℕ
@@ -38,19 +29,32 @@ file_word Msl = codes "msl"
 
 -- a broken rule, with its number, its file and its place
 unfoldable pub rule_text : RuleFault → List ℕ
-rule_text fault = codes "rule V" ++ (decimal fault.rule ++ (codes " " ++ (file_word fault.file ++ (codes " " ++ line (quote fault.place)))))
+rule_text fault = codes "rule V" ++ (decimal fault.rule ++ (codes " " ++ (file_word fault.file ++ (codes " " ++ line (quoted fault.place)))))
+
+-- the word for what is limited
+abbrev pub limit_word : LimitKind → List ℕ
+limit_word Sets = codes "sets"
+limit_word Associations = codes "associations"
+limit_word Types = codes "types"
+limit_word Properties = codes "properties"
+limit_word Tables = codes "tables"
+limit_word Columns = codes "columns"
+limit_word Foreign = codes "foreign"
+limit_word Fragments = codes "fragments"
+limit_word Constants = codes "constants"
+limit_word Regions = codes "regions"
+
+-- a passed limit: what is limited, where, how many there are, and how many may be
+unfoldable pub limit_text : LimitFault → List ℕ
+limit_text fault = codes "limit " ++ (limit_word fault.what ++ (codes " " ++ (quoted fault.name ++ (codes " " ++ (decimal fault.counted ++ (codes " " ++ line (decimal fault.allowed)))))))
 
 -- the word for a kind of failure
 abbrev pub kind_word : FailKind → List ℕ
-kind_word kind.Clash = codes "clash"
-kind_word kind.Null = codes "null"
-kind_word kind.Disagrees = codes "disagrees"
-kind_word kind.Dangling = codes "dangling"
-kind_word kind.Same = codes "same"
-
--- a place as an object
-abbrev pub place_tree : Place → Data
-place_tree place = object (put (codes "part") (string place.part) (put (codes "name") (string place.name) (put (codes "key") (key_tree place.key) no_members)))
+kind_word Clash = codes "clash"
+kind_word Null = codes "null"
+kind_word Disagrees = codes "disagrees"
+kind_word Dangling = codes "dangling"
+kind_word Same = codes "same"
 
 -- a line with a state
 abbrev pub state_line : List ℕ → EntityModel → State → List ℕ

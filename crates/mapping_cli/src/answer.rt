@@ -8,7 +8,7 @@ pub(crate) struct Answer {
     pub status: Status,
 }
 
-/// Why a command stopped before its verdict.
+/// Why a command stopped before its own work.
 #[derive(Drop)]
 pub(crate) enum Halt {
     /// This is printed in place of it.

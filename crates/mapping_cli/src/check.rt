@@ -1,124 +1,54 @@
-ghost use Rattle.std.specs.Prelude.{◌≡◌, IfOk, IsSome, Err};
-ghost use Rattle.emc_base.specs.contracts.files.Files as F;
-ghost use Rattle.mapping_core.specs.Compiles.{Compiles};
-ghost use Rattle.mapping_core.specs.Rules.{meaning_at};
-ghost use Rattle.mapping_cli.specs.declared.status.Status.TheVariants.{MappingRefused};
-ghost use Rattle.mapping_cli.specs.Commands.{check};
-ghost use Rattle.mapping_cli.specs.Gives.{GivesCheck};
-ghost use Rattle.mapping_cli.specs.Steps.{EndsOn, IsAnswer, IsTold, ReadsInput, ShowsFailure, TellsFault};
-ghost use Rattle.mapping_cli.specs.Texts.{file_text};
+ghost use Rattle.std.specs.Prelude.{◌≡◌, ◌≤◌, IfOk, length, Option};
+ghost use Rattle.emc_base.specs.Files.{FileMap};
+ghost use Rattle.mapping_core.specs.Words.{IsMeant};
+ghost use Rattle.mapping_cli.specs.Gives.{GivesOn, GivesVerdict, Says};
+ghost use Rattle.mapping_cli.specs.Texts.{accepted_text};
+ghost use Rattle.mapping_cli.specs.declared.status.Status.TheVariants.{Done};
+ghost use Rattle.mapping_cli.specs.declared.words.Command.TheVariants.{Check};
 
-use crate::answer::{Answer, Halt};
+use crate::answer::Answer;
 use crate::status::Status;
-use crate::texts::{accepted_text, fail_text, file_text, rule_text};
-use emc_base::{Bin, Files, Memory, ReadFault, Txt};
-use mapping_core::{Failure, Verdict, compile, model_of};
+use crate::texts::{accepted_text, fail_text, limit_text, rule_text};
+use emc_base::{Bin, Memory, Seq, Txt};
+use mapping_core::{Refusal, Schema, VocabFault, decide, read};
 use std::alloc::Global;
 
-/// The largest input file, in bytes.
-const LARGEST_FILE: u64 = 16_777_216;
-
-/// The verdict on the documents of three files, or what is told of the first of them that wasn't read.
-pub(crate) fn check<F: Files>(
-    alloc: Global,
-    files: &mut F,
-    csdl: &Txt,
-    ssdl: &Txt,
-    msl: &Txt,
-) -> Result<Answer, Halt>
-    ensures same { F.held files.new ≡ F.held files.old }
-    ensures ends { IsAnswer (EndsOn (check csdl.now ssdl.now msl.now) (F.held files.old) (F.fault_count files.old) (F.fault_count files.new)) result }
+/// The verdict on the documents that are the first three of these contents.
+pub(crate) fn check(alloc: Global, contents: &Seq<Bin>) -> Result<Answer, Memory>
+    requires { 3 ≤ length contents.now }
+    ensures { (held : Option FileMap) → IfOk result (λ answer. GivesOn held answer.text answer.status held Check contents.now) }
 {
-    let csdl = read_input(alloc, files, csdl)?;
-    let ssdl = read_input(alloc, files, ssdl)?;
-    let msl = read_input(alloc, files, msl)?;
-    Ok(verdict_on(alloc, &csdl, &ssdl, &msl)?)
-}
-
-// The content of an input file, or what is told where it isn't read.
-fn read_input<F: Files>(alloc: Global, files: &mut F, name: &Txt) -> Result<Bin, Halt>
-    ensures same { F.held files.new ≡ F.held files.old }
-    ensures reads { ReadsInput name.now (F.held files.old) (F.fault_count files.old) (F.fault_count files.new) result }
-{
-    match files.read(alloc, name, LARGEST_FILE) {
-        Ok(bytes) => Ok(bytes),
-        Err(fault) => Err(told_of(alloc, name.as_str(), fault)),
+    match read(alloc, contents.at(0), contents.at(1), contents.at(2)) {
+        Ok(schema) => verdict_on(alloc, schema),
+        Err(VocabFault::Rule(fault)) => refused(rule_text(alloc, &fault)),
+        Err(VocabFault::Memory) => Err(Memory),
     }
 }
 
-// What is told of a file that isn't read.
-fn told_of(alloc: Global, name: &str, fault: ReadFault) -> Halt
-    ensures { TellsFault name.now fault result }
+// The verdict on what documents mean that break no rule.
+fn verdict_on(alloc: Global, schema: Schema) -> Result<Answer, Memory>
+    requires { IsMeant schema }
+    ensures { (held : Option FileMap) → IfOk result (λ answer. GivesVerdict held answer.text answer.status held (λ schema. Says held answer.text answer.status held accepted_text Done) schema) }
 {
-    match fault {
-        ReadFault::Missing => told(alloc, "missing", name),
-        ReadFault::TooLarge => told(alloc, "toolarge", name),
-        ReadFault::Failed => told(alloc, "failed", name),
-        ReadFault::Memory => Halt::Memory,
-    }
-}
-
-fn told(alloc: Global, word: &str, name: &str) -> Halt
-    ensures { IsTold (file_text word.now name.now) result }
-{
-    match file_text(alloc, word, name) {
-        Ok(text) => {
-            let status = Status::FileFault;
-            Halt::Tells(Answer { text, status })
-        }
-        Err(Memory) => Halt::Memory,
-    }
-}
-
-// The verdict on three documents.
-fn verdict_on(alloc: Global, csdl: &Bin, ssdl: &Bin, msl: &Bin) -> Result<Answer, Memory>
-    ensures { IfOk result (λ answer. GivesCheck csdl.now ssdl.now msl.now answer.text answer.status) }
-{
-    match compile(alloc, csdl, ssdl, msl) {
+    match decide(alloc, schema) {
         Ok(_compiled) => {
             let text = accepted_text(alloc)?;
             let status = Status::Done;
             Ok(Answer { text, status })
         }
-        Err(verdict) => {
-            let text = refusal(alloc, csdl, ssdl, msl, &verdict)?;
-            let status = Status::MappingRefused;
-            Ok(Answer { text, status })
-        }
+        Err(Refusal::Limit(_schema, fault)) => refused(limit_text(alloc, &fault)),
+        Err(Refusal::Fails(schema, failure)) => refused(fail_text(alloc, &schema, &failure)),
+        Err(Refusal::Memory) => Err(Memory),
     }
 }
 
-// Why three documents are not accepted.
-fn refusal(
-    alloc: Global,
-    csdl: &Bin,
-    ssdl: &Bin,
-    msl: &Bin,
-    verdict: &Verdict,
-) -> Result<Txt, Memory>
-    requires refused { Compiles csdl.now ssdl.now msl.now (Err verdict.now) }
-    ensures { IfOk result (λ text. GivesCheck csdl.now ssdl.now msl.now text MappingRefused) }
+// A mapping that isn't accepted, for the reason that the text tells.
+fn refused(text: Result<Txt, Memory>) -> Result<Answer, Memory>
+    ensures { IfOk text (λ told. IfOk result (λ answer. (answer.text ≡ told) × (answer.status ≡ Status.MappingRefused))) }
 {
-    match verdict {
-        Verdict::Rule(fault) => rule_text(alloc, fault),
-        Verdict::Fails(failure) => failure_text(alloc, csdl, ssdl, msl, failure),
-        Verdict::Memory => Err(Memory),
-    }
-}
-
-// A failing state, by the names of the model that the documents mean.
-fn failure_text(
-    alloc: Global,
-    csdl: &Bin,
-    ssdl: &Bin,
-    msl: &Bin,
-    failure: &Failure,
-) -> Result<Txt, Memory>
-    requires meaning { IsSome (meaning_at csdl.now ssdl.now msl.now) }
-    ensures { IfOk result (ShowsFailure (meaning_at csdl.now ssdl.now msl.now) failure.now) }
-{
-    match model_of(alloc, csdl, ssdl, msl)? {
-        Some(model) => fail_text(alloc, &model, failure),
-        None => unreachable!(),
-    }
+    let status = Status::MappingRefused;
+    Ok(Answer {
+        text: text?,
+        status,
+    })
 }

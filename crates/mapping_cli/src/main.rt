@@ -1,24 +1,27 @@
 //! The command line of the mapping compiler.
 #![tactic(auto)]
 
-ghost use Rattle.std.specs.Prelude.{◌≡◌, drop};
-
 mod answer;
 mod check;
 mod commands;
 #[cfg(test)]
 mod forms;
+mod inputs;
 mod status;
 #[cfg(test)]
 mod tests;
 mod texts;
+mod words;
 
-use commands::run;
+pub use commands::run;
+pub use status::Status;
+pub use words::Command;
+
 use emc_base::{DiskFiles, OutSink, Txt};
-use status::Status;
 use std::process::ExitCode;
 use std::rt::HostRuntime;
 use std::{env, io};
+use words::after_first;
 
 fn main(rt: HostRuntime) -> ExitCode {
     let status = run_on_disk(&rt).unwrap_or(Status::Memory);
@@ -34,7 +37,7 @@ fn run_on_disk(rt: &HostRuntime) -> io::Result<Status> {
     };
     let mut files = DiskFiles::new(rt.clone()?);
     let mut out = OutSink::new(rt.clone()?);
-    let words = after_name(words.as_slice());
+    let words = after_first(words.as_slice());
     Ok(run(rt.alloc(), words, &mut files, &mut out))
 }
 
@@ -45,14 +48,4 @@ fn words_of(rt: &HostRuntime) -> io::Result<Vec<Txt>> {
         words.push(Txt::from_string(word))?;
     }
     Ok(words)
-}
-
-// The words after the program's own name.
-fn after_name(words: &[Txt]) -> &[Txt]
-    ensures { result.now ≡ drop 1 words.now }
-{
-    match words {
-        [_, words @ ..] => words,
-        [] => &[],
-    }
 }

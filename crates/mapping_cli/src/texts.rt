@@ -1,13 +1,12 @@
-ghost use Rattle.std.specs.Prelude.{◌≡◌, ◌++◌, IfOk, codes, string_bytes};
-ghost use Rattle.serde_json.specs.Data.{string};
-ghost use Rattle.serde_json.specs.View.{view};
-ghost use Rattle.serde_json.specs.Written.{compact_text};
-ghost use Rattle.mapping_cli.specs.Texts.{accepted_text, fail_text, file_text, file_word, kind_word, line, other_line, place_tree, quote, rule_text, state_line, usage_text};
+ghost use Rattle.std.specs.Prelude.{◌≡◌, IfOk, IfSome, string_bytes};
+ghost use Rattle.mapping_core.specs.Words.{IsFailureOf, IsState};
+ghost use Rattle.mapping_cli.specs.Texts.{accepted_text, fail_text, file_text, file_word, kind_word, limit_text, limit_word, other_line, rule_text, state_line, usage_text};
 
-use emc_base::{Memory, Place, Txt};
-use json_form::{key_tree, object_tree, text_tree};
-use mapping_core::{EntityModel, EntityState, FailKind, Failure, RuleFault, VocabFile, state_text};
-use serde_json::{Map, Value as Tree};
+use emc_base::{Memory, Txt};
+use mapping_core::{
+    EntityModel, EntityState, FailKind, Failure, LimitFault, LimitKind, RuleFault, Schema, VocabFile,
+    place_text, quoted, state_text,
+};
 use std::alloc::Global;
 
 /// The line that lists the commands.
@@ -29,20 +28,12 @@ pub(crate) fn accepted_text(alloc: Global) -> Result<Txt, Memory>
     Txt::of(alloc, "accepted\n")
 }
 
-// A text as JSON.
-fn quote(alloc: Global, text: &str) -> Result<String, Memory>
-    ensures { IfOk result (λ quoted. string_bytes quoted ≡ quote text.now) }
-{
-    let tree = text_tree(alloc, text)?;
-    Ok(tree.to_string(alloc)?)
-}
-
 /// What is wrong with a named file: `missing`, `toolarge` or `failed`.
 #[tactic(auto, unfolding(crate::specs::Texts::file_text))]
 pub(crate) fn file_text(alloc: Global, word: &str, name: &str) -> Result<Txt, Memory>
     ensures { IfOk result (λ text. text ≡ file_text word.now name.now) }
 {
-    let name = quote(alloc, name)?;
+    let name = quoted(alloc, name)?;
     let text = format!(in alloc; "file {word} {name}\n")?;
     Ok(Txt::from_string(text))
 }
@@ -64,8 +55,38 @@ pub(crate) fn rule_text(alloc: Global, fault: &RuleFault) -> Result<Txt, Memory>
 {
     let rule = fault.rule;
     let file = file_word(fault.file);
-    let place = quote(alloc, fault.place.as_str())?;
+    let place = quoted(alloc, fault.place.as_str())?;
     let text = format!(in alloc; "rule V{rule} {file} {place}\n")?;
+    Ok(Txt::from_string(text))
+}
+
+fn limit_word(what: LimitKind) -> &'static str
+    ensures { result.now ≡ limit_word what }
+{
+    match what {
+        LimitKind::Sets => "sets",
+        LimitKind::Associations => "associations",
+        LimitKind::Types => "types",
+        LimitKind::Properties => "properties",
+        LimitKind::Tables => "tables",
+        LimitKind::Columns => "columns",
+        LimitKind::Foreign => "foreign",
+        LimitKind::Fragments => "fragments",
+        LimitKind::Constants => "constants",
+        LimitKind::Regions => "regions",
+    }
+}
+
+/// A passed limit.
+#[tactic(auto, unfolding(crate::specs::Texts::limit_text))]
+pub(crate) fn limit_text(alloc: Global, fault: &LimitFault) -> Result<Txt, Memory>
+    ensures { IfOk result (λ text. text ≡ limit_text fault.now) }
+{
+    let what = limit_word(fault.what);
+    let name = quoted(alloc, fault.name.as_str())?;
+    let counted = fault.counted;
+    let allowed = fault.allowed;
+    let text = format!(in alloc; "limit {what} {name} {counted} {allowed}\n")?;
     Ok(Txt::from_string(text))
 }
 
@@ -81,32 +102,13 @@ fn kind_word(kind: FailKind) -> &'static str
     }
 }
 
-fn place_text(alloc: Global, place: &Place) -> Result<String, Memory>
-    ensures { IfOk result (λ text. string_bytes text ≡ compact_text (place_tree place.now)) }
-{
-    let tree = place_tree(alloc, place)?;
-    Ok(tree.to_string(alloc)?)
-}
-
-fn place_tree(alloc: Global, place: &Place) -> Result<Tree, Memory>
-    ensures { IfOk result (λ tree. view tree ≡ place_tree place.now) }
-{
-    let mut members = Map::new(alloc);
-    let key = key_tree(alloc, &place.key)?;
-    serde_json::put(&mut members, alloc, "key", key)?;
-    let name = text_tree(alloc, place.name.as_str())?;
-    serde_json::put(&mut members, alloc, "name", name)?;
-    let part = text_tree(alloc, place.part.as_str())?;
-    serde_json::put(&mut members, alloc, "part", part)?;
-    Ok(object_tree(members))
-}
-
 fn state_line(
     alloc: Global,
     word: &str,
     model: &EntityModel,
     state: &EntityState,
 ) -> Result<String, Memory>
+    requires { IsState model.now state.now }
     ensures { IfOk result (λ text. string_bytes text ≡ state_line word.now model.now state.now) }
 {
     let state = state_text(alloc, model, state)?;
@@ -118,6 +120,7 @@ fn other_line(
     model: &EntityModel,
     other: &Option<EntityState>,
 ) -> Result<String, Memory>
+    requires { IfSome other.now (λ state. IsState model.now state) }
     ensures { IfOk result (λ text. string_bytes text ≡ other_line model.now other.now) }
 {
     match other {
@@ -126,15 +129,13 @@ fn other_line(
     }
 }
 
-/// A failing state.
+/// A failing state, by the names of the model.
 #[tactic(auto, unfolding(crate::specs::Texts::fail_text))]
-pub(crate) fn fail_text(
-    alloc: Global,
-    model: &EntityModel,
-    failure: &Failure,
-) -> Result<Txt, Memory>
-    ensures { IfOk result (λ text. text ≡ fail_text model.now failure.now) }
+pub(crate) fn fail_text(alloc: Global, schema: &Schema, failure: &Failure) -> Result<Txt, Memory>
+    requires { IsFailureOf schema.now failure.now }
+    ensures { IfOk result (λ text. text ≡ fail_text schema.now.model failure.now) }
 {
+    let model = &schema.model;
     let kind = kind_word(failure.kind);
     let place = place_text(alloc, &failure.place)?;
     let state = state_line(alloc, "state", model, &failure.state)?;

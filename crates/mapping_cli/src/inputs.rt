@@ -1,0 +1,64 @@
+ghost use Rattle.std.specs.Prelude.{◌≡◌};
+ghost use Rattle.emc_base.specs.contracts.files.Files as F;
+ghost use Rattle.mapping_cli.specs.Reading.{IsTold, ReadsInput, ReadsInputs, TellsFault};
+ghost use Rattle.mapping_cli.specs.Texts.{file_text};
+
+use crate::answer::{Answer, Halt};
+use crate::status::Status;
+use crate::texts::file_text;
+use emc_base::{Bin, Files, Memory, ReadFault, Seq, Txt};
+use std::alloc::Global;
+
+/// The largest input file, in bytes.
+const LARGEST_FILE: u64 = 16_777_216;
+
+/// The contents of the files of these names, in their order; or what is told of the first of them that isn't read.
+pub(crate) fn read_inputs<F: Files>(
+    alloc: Global,
+    files: &mut F,
+    names: &[Txt],
+) -> Result<Seq<Bin>, Halt>
+    ensures same { F.held files.new ≡ F.held files.old }
+    ensures reads { ReadsInputs F.may_fail (F.held files.old) (F.fault_count files.old) (F.fault_count files.new) names.now result }
+{
+    let mut contents = Seq::empty(alloc);
+    for name in names {
+        contents.push(read_input(alloc, files, name)?)?;
+    }
+    Ok(contents)
+}
+
+// The content of an input file, or what is told where it isn't read.
+fn read_input<F: Files>(alloc: Global, files: &mut F, name: &Txt) -> Result<Bin, Halt>
+    ensures same { F.held files.new ≡ F.held files.old }
+    ensures reads { ReadsInput F.may_fail (F.held files.old) (F.fault_count files.old) (F.fault_count files.new) name.now result }
+{
+    match files.read(alloc, name, LARGEST_FILE) {
+        Ok(bytes) => Ok(bytes),
+        Err(fault) => Err(told_of(alloc, name.as_str(), fault)),
+    }
+}
+
+// What is told of a file that isn't read.
+fn told_of(alloc: Global, name: &str, fault: ReadFault) -> Halt
+    ensures { TellsFault name.now fault result }
+{
+    match fault {
+        ReadFault::Missing => told(alloc, "missing", name),
+        ReadFault::TooLarge => told(alloc, "toolarge", name),
+        ReadFault::Failed => told(alloc, "failed", name),
+        ReadFault::Memory => Halt::Memory,
+    }
+}
+
+fn told(alloc: Global, word: &str, name: &str) -> Halt
+    ensures { IsTold (file_text word.now name.now) result }
+{
+    match file_text(alloc, word, name) {
+        Ok(text) => {
+            let status = Status::FileFault;
+            Halt::Tells(Answer { text, status })
+        }
+        Err(Memory) => Halt::Memory,
+    }
+}
