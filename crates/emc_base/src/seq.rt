@@ -8,6 +8,9 @@ use std::marker::Model;
 /// The most items that a list may hold.
 pub const MOST_ITEMS: usize = 4_294_967_295;
 
+// No fewer: each place of 32 bits has a list that reaches it.
+const _: () = prove!(MOST_ITEMS >= 4_294_967_295);
+
 /// A list of at most [`MOST_ITEMS`] items, which contracts see as the list of its items.
 #[derive(Clone, Drop)]
 pub struct Seq<T> {
