@@ -45,7 +45,7 @@ CountsReplaced before now (Ok done) = CountsCall before now
 CountsReplaced before now (Err replace.Failed) = CountsFault before now × (now.map ≡ before.map)
 CountsReplaced before now (Err replace.Memory) = now ≡ before
 
--- the same of a call on a sink
+-- A put is counted, and a fault too; one that finds no memory changes nothing.
 abbrev pub CountsSink : KeptSink → KeptSink → Result (Unit {0}) SinkFault → Type 0
 CountsSink before now (Ok done) = now.calls ≡ one_more before.calls
 CountsSink before now (Err put.Failed) = (now.calls ≡ one_more before.calls) × (now.faults ≡ one_more before.faults)

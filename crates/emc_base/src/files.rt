@@ -42,7 +42,7 @@ pub trait Files {
     /// How often a call has failed. It stays at the last value of a `u64` once it is there.
     ghost fault_count: { Self → ℕ };
 
-    /// Whether a call on the file of this name may fail at all. It is the same over all calls.
+    /// Whether a call on the file of this name may answer `Failed` at all. It is the same over all calls.
     ghost may_fail: { List ℕ → Type 0 };
 
     /// All bytes of a file, of which there may be at most `limit`. `Missing` comes exactly where no file has the name, `TooLarge`
