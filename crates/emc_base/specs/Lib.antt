@@ -9,3 +9,5 @@ pub mod Sink
 pub mod InMemory
 pub mod MemFiles
 pub mod OrderLaws
+pub mod Places
+pub mod ValueRefs

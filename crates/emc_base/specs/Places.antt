@@ -1,4 +1,4 @@
--- Places by their parts.
+-- Places, by their parts.
 use Rattle.std.specs.Prelude.{ℕ, List}
 use Rattle.emc_base.specs.declared.place.Place.{Place}
 use Rattle.emc_base.specs.declared.value.Value.{Value}

@@ -1,27 +1,46 @@
-//! Runtimes for tests: a disk of one file whose reads may fail, and an output that takes a byte at a time.
+//! Runtimes for tests: a disk of named files whose calls may fail, and an output that takes a byte at a time.
 ghost use Rattle.std.specs.Prelude.{IsErr};
 
+use std::alloc::Global;
 use std::cell::RefCell;
+use std::collections::BTreeMap;
 use std::fmt::Display;
 use std::fs::{Metadata, OpenFile, OpenOptions};
 use std::io;
 use std::io::{ErrorKind, Print, Read, Seek, SeekFrom, Write};
 use std::rt::Files;
 
-/// A disk with the one file `M.json`, whose bytes count up from 0. The read at the place of the fault fails, with an error of this
-/// kind.
+/// The bytes of files by their names.
+pub type NamedFiles = RefCell<BTreeMap<String, Vec<u8>>>;
+
+/// What fails of a [`FakeDisk`].
+#[derive(Clone, Copy, PartialEq, Eq)]
+pub enum FakeFault {
+    /// Nothing.
+    Nothing,
+    /// A read of the byte at this place.
+    ReadAt(usize),
+    /// A write to a file that has so many bytes.
+    WriteAt(usize),
+    /// A rename.
+    Rename,
+}
+
+/// A disk of named files, which are read and written a byte at a time. What fails of it fails with an error of this kind.
 #[derive(Clone, Copy)]
-pub struct FakeDisk {
-    pub length: u8,
-    pub fault_at: Option<u8>,
+pub struct FakeDisk<'d> {
+    pub alloc: Global,
+    pub files: &'d NamedFiles,
+    pub fault: FakeFault,
     pub kind: ErrorKind,
 }
 
-/// A file of a [`FakeDisk`], read a byte at a time.
+/// A file of a [`FakeDisk`].
 #[derive(Drop)]
-pub struct FakeFile {
-    disk: FakeDisk,
-    at: u8,
+pub struct FakeFile<'d> {
+    disk: FakeDisk<'d>,
+    name: String,
+    at: usize,
 }
 
 // What a call answers that no test makes.
@@ -31,23 +50,48 @@ fn unsupported<T>() -> io::Result<T>
     Err(io::Error::from(ErrorKind::Unsupported))
 }
 
-impl Read for FakeFile {
-    fn read(&mut self, buffer: &mut [u8]) -> io::Result<usize> {
-        if self.disk.fault_at == Some(self.at) {
-            return Err(io::Error::from(self.disk.kind));
+impl<'d> FakeDisk<'d> {
+    // Fails where the call is the one that is to fail.
+    fn may(&self, fault: FakeFault) -> io::Result<()> {
+        if self.fault == fault {
+            return Err(io::Error::from(self.kind));
         }
-        if buffer.is_empty() || self.at >= self.disk.length {
+        Ok(())
+    }
+}
+
+impl<'d> Read for FakeFile<'d> {
+    fn read(&mut self, buffer: &mut [u8]) -> io::Result<usize> {
+        self.disk.may(FakeFault::ReadAt(self.at))?;
+        let Ok(files) = self.disk.files.try_borrow() else {
+            return unsupported();
+        };
+        let Some(bytes) = files.get(self.name.as_str()) else {
+            return unsupported();
+        };
+        if buffer.is_empty() || self.at >= bytes.len() {
             return Ok(0);
         }
-        buffer[0] = self.at;
+        buffer[0] = bytes[self.at];
         self.at += 1;
         Ok(1)
     }
 }
 
-impl Write for FakeFile {
-    fn write(&mut self, _bytes: &[u8]) -> io::Result<usize> {
-        unsupported()
+impl<'d> Write for FakeFile<'d> {
+    fn write(&mut self, bytes: &[u8]) -> io::Result<usize> {
+        let Ok(mut files) = self.disk.files.try_borrow_mut() else {
+            return unsupported();
+        };
+        let Some(held) = files.get_mut(self.name.as_str()) else {
+            return unsupported();
+        };
+        self.disk.may(FakeFault::WriteAt(held.len()))?;
+        let Some(byte) = bytes.first() else {
+            return Ok(0);
+        };
+        held.push(*byte)?;
+        Ok(1)
     }
 
     fn flush(&mut self) -> io::Result<()> {
@@ -55,13 +99,13 @@ impl Write for FakeFile {
     }
 }
 
-impl Seek for FakeFile {
+impl<'d> Seek for FakeFile<'d> {
     fn seek(&mut self, _to: SeekFrom) -> io::Result<u64> {
         unsupported()
     }
 }
 
-impl OpenFile for FakeFile {
+impl<'d> OpenFile for FakeFile<'d> {
     fn metadata(&self) -> io::Result<Metadata> {
         unsupported()
     }
@@ -79,19 +123,29 @@ impl OpenFile for FakeFile {
     }
 }
 
-impl Files for FakeDisk {
-    type File = FakeFile;
+impl<'d> Files for FakeDisk<'d> {
+    type File = FakeFile<'d>;
 
-    type Dir = FakeFile;
+    type Dir = FakeFile<'d>;
 
-    fn open_file(&self, _how: &OpenOptions, path: &str) -> io::Result<FakeFile> {
-        if path != "M.json" {
+    fn open_file(&self, how: &OpenOptions, path: &str) -> io::Result<FakeFile<'d>> {
+        let name = String::from_str(self.alloc, path)?;
+        let Ok(mut files) = self.files.try_borrow_mut() else {
+            return unsupported();
+        };
+        if how.asks_create() {
+            let _old = files.insert(String::from_str(self.alloc, path)?, Vec::new(self.alloc))?;
+        } else if !files.contains_key(path) {
             return Err(io::Error::from(ErrorKind::NotFound));
         }
-        Ok(FakeFile { disk: *self, at: 0 })
+        Ok(FakeFile {
+            disk: *self,
+            name,
+            at: 0,
+        })
     }
 
-    fn open_dir(&self, _path: &str) -> io::Result<FakeFile> {
+    fn open_dir(&self, _path: &str) -> io::Result<FakeFile<'d>> {
         unsupported()
     }
 
@@ -107,12 +161,26 @@ impl Files for FakeDisk {
         unsupported()
     }
 
-    fn rename(&self, _from: &str, _to: &str) -> io::Result<()> {
-        unsupported()
+    fn rename(&self, from: &str, to: &str) -> io::Result<()> {
+        self.may(FakeFault::Rename)?;
+        let Ok(mut files) = self.files.try_borrow_mut() else {
+            return unsupported();
+        };
+        let Some(bytes) = files.remove(from) else {
+            return Err(io::Error::from(ErrorKind::NotFound));
+        };
+        let _old = files.insert(String::from_str(self.alloc, to)?, bytes)?;
+        Ok(())
     }
 
-    fn remove_file(&self, _path: &str) -> io::Result<()> {
-        unsupported()
+    fn remove_file(&self, path: &str) -> io::Result<()> {
+        let Ok(mut files) = self.files.try_borrow_mut() else {
+            return unsupported();
+        };
+        match files.remove(path) {
+            Some(_) => Ok(()),
+            None => Err(io::Error::from(ErrorKind::NotFound)),
+        }
     }
 
     fn create_dir(&self, _path: &str) -> io::Result<()> {

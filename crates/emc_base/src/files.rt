@@ -1,5 +1,5 @@
-ghost use Rattle.std.specs.Prelude.{◌≡◌, ◌≤◌, ℕ, Option, IfOk, length};
-ghost use Rattle.emc_base.specs.Files.{FileMap, Tells, CountsRead};
+ghost use Rattle.std.specs.Prelude.{◌≡◌, ◌≤◌, ℕ, List, Option, IfOk, length};
+ghost use Rattle.emc_base.specs.Files.{FileMap, Tells, CountsRead, Replaces, CountsReplace};
 
 use crate::bin::Bin;
 use crate::txt::Txt;
@@ -23,6 +23,17 @@ pub enum ReadFault {
     Memory,
 }
 
+/// Why a file was not replaced.
+#[derive(Clone, Copy, Debug, PartialEq, Eq, Error)]
+pub enum ReplaceFault {
+    /// The file could not be replaced: the old bytes stand at the name, or the new ones. The count of faults rose, where it could.
+    #[error("the file could not be replaced")]
+    Failed,
+    /// Memory ran out; nothing changed.
+    #[error("out of memory")]
+    Memory,
+}
+
 /// Files by name.
 pub trait Files {
     /// What the files hold, where it is told: the bytes of each name that is there.
@@ -31,14 +42,26 @@ pub trait Files {
     /// How often a call has failed. It stays at the last value of a `u64` once it is there.
     ghost fault_count: { Self → ℕ };
 
+    /// Whether a call on the file of this name may answer `Failed` at all. It is the same over all calls.
+    ghost may_fail: { List ℕ → Type 0 };
+
     /// All bytes of a file, of which there may be at most `limit`. `Missing` comes exactly where no file has the name, `TooLarge`
     /// exactly where it has more bytes than that, and `Failed` only where the count of faults rose in the call or stands at its last
-    /// value. No call changes the files.
+    /// value. No read changes the files.
     fn read(&mut self, alloc: Global, name: &Txt, limit: u64) -> Result<Bin, ReadFault>
         ensures tells { Tells (held self.old) name.now limit result }
         ensures fits { IfOk result (λ bytes. length bytes ≤ limit) }
         ensures same { held self.new ≡ held self.old }
-        ensures cause { CountsRead (fault_count self.old) (fault_count self.new) result };
+        ensures cause { CountsRead (fault_count self.old) (fault_count self.new) result }
+        ensures allowed { (result ≡ Err ReadFault.Failed) → may_fail name.now };
+
+    /// Puts the bytes at the name, in place of what stood there, or where no file stood. After `Failed` the files are as before, or
+    /// the bytes stand at the name; after `Memory` they are as before. `Failed` comes only where the count of faults rose in the call
+    /// or stands at its last value.
+    fn replace(&mut self, alloc: Global, name: &Txt, bytes: &Bin) -> Result<(), ReplaceFault>
+        ensures replaces { Replaces (held self.old) (held self.new) name.now bytes.now result }
+        ensures cause { CountsReplace (fault_count self.old) (fault_count self.new) result }
+        ensures allowed { (result ≡ Err ReplaceFault.Failed) → may_fail name.now };
 
     /// How often a call has failed.
     fn faults(&self) -> u64

@@ -1,19 +1,19 @@
 ghost use Rattle.std.specs.Prelude.{◌≡◌, ◌≢◌, ◌≤◌, ◌↔◌, List, ℕ, Contains, IfOk, OnOk, OnErr, Some, length, []};
 ghost use Rattle.std.specs.BTreeMap.{get_by_text};
-ghost use Rattle.emc_base.specs.Files.{FileMap, Tells, CountsRead, PutsFile, HoldsNothing};
+ghost use Rattle.emc_base.specs.Files.{FileMap, Tells, CountsRead, Replaces, CountsReplace, PutsFile, HoldsNothing, any_may_fail};
 ghost use Rattle.emc_base.specs.Faults.{one_more};
-ghost use Rattle.emc_base.specs.InMemory.{CountsFiles};
+ghost use Rattle.emc_base.specs.InMemory.{CountsFiles, CountsReplaced};
 ghost use Rattle.emc_base.specs.MemFiles.{kept_files};
 
 use crate::bin::Bin;
-use crate::files::{Files, ReadFault};
+use crate::files::{Files, ReadFault, ReplaceFault};
 use crate::memory::Memory;
 use crate::seq::Seq;
 use crate::txt::Txt;
 use std::alloc::Global;
 use std::collections::BTreeMap;
 
-/// Files in memory. Its calls are counted from 1, and those of the given numbers fail.
+/// Files in memory. The calls that read or replace are counted together from 1, and those of the given numbers fail.
 #[derive(Drop)]
 pub struct MemFiles {
     map: BTreeMap<String, Bin>,
@@ -57,11 +57,14 @@ impl Files for MemFiles {
 
     ghost fault_count = { λ f. (kept_files f).faults };
 
+    ghost may_fail = { any_may_fail };
+
     fn read(&mut self, alloc: Global, name: &Txt, limit: u64) -> Result<Bin, ReadFault>
         ensures tells { Tells (Some (kept_files self.old).map) name.now limit result }
         ensures fits { IfOk result (λ bytes. length bytes ≤ limit) }
         ensures same { Some (kept_files self.new).map ≡ Some (kept_files self.old).map }
         ensures cause { CountsRead (kept_files self.old).faults (kept_files self.new).faults result }
+        ensures allowed { (result ≡ Err ReadFault.Failed) → any_may_fail name.now }
 
         // It fails at the calls that were named, and at no other.
         ensures named { (result ≡ Err ReadFault.Failed) ↔ Contains (kept_files self.old).failing (one_more (kept_files self.old).calls) }
@@ -79,6 +82,34 @@ impl Files for MemFiles {
             self.calls = call;
         }
         answer
+    }
+
+    fn replace(&mut self, alloc: Global, name: &Txt, bytes: &Bin) -> Result<(), ReplaceFault>
+        ensures replaces { Replaces (Some (kept_files self.old).map) (Some (kept_files self.new).map) name.now bytes.now result }
+        ensures cause { CountsReplace (kept_files self.old).faults (kept_files self.new).faults result }
+        ensures allowed { (result ≡ Err ReplaceFault.Failed) → any_may_fail name.now }
+
+        // It fails at the calls that were named, and at no other.
+        ensures named { (result ≡ Err ReplaceFault.Failed) ↔ Contains (kept_files self.old).failing (one_more (kept_files self.old).calls) }
+        ensures failing { (kept_files self.new).failing ≡ (kept_files self.old).failing }
+        ensures counts { CountsReplaced (kept_files self.old) (kept_files self.new) result }
+    {
+        let call = self.calls.saturating_add(1);
+        if self.failing.as_slice().contains(&call) {
+            self.calls = call;
+            self.faults = self.faults.saturating_add(1);
+            return Err(ReplaceFault::Failed);
+        }
+        let (Ok(name), Ok(bytes)) = (name.copy(alloc), bytes.copy(alloc)) else {
+            return Err(ReplaceFault::Memory);
+        };
+        match self.add(name, bytes) {
+            Ok(()) => {
+                self.calls = call;
+                Ok(())
+            }
+            Err(_) => Err(ReplaceFault::Memory),
+        }
     }
 
     fn faults(&self) -> u64 {

@@ -8,6 +8,9 @@ use std::marker::Model;
 /// The most items that a list may hold.
 pub const MOST_ITEMS: usize = 4_294_967_295;
 
+// No clause says when a list is full, so a smaller bound would be proved too. This refuses one.
+const _: () = prove!(MOST_ITEMS >= 4_294_967_295);
+
 /// A list of at most [`MOST_ITEMS`] items, which contracts see as the list of its items.
 #[derive(Clone, Drop)]
 pub struct Seq<T> {

@@ -1,11 +1,12 @@
-use crate::fake::{FakeDisk, FakeOutput};
+use crate::fake::{FakeDisk, FakeFault, FakeOutput, NamedFiles};
 use crate::{
-    Bin, DiskFiles, Files, Key, Kind, MemFiles, MemSink, OutSink, ReadFault, Seq, Sink, SinkFault,
-    Txt, Value, compare, compare_keys, in_domain,
+    Bin, DiskFiles, EnumKind, Files, Key, Kind, Ledger, MemFiles, MemSink, OutSink, ReadFault,
+    ReplaceFault, Seq, Sink, SinkFault, Steps, Txt, Under, Value, compare, compare_keys, in_domain,
 };
 use std::alloc::Global;
 use std::cell::RefCell;
 use std::cmp::Ordering;
+use std::collections::BTreeMap;
 use std::io::ErrorKind;
 use std::test::Fail;
 
@@ -108,6 +109,8 @@ fn copies_are_equal(rt: HostRuntime) -> Result<(), Fail> {
     for value in key.as_slice() {
         let copied = value.copy(rt.alloc())?;
         assert_eq!(rt; compare(value, &copied), Ordering::Equal);
+        let lent = value.lend().copy(rt.alloc())?;
+        assert_eq!(rt; compare(value, &lent), Ordering::Equal);
     }
     Ok(())
 }
@@ -147,13 +150,81 @@ fn a_byte_ends_at_255(rt: HostRuntime) -> Result<(), Fail> {
 }
 
 #[test]
-fn disk_files_keep_to_the_limit(rt: HostRuntime) -> Result<(), Fail> {
-    let name = Txt::of(rt.alloc(), "M.json")?;
-    let mut disk = DiskFiles::new(FakeDisk {
-        length: 4,
-        fault_at: None,
-        kind: ErrorKind::Other,
+fn an_enumeration_has_its_numbers(rt: HostRuntime) -> Result<(), Fail> {
+    let members = Seq::from_vec(vec![in rt.alloc(); -1i64, 4]?)?;
+    let kind = Kind::Enum(EnumKind {
+        under: Under::Int16,
+        members,
     });
+    let copied = kind.copy(rt.alloc())?;
+    for (number, want) in [(-1i64, true), (0, false), (4, true)] {
+        let value = Value::Whole(number);
+        assert_eq!(rt; in_domain(&value, &copied), want, "at {number}");
+    }
+    Ok(())
+}
+
+fn tick_twice<L: Ledger>(ledger: &mut L) {
+    ledger.tick();
+    ledger.tick();
+}
+
+#[test]
+fn steps_are_counted(rt: HostRuntime) {
+    let mut steps = Steps::new();
+    tick_twice(&mut steps);
+    assert_eq!(rt; steps.count(), 2);
+}
+
+#[test]
+fn files_in_memory_are_replaced(rt: HostRuntime) -> Result<(), Fail> {
+    let failing = Seq::from_vec(vec![in rt.alloc(); 3u64]?)?;
+    let mut files = MemFiles::new(rt.alloc(), failing);
+    let name = Txt::of(rt.alloc(), "M.json")?;
+    let bytes = Bin::of(rt.alloc(), &[1, 2])?;
+    files.replace(rt.alloc(), &name, &bytes)?;
+    assert_eq!(rt;
+        files.read(rt.alloc(), &name, 9)?.as_slice(),
+        bytes.as_slice()
+    );
+    let other = Bin::of(rt.alloc(), &[3])?;
+    let failed = files.replace(rt.alloc(), &name, &other).err();
+    assert_eq!(rt; failed, Some(ReplaceFault::Failed));
+    assert_eq!(rt; files.faults(), 1);
+    assert_eq!(rt;
+        files.read(rt.alloc(), &name, 9)?.as_slice(),
+        bytes.as_slice()
+    );
+    Ok(())
+}
+
+// The one file `M.json`, with these bytes.
+fn one_file(alloc: Global, bytes: &[u8]) -> Result<NamedFiles, Fail> {
+    let mut files = BTreeMap::new(alloc);
+    let name = String::from_str(alloc, "M.json")?;
+    files.insert(name, Vec::from_slice(alloc, bytes)?)?;
+    Ok(RefCell::new(files))
+}
+
+fn disk_with(
+    alloc: Global,
+    files: &NamedFiles,
+    fault: FakeFault,
+    kind: ErrorKind,
+) -> DiskFiles<FakeDisk<'_>> {
+    DiskFiles::new(FakeDisk {
+        alloc,
+        files,
+        fault,
+        kind,
+    })
+}
+
+#[test]
+fn disk_files_keep_to_the_limit(rt: HostRuntime) -> Result<(), Fail> {
+    let files = one_file(rt.alloc(), &[0, 1, 2, 3])?;
+    let name = Txt::of(rt.alloc(), "M.json")?;
+    let mut disk = disk_with(rt.alloc(), &files, FakeFault::Nothing, ErrorKind::Other);
     let bytes = disk.read(rt.alloc(), &name, 4)?;
     assert_eq!(rt; bytes.as_slice(), [0u8, 1, 2, 3].as_slice());
     let large = disk.read(rt.alloc(), &name, 3).err();
@@ -162,37 +233,100 @@ fn disk_files_keep_to_the_limit(rt: HostRuntime) -> Result<(), Fail> {
     let missing = disk.read(rt.alloc(), &other, 4).err();
     assert_eq!(rt; missing, Some(ReadFault::Missing));
     assert_eq!(rt; disk.faults(), 0);
-    let mut broken = DiskFiles::new(FakeDisk {
-        length: 4,
-        fault_at: Some(2),
-        kind: ErrorKind::Other,
-    });
-    let failed = broken.read(rt.alloc(), &name, 4).err();
-    assert_eq!(rt; failed, Some(ReadFault::Failed));
-    assert_eq!(rt; broken.faults(), 1);
-    let mut full = DiskFiles::new(FakeDisk {
-        length: 4,
-        fault_at: Some(2),
-        kind: ErrorKind::OutOfMemory,
-    });
-    let refused = full.read(rt.alloc(), &name, 4).err();
-    assert_eq!(rt; refused, Some(ReadFault::Memory));
-    assert_eq!(rt; full.faults(), 0);
+    Ok(())
+}
+
+// What a disk with this fault answers to a read of its one file, and how often a call has failed then.
+fn read_with(
+    alloc: Global,
+    fault: FakeFault,
+    kind: ErrorKind,
+) -> Result<(Option<ReadFault>, u64), Fail> {
+    let files = one_file(alloc, &[0, 1, 2, 3])?;
+    let name = Txt::of(alloc, "M.json")?;
+    let mut disk = disk_with(alloc, &files, fault, kind);
+    let answer = disk.read(alloc, &name, 4).err();
+    Ok((answer, disk.faults()))
+}
+
+#[test]
+fn faults_of_the_disk_are_told(rt: HostRuntime) -> Result<(), Fail> {
+    for (kind, want) in [
+        (ErrorKind::Other, (Some(ReadFault::Failed), 1u64)),
+        (ErrorKind::OutOfMemory, (Some(ReadFault::Memory), 0)),
+    ] {
+        let told = read_with(rt.alloc(), FakeFault::ReadAt(2), kind)?;
+        assert_eq!(rt; told, want);
+    }
     Ok(())
 }
 
 // Nothing past the limit and one byte is read: a fault there isn't met.
 #[test]
 fn disk_files_read_no_further(rt: HostRuntime) -> Result<(), Fail> {
+    let files = one_file(rt.alloc(), &[0, 1, 2, 3, 4, 5])?;
     let name = Txt::of(rt.alloc(), "M.json")?;
-    let mut disk = DiskFiles::new(FakeDisk {
-        length: 9,
-        fault_at: Some(5),
-        kind: ErrorKind::Other,
-    });
+    let mut disk = disk_with(rt.alloc(), &files, FakeFault::ReadAt(5), ErrorKind::Other);
     let large = disk.read(rt.alloc(), &name, 3).err();
     assert_eq!(rt; large, Some(ReadFault::TooLarge));
     assert_eq!(rt; disk.faults(), 0);
+    Ok(())
+}
+
+// What a disk of one file answers to a replace, how often a call has failed then, what the file holds, and how many files there are.
+fn replace_with(
+    alloc: Global,
+    fault: FakeFault,
+    kind: ErrorKind,
+) -> Result<(Option<ReplaceFault>, u64, Bin, usize), Fail> {
+    let files = one_file(alloc, &[0, 1])?;
+    let name = Txt::of(alloc, "M.json")?;
+    let new = Bin::of(alloc, &[7, 8, 9])?;
+    let mut disk = disk_with(alloc, &files, fault, kind);
+    let answer = disk.replace(alloc, &name, &new).err();
+    let faults = disk.faults();
+    let held = disk.read(alloc, &name, 9)?;
+    let count = files.try_borrow()?.len();
+    Ok((answer, faults, held, count))
+}
+
+#[test]
+fn a_disk_file_is_replaced(rt: HostRuntime) -> Result<(), Fail> {
+    let (answer, faults, held, count) = replace_with(
+        rt.alloc(),
+        FakeFault::Nothing,
+        ErrorKind::Other,
+    )?;
+    assert_eq!(rt; answer, None);
+    assert_eq!(rt; faults, 0);
+    assert_eq!(rt; held.as_slice(), [7u8, 8, 9].as_slice());
+    assert_eq!(rt; count, 1);
+    Ok(())
+}
+
+#[test]
+fn a_failed_replace_leaves_the_disk(rt: HostRuntime) -> Result<(), Fail> {
+    for (fault, kind, want, times) in [
+        (
+            FakeFault::WriteAt(1),
+            ErrorKind::Other,
+            ReplaceFault::Failed,
+            1u64,
+        ),
+        (FakeFault::Rename, ErrorKind::Other, ReplaceFault::Failed, 1),
+        (
+            FakeFault::Rename,
+            ErrorKind::OutOfMemory,
+            ReplaceFault::Memory,
+            0,
+        ),
+    ] {
+        let (answer, faults, held, count) = replace_with(rt.alloc(), fault, kind)?;
+        assert_eq!(rt; answer, Some(want));
+        assert_eq!(rt; faults, times);
+        assert_eq!(rt; held.as_slice(), [0u8, 1].as_slice());
+        assert_eq!(rt; count, 1);
+    }
     Ok(())
 }
 

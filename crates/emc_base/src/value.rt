@@ -23,7 +23,8 @@ pub enum Value {
     Bytes(Bin),
 }
 
-/// What a property or a column may hold, null aside. Source: the simple types of CSDL and the column types of SSDL, version 3.
+/// What a property or a column may hold, null aside. Source: the simple types and the enumerations of CSDL and the column types of
+/// SSDL, version 3.
 #[derive(Clone, Drop)]
 pub enum Kind {
     /// A whole number from 0 to 255; the column type `tinyint`.
@@ -40,6 +41,30 @@ pub enum Kind {
     Text(Option<u32>),
     /// A list of at most so many bytes; `varbinary`. No number is no bound.
     Binary(Option<u32>),
+    /// A number of an enumeration. It is another kind than its underlying one, and than that of every other enumeration.
+    Enum(EnumKind),
+}
+
+/// An enumeration, by its underlying kind and the numbers of its members. Source: the EnumType of CSDL, version 3.
+#[derive(Clone, Drop)]
+pub struct EnumKind {
+    /// The kind of its numbers.
+    pub under: Under,
+    /// The members' numbers, in their order, without repeats.
+    pub members: Seq<i64>,
+}
+
+/// The kind of an enumeration's numbers.
+#[derive(Clone, Copy, Debug, PartialEq, Eq)]
+pub enum Under {
+    /// From 0 to 255.
+    Byte,
+    /// Of 16 bits with a sign.
+    Int16,
+    /// Of 32 bits with a sign.
+    Int32,
+    /// Of 64 bits with a sign.
+    Int64,
 }
 
 /// The values of a key, in the order of the key's parts.
@@ -53,6 +78,19 @@ impl Value {
         let _alloc = alloc;
         match self.clone() {
             Ok(value) => Ok(value),
+            Err(_) => Err(Memory),
+        }
+    }
+}
+
+impl Kind {
+    /// An equal kind. `Memory` comes where there is none for it.
+    pub fn copy(&self, alloc: Global) -> Result<Kind, Memory>
+        ensures { IfOk result (λ kind. kind ≡ self.now) }
+    {
+        let _alloc = alloc;
+        match self.clone() {
+            Ok(kind) => Ok(kind),
             Err(_) => Err(Memory),
         }
     }
@@ -80,6 +118,7 @@ pub fn in_domain(value: &Value, kind: &Kind) -> bool
         (Value::Whole(number), Kind::Int16) => (-32_768..=32_767).contains(number),
         (Value::Whole(number), Kind::Int32) => (-2_147_483_648..=2_147_483_647).contains(number),
         (Value::Whole(number), Kind::Int64) => i64::MIN <= *number,
+        (Value::Whole(number), Kind::Enum(set)) => set.members.as_slice().contains(number),
         (Value::Flag(_), Kind::Boolean) => true,
         (Value::Text(text), Kind::Text(bound)) => is_text(text, *bound),
         (Value::Bytes(bytes), Kind::Binary(bound)) => is_within(*bound, bytes.as_slice().len()),
