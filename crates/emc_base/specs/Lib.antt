@@ -1,6 +1,5 @@
 pub mod formers
 pub mod Lists
-pub mod Places
 pub mod Domain
 pub mod Order
 pub mod Faults

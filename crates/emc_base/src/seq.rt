@@ -1,5 +1,6 @@
 ghost use Rattle.std.specs.Prelude.{◌≡◌, ◌<◌, ◌≤◌, ◌^◌, ◌↔◌, [], ◌∷◌, ◌++◌, length, slice_get, IfOk, IsSome, OnOk, OnErr, IsTrue};
 ghost use Rattle.std.specs.Option.{option_copied};
+ghost use Rattle.emc_base.specs.Lists.{At};
 
 use crate::memory::Memory;
 use std::alloc::Global;
@@ -87,6 +88,14 @@ impl<T> Seq<T> {
         ensures inside { IsSome result ↔ (i < length self.now) }
     {
         self.items.get(i)
+    }
+
+    /// Lends the item at a place, counted from 0.
+    pub fn at(&self, i: usize) -> &T
+        requires { i < length self.now }
+        ensures { At self.now i result.now }
+    {
+        &self.as_slice()[i]
     }
 
     /// Lends all items in their order.

@@ -43,7 +43,7 @@ impl EntityState {
         requires { set.index < length self.now.entities }
         ensures { result.now ≡ entities_in self.now set }
     {
-        &self.entities.as_slice()[set.index as usize]
+        self.entities.at(set.index as usize)
     }
 
     /// The links of an association set, in the order of the list.
@@ -51,6 +51,6 @@ impl EntityState {
         requires { assoc.index < length self.now.links }
         ensures { result.now ≡ links_in self.now assoc }
     {
-        &self.links.as_slice()[assoc.index as usize]
+        self.links.at(assoc.index as usize)
     }
 }

@@ -40,6 +40,7 @@ whole_allows n kind.Int64 whole small = cc
 whole_allows n kind.Boolean whole small = cc
 whole_allows n (kind.Text bound) whole small = cc
 whole_allows n (kind.Binary bound) whole small = cc
+whole_allows n (kind.Enum enumeration) whole small = cc
 
 one_within : (bound : Option ℕ) → is_bound bound ≡ true → IsWithin bound 1
 one_within None good = cc

@@ -59,6 +59,7 @@ is_whole kind.Int64 = false
 is_whole kind.Boolean = false
 is_whole (kind.Text bound) = false
 is_whole (kind.Binary bound) = false
+is_whole (kind.Enum enumeration) = false
 
 -- the key is a whole number that isn't nullable, and everything else is nullable
 abbrev pub is_key_or_nullable : List ℕ → Column → Bool

@@ -180,7 +180,7 @@ fn prop_of(alloc: Global, column: &Column) -> Result<Prop, Memory>
     Ok(Prop {
         owner: TypeId { index: 0 },
         name: column.name.copy(alloc)?,
-        kind: column.kind.clone()?,
+        kind: column.kind.copy(alloc)?,
         nullable: column.nullable,
     })
 }
@@ -236,7 +236,7 @@ fn copy_of(alloc: Global, column: &Column) -> Result<Column, Memory>
 {
     Ok(Column {
         name: column.name.copy(alloc)?,
-        kind: column.kind.clone()?,
+        kind: column.kind.copy(alloc)?,
         nullable: column.nullable,
     })
 }

@@ -1,17 +1,20 @@
 -- What was answered and what was written make a run.
-use Rattle.std.proofs.Common.{◌≡◌, ℕ, List, [], ◌∷◌, ◌++◌, Option, Some, None, MatchOption, option_map, inl, inr, refl, sym, ap, ◌∙◌, subst, ◌==◌, length, true, arith}
+use Rattle.std.proofs.Common.{◌≡◌, ℕ, List, [], ◌∷◌, ◌++◌, take, Option, Some, None, MatchOption, option_map, inl, inr, refl, sym, ap, ◌∙◌, subst, ◌==◌, length, true, false, arith}
 use Rattle.std.proofs.lemmas.Bool.Decides.{nat_tests}
 use Rattle.std.specs.Bool.{⊤}
 use Rattle.std.proofs.lemmas.List.{append-nil}
+use Rattle.emc_base.specs.Faults.{RoseOrStands}
 use Rattle.emc_base.specs.Files.{FileMap}
-use Rattle.round_trip.specs.Words.{Schema, RuleFault}
-use Rattle.mapping_core.specs.Rules.{meaning_at, least_rule}
+use Rattle.mapping_core.specs.Words.{Schema}
 use Rattle.mapping_cli.specs.declared.status.Status.{Status}
 use Rattle.mapping_cli.specs.declared.status.Status.TheVariants.{Done, MappingRefused, DocumentRefused, Usage, FileFault, SinkFault, Memory}
-use Rattle.mapping_cli.specs.Commands.{Command, check, command_of, inputs_of}
-use Rattle.mapping_cli.specs.Gives.{AreContents, GivesOf, GivesOn, GivesVerdict, Says, first_fault}
-use Rattle.mapping_cli.specs.Runs.{Ends, FailsToRead, Finishes, Runs}
-use Rattle.mapping_cli.specs.Texts.{rule_text, usage_text}
+use Rattle.mapping_cli.specs.declared.words.Command.{Command}
+use Rattle.mapping_cli.specs.declared.words.Command.TheVariants.{Check}
+use Rattle.mapping_cli.specs.Commands.{command_of, inputs_of}
+use Rattle.mapping_cli.specs.Gives.{GivesInputs, GivesOn, GivesVerdict, Says}
+use Rattle.mapping_cli.specs.Inputs.{FailsToRead}
+use Rattle.mapping_cli.specs.Runs.{Ends, Finishes, Runs}
+use Rattle.mapping_cli.specs.Texts.{accepted_text, usage_text}
 use Rattle.mapping_cli.specs.World.{World}
 
 -- a status of a whole text
@@ -24,61 +27,47 @@ IsOfText FileFault = ⊤
 IsOfText SinkFault = ⊥
 IsOfText Memory = ⊥
 
-yes : ⊤
-yes = cc
-
-module _ (text : List ℕ) (status : Status) where
-  said : (told : List ℕ) (ended : Status) → IsOfText ended → Says told ended text status → IsOfText status
+module _ (held : Option FileMap) (text : List ℕ) (status : Status) (left : Option FileMap) where
+  said : (told : List ℕ) (ended : Status) → IsOfText ended → Says held text status left told ended → IsOfText status
   said told ended good says = subst IsOfText (sym says.1) good
 
-  of_verdict : (schema : Schema) → GivesVerdict schema text status → IsOfText status
-  of_verdict schema (inl accepted) = subst IsOfText (sym accepted.2.1) cc
-  of_verdict schema (inr fails) = subst IsOfText (sym fails.2.1) cc
+  of_verdict : (schema : Schema) → GivesVerdict held text status left (λ schema. Says held text status left accepted_text Done) schema → IsOfText status
+  of_verdict schema (inl accepted) = subst IsOfText (sym accepted.1.1) cc
+  of_verdict schema (inr fails) = subst IsOfText (sym fails.3.1) cc
 
-  of_check : (rule : Option RuleFault) (meaning : Option Schema) → MatchOption rule ((schema : Schema) × (meaning ≡ Some schema) × GivesVerdict schema text status)
-      (λ fault. Says (rule_text fault) MappingRefused text status) → IsOfText status
-  of_check None meaning gives = of_verdict gives.0 gives.2
-  of_check (Some fault) meaning says = said (rule_text fault) MappingRefused yes says
+  of_command : (command : Command) (contents : List (List ℕ)) → GivesOn held text status left command contents → IsOfText status
+  of_command Check contents (csdl, ssdl, msl, at_csdl, at_ssdl, at_msl, inl told) = subst IsOfText (sym told.2.1) cc
+  of_command Check contents (csdl, ssdl, msl, at_csdl, at_ssdl, at_msl, inr meant) = of_verdict meant.0 meant.2
 
-  of_contents : (contents : List (Option (List ℕ))) → GivesOf contents text status → IsOfText status
-  of_contents [] gives = absurd gives
-  of_contents (None ∷ rest) gives = absurd gives
-  of_contents (Some csdl ∷ []) gives = absurd gives
-  of_contents (Some csdl ∷ None ∷ rest) gives = absurd gives
-  of_contents (Some csdl ∷ Some ssdl ∷ []) gives = absurd gives
-  of_contents (Some csdl ∷ Some ssdl ∷ None ∷ rest) gives = absurd gives
-  of_contents (Some csdl ∷ Some ssdl ∷ Some msl ∷ []) gives = of_check (least_rule csdl ssdl msl) (meaning_at csdl ssdl msl) gives
-  of_contents (Some csdl ∷ Some ssdl ∷ Some msl ∷ other ∷ rest) gives = absurd gives
+  of_inputs : (command : Command) (names : List (List ℕ)) → GivesInputs held text status left command names → IsOfText status
+  of_inputs command names (inl lacking) = subst IsOfText (sym lacking.2.1) cc
+  of_inputs command names (inr read) = of_command command read.0 read.2
 
-  of_fault : (contents : List (Option (List ℕ))) (fault : Option (List ℕ)) → MatchOption fault (GivesOf contents text status) (λ told. Says told FileFault text status) → IsOfText status
-  of_fault contents None gives = of_contents contents gives
-  of_fault contents (Some told) says = said told FileFault yes says
+module _ (may_fail : List ℕ → Type 0) (words : List (List ℕ)) (held : Option FileMap) (before now : ℕ) (text : List ℕ) (status : Status) (left : Option FileMap) where
+  of_words : (command : Option Command) → MatchOption command (Says held text status left usage_text Usage) (λ c. GivesInputs held text status left c (inputs_of c words)) → IsOfText status
+  of_words None says = subst IsOfText (sym says.1) cc
+  of_words (Some command) gives = of_inputs held text status left command (inputs_of command words) gives
 
-  of_command : (command : Command) (contents : List (Option (List ℕ))) → GivesOn command contents text status → IsOfText status
-  of_command (check csdl ssdl msl) contents gives = of_fault contents (first_fault (csdl ∷ ssdl ∷ msl ∷ []) contents) gives
+  of_break : (command : Option Command)
+      → MatchOption command ⊥ (λ c. (told : List ℕ) × FailsToRead may_fail held (inputs_of c words) told × Says held text status left told FileFault) → IsOfText status
+  of_break None breaks = absurd breaks
+  of_break (Some command) breaks = subst IsOfText (sym breaks.2.1) cc
 
-  of_words : (held : Option FileMap) (command : Option Command) → MatchOption command (Says usage_text Usage text status)
-      (λ command. (contents : List (Option (List ℕ))) × AreContents held (inputs_of command) contents × GivesOn command contents text status) → IsOfText status
-  of_words held None says = said usage_text Usage yes says
-  of_words held (Some command) gives = of_command command gives.0 gives.2
+  -- what ends, ends with a text
+  of_ends : Ends may_fail words held before now text status left → IsOfText status
+  of_ends (inl gives) = of_words (command_of words) gives.1
+  of_ends (inr breaks) = of_break (command_of words) breaks.1
 
-  of_break : (held : Option FileMap) (command : Option Command) → MatchOption command ⊥ (λ command. FailsToRead (inputs_of command) held text status) → IsOfText status
-  of_break held None breaks = absurd breaks
-  of_break held (Some command) breaks = subst IsOfText (sym breaks.says.1) cc
-
-  of_ends : (words : List (List ℕ)) (before after : World) → Ends words before after text status → IsOfText status
-  of_ends words before after (inl gives) = of_words before.held (command_of words) gives.1
-  of_ends words before after (inr breaks) = of_break before.held (command_of words) breaks.1
-
--- a whole text was written
-pub runs_whole : (words : List (List ℕ)) (before after : World) (status : Status) → Finishes words before after status → Runs words before after status
-runs_whole words before after Done finishes = finishes
-runs_whole words before after MappingRefused finishes = finishes
-runs_whole words before after DocumentRefused finishes = finishes
-runs_whole words before after Usage finishes = finishes
-runs_whole words before after FileFault finishes = finishes
-runs_whole words before after SinkFault finishes = absurd (of_ends finishes.text SinkFault words before after finishes.ends)
-runs_whole words before after Memory finishes = absurd (of_ends finishes.text Memory words before after finishes.ends)
+module _ (may_fail : List ℕ → Type 0) (words : List (List ℕ)) (before after : World) where
+  -- a whole text was written
+  runs_whole : (status : Status) → Finishes may_fail words before after status → Runs may_fail words before after status
+  runs_whole Done finishes = finishes
+  runs_whole MappingRefused finishes = finishes
+  runs_whole DocumentRefused finishes = finishes
+  runs_whole Usage finishes = finishes
+  runs_whole FileFault finishes = finishes
+  runs_whole SinkFault finishes = absurd (of_ends may_fail words before.held before.file_faults after.file_faults finishes.text SinkFault after.held finishes.ends)
+  runs_whole Memory finishes = absurd (of_ends may_fail words before.held before.file_faults after.file_faults finishes.text Memory after.held finishes.ends)
 
 -- nothing more is nothing new
 pub nothing_more : (written : Option (List ℕ)) (text : List ℕ) → text ≡ [] → written ≡ option_map (λ bytes. bytes ++ text) written
@@ -90,24 +79,45 @@ is_nothing : (text : List ℕ) → true ≡ (length text == 0) → text ≡ []
 is_nothing [] empty = refl
 is_nothing (byte ∷ rest) empty = let no : ⊥ = grind (arith, nat_tests) in absurd no
 
-module _ (words : List (List ℕ)) (before after : World) (text printed : List ℕ) (status : Status) (ends : Ends words before after text status)
-    (printed_is : printed ≡ text) (quiet : after.sink_faults ≡ before.sink_faults) (held : after.held ≡ before.held) where
+-- and one of some bytes isn't
+is_something : (text : List ℕ) → false ≡ (length text == 0) → text ≡ [] → ⊥
+is_something [] filled empty = cc
+is_something (byte ∷ rest) filled empty = cc
+
+module _ (may_fail : List ℕ → Type 0) (words : List (List ℕ)) (before after : World) (text printed : List ℕ) (status : Status)
+    (answered : Ends may_fail words before.held before.file_faults after.file_faults text status before.held)
+    (printed_is : printed ≡ text) (held : after.held ≡ before.held) where
+  -- the files are as they were
+  ends : Ends may_fail words before.held before.file_faults after.file_faults text status after.held
+  ends = let P : Option FileMap → Type 0 = λ left. Ends may_fail words before.held before.file_faults after.file_faults text status left in subst P (sym held) answered
+
   -- the text that was printed is the answer's
-  pub all_written : after.written ≡ option_map (λ bytes. bytes ++ printed) before.written → Runs words before after status
-  all_written written = runs_whole words before after status (record {
+  pub all_written : after.sink_faults ≡ before.sink_faults → after.written ≡ option_map (λ bytes. bytes ++ printed) before.written → Runs may_fail words before after status
+  all_written quiet written = runs_whole may_fail words before after status (record {
     text = text;
     ends = ends;
     written = written ∙ ap (λ more. option_map (λ bytes. bytes ++ more) before.written) printed_is;
     quiet = quiet;
-    held = held;
   })
 
   -- an empty text needs no writing
-  pub none_written : true ≡ (length printed == 0) → after.written ≡ before.written → Runs words before after status
-  none_written empty same = runs_whole words before after status (record {
+  pub none_written : true ≡ (length printed == 0) → after.sink_faults ≡ before.sink_faults → after.written ≡ before.written → Runs may_fail words before after status
+  none_written empty quiet same = runs_whole may_fail words before after status (record {
     text = text;
     ends = ends;
     written = same ∙ nothing_more before.written text (sym printed_is ∙ is_nothing printed empty);
     quiet = quiet;
-    held = held;
   })
+
+  -- some of a text that isn't empty was written, and then the sink failed
+  pub some_written : (count : ℕ) → false ≡ (length printed == 0) → RoseOrStands before.sink_faults after.sink_faults
+      → after.written ≡ option_map (λ bytes. bytes ++ take count printed) before.written → Runs may_fail words before after SinkFault
+  some_written count filled cause written = record {
+    text = text;
+    status = status;
+    count = count;
+    not_empty = λ empty. is_something printed filled (printed_is ∙ empty);
+    ends = ends;
+    written = written ∙ ap (λ more. option_map (λ bytes. bytes ++ take count more) before.written) printed_is;
+    cause = cause;
+  }

@@ -1,2 +1,4 @@
-pub mod Reading
+pub mod FilesRead
+pub mod Answered
+pub mod Checked
 pub mod Endings

@@ -44,7 +44,7 @@ fn verdict_on(alloc: Global, schema: Schema) -> Result<Answer, Memory>
 
 // A mapping that isn't accepted, for the reason that the text tells.
 fn refused(text: Result<Txt, Memory>) -> Result<Answer, Memory>
-    ensures { IfOk text (λ told. IfOk result (λ answer. (answer.text ≡ told) × (answer.status ≡ Status.MappingRefused))) }
+    ensures { IfOk result (λ answer. (text ≡ Ok answer.text) × (answer.status ≡ Status.MappingRefused)) }
 {
     let status = Status::MappingRefused;
     Ok(Answer {

@@ -18,12 +18,7 @@ use emc_base::{Bin, Files, Memory, Seq, Sink, SinkFault, Txt};
 use std::alloc::Global;
 
 /// Does what the words after the program's name ask for. Reads files, prints one text, and tells how it ended.
-pub fn run<F: Files, W: Sink>(
-    alloc: Global,
-    words: &[Txt],
-    files: &mut F,
-    out: &mut W,
-) -> Status
+pub fn run<F: Files, W: Sink>(alloc: Global, words: &[Txt], files: &mut F, out: &mut W) -> Status
     ensures headline { Runs F.may_fail words.now
         (world (F.held files.old) (F.fault_count files.old) (W.written_to out.old) (W.fault_count out.old))
         (world (F.held files.new) (F.fault_count files.new) (W.written_to out.new) (W.fault_count out.new))

@@ -14,13 +14,12 @@ mod texts;
 mod words;
 
 pub use commands::run;
-pub use status::Status;
-pub use words::Command;
-
 use emc_base::{DiskFiles, OutSink, Txt};
+pub use status::Status;
 use std::process::ExitCode;
 use std::rt::HostRuntime;
 use std::{env, io};
+pub use words::Command;
 use words::after_first;
 
 fn main(rt: HostRuntime) -> ExitCode {

@@ -4,8 +4,8 @@ ghost use Rattle.mapping_cli.specs.Texts.{accepted_text, fail_text, file_text, f
 
 use emc_base::{Memory, Txt};
 use mapping_core::{
-    EntityModel, EntityState, FailKind, Failure, LimitFault, LimitKind, RuleFault, Schema, VocabFile,
-    place_text, quoted, state_text,
+    EntityModel, EntityState, FailKind, Failure, LimitFault, LimitKind, RuleFault, Schema,
+    VocabFile, place_text, quoted, state_text,
 };
 use std::alloc::Global;
 

@@ -37,6 +37,7 @@ never_in_domain kind.Int64 within = within
 never_in_domain kind.Boolean within = within
 never_in_domain (kind.Text bound) within = within
 never_in_domain (kind.Binary bound) within = within
+never_in_domain (kind.Enum enumeration) within = within
 
 module _ (model : EntityModel) (type : EntityType) (key : PropId) (one : IsOneType model type key) (values : PropId → Value)
     (allowed : All (λ prop. IsAllowed model prop (values prop)) (props_of model first_type)) where

@@ -15,6 +15,7 @@ sample_of kind.Int32 = value.Whole (pos 0)
 sample_of kind.Int64 = value.Whole (pos 0)
 sample_of kind.Boolean = value.Whole (pos 0)
 sample_of (kind.Binary bound) = value.Whole (pos 0)
+sample_of (kind.Enum enumeration) = value.Whole (pos 0)
 
 -- prop is a property of the one type, declared as told
 pub record IsDeclared (model : EntityModel) (prop : PropId) (declared : Prop) : Type 0 where

@@ -1,5 +1,5 @@
-ghost use Rattle.std.specs.Prelude.{◌≡◌, ◌<◌, [], ◌∷◌, IfOk, length, map};
-ghost use Rattle.round_trip.specs.Words.{At, place_at};
+ghost use Rattle.std.specs.Prelude.{◌≡◌, [], ◌∷◌, IfOk, map};
+ghost use Rattle.round_trip.specs.Words.{place_at};
 ghost use Rattle.one_table.specs.Lost.{lost_values, shown_key};
 ghost use Rattle.one_table.specs.OneTable.{IsOneTable};
 ghost use Rattle.one_table.specs.Samples.{AllowsSamples, sample_of};
@@ -29,18 +29,11 @@ pub fn lost_failure(alloc: Global, schema: &Schema, lost: PropId) -> Result<Fail
     one_table::refuses();
     one_table::fails_by_same_alone();
     let model = &schema.model;
-    let set = item_at(&model.sets, 0);
-    let declared = item_at(&model.types, 0);
-    let key = item_at(&declared.key, 0);
-    let prop = item_at(&model.props, lost.index as usize);
+    let set = model.sets.at(0);
+    let declared = model.types.at(0);
+    let key = declared.key.at(0);
+    let prop = model.props.at(lost.index as usize);
     shown_failure(alloc, set, declared, *key, lost, &prop.kind)
-}
-
-fn item_at<T>(list: &Seq<T>, i: usize) -> &T
-    requires { i < length list.now }
-    ensures { At list.now i result.now }
-{
-    &list.as_slice()[i]
 }
 
 fn shown_failure(
