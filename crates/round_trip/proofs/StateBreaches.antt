@@ -1,11 +1,11 @@
 -- Each rule of states tells one place at a spot.
-use Rattle.std.proofs.Common.{◌≡◌, inl, inr, ℕ, List, [], ◌∷◌, ◌++◌, refl, sym, ap, ◌∙◌}
+use Rattle.std.proofs.Common.{◌≡◌, inl, inr, ℕ, List, [], ◌∷◌, ◌++◌, refl}
 use Rattle.std.specs.Prelude.{codes}
 use Rattle.round_trip.specs.Types.{Value, Place, place_at, EntityModel, Prop, EntitySet, Assoc, End, Mult, Entity, Link, key_of, State, entities_in, links_in}
 use Rattle.round_trip.specs.Legal.{dependent_end}
 use Rattle.round_trip.specs.Breaches.{StandsIn, LinksIn, StandsAtProp, HasWrongCount, BreaksType, BreaksNull, BreaksDomain, BreaksKey, BreaksEnd, BreaksOnce, BreaksCount, BreaksPrincipal, BreaksRule}
 use Rattle.round_trip.proofs.FirstBreach.{TellsOne, TellsOneFrom, last_rule, before_rules}
-use Rattle.round_trip.proofs.AtPlaces.{StandAt, told_once}
+use Rattle.round_trip.proofs.AtPlaces.{StandAt, told_once, told_with}
 
 module _ (model : EntityModel) (state : State) where
   abbrev entities : ℕ → EntitySet → List Entity
@@ -32,12 +32,8 @@ module _ (model : EntityModel) (state : State) where
     prop_told : (x y : Place) (value other : Value) (declared other_declared : Prop) → StandsAtProp model state spot x value declared
         → StandsAtProp model state spot y other other_declared → x ≡ y
     prop_told x y value other declared other_declared one two =
-        let at_one : StandAt model.sets entities spot one.set one.entity = entity_at one.stands one.spot_is in
-        let at_two : StandAt model.sets entities spot two.set two.entity = entity_at two.stands two.spot_is in
-        let same_entity : one.entity ≡ two.entity = told_once model.sets entities (λ set entity. entity) at_one at_two refl refl in
-        let same_declared : declared ≡ other_declared = cc in
-        told_once model.sets entities (λ set entity. place_at set.name (key_of model entity) declared.name) at_one at_two one.place_is
-        (two.place_is ∙ ap (λ (d : Prop). place_at two.set.name (key_of model two.entity) d.name) (sym same_declared))
+        told_with model.sets entities (λ set entity (prop : Prop). place_at set.name (key_of model entity) prop.name) declared other_declared
+        (entity_at one.stands one.spot_is) (entity_at two.stands two.spot_is) (λ same_set same_entity. cc) one.place_is two.place_is
 
     null_told : TellsOne (BreaksNull model state spot)
     null_told x y one two = prop_told x y _ _ one.0 two.0 one.1 two.1
@@ -98,9 +94,8 @@ module _ (model : EntityModel) (state : State) where
         let same_assoc : one.assoc ≡ two.assoc = cc in
         let same_constraint : one.constraint ≡ two.constraint = cc in
         let here : set_number two ∷ two.i ∷ [] ≡ set_number one ∷ one.i ∷ [] = cc in
-        told_once model.sets entities (λ set entity. place_at set.name (key_of model entity) one.assoc.set_name)
-        (entity_at one.stands here) (entity_at two.stands refl) one.place_is
-        (two.place_is ∙ ap (λ (assoc : Assoc). place_at two.set.name (key_of model two.entity) assoc.set_name) (sym same_assoc))
+        told_with model.sets entities (λ set entity (assoc : Assoc). place_at set.name (key_of model entity) assoc.set_name) one.assoc two.assoc
+        (entity_at one.stands here) (entity_at two.stands refl) (λ same_set same_entity. same_assoc) one.place_is two.place_is
       where
         set_number : {place : Place} → BreaksPrincipal model state spot place → ℕ
         set_number breaks = (dependent_end breaks.assoc breaks.constraint).set.index

@@ -1,9 +1,9 @@
 -- Each rule of tables tells one place at a spot.
-use Rattle.std.proofs.Common.{◌≡◌, ℕ, List, [], ◌∷◌, refl, sym, ap, ◌∙◌}
+use Rattle.std.proofs.Common.{◌≡◌, ℕ, List, [], ◌∷◌}
 use Rattle.round_trip.specs.Types.{Value, Place, place_at, StoreModel, Table, Column, ForeignKey, Row, Tables, rows_in, row_key}
 use Rattle.round_trip.specs.TableBreaches.{RowStandsIn, StandsAtColumn, BreaksNullCell, BreaksCellDomain, BreaksRowKey, BreaksForeignKey, BreaksTableRule}
 use Rattle.round_trip.proofs.FirstBreach.{TellsOne, TellsOneFrom, last_rule, before_rules}
-use Rattle.round_trip.proofs.AtPlaces.{StandAt, told_once}
+use Rattle.round_trip.proofs.AtPlaces.{StandAt, told_once, told_with}
 
 module _ (store : StoreModel) (tables : Tables) where
   abbrev rows : ℕ → Table → List Row
@@ -17,12 +17,8 @@ module _ (store : StoreModel) (tables : Tables) where
     column_told : (x y : Place) (value other : Value) (column other_column : Column) → StandsAtColumn store tables spot x value column
         → StandsAtColumn store tables spot y other other_column → x ≡ y
     column_told x y value other column other_column one two =
-        let at_one : StandAt store.tables rows spot one.table one.row = row_at one.stands one.spot_is in
-        let at_two : StandAt store.tables rows spot two.table two.row = row_at two.stands two.spot_is in
-        let same_table : one.table ≡ two.table = told_once store.tables rows (λ table row. table) at_one at_two refl refl in
-        let same_column : column ≡ other_column = cc in
-        told_once store.tables rows (λ table row. place_at table.name (row_key table row) column.name) at_one at_two one.place_is
-        (two.place_is ∙ ap (λ (c : Column). place_at two.table.name (row_key two.table two.row) c.name) (sym same_column))
+        told_with store.tables rows (λ table row (c : Column). place_at table.name (row_key table row) c.name) column other_column
+        (row_at one.stands one.spot_is) (row_at two.stands two.spot_is) (λ same_table same_row. cc) one.place_is two.place_is
 
     null_told : TellsOne (BreaksNullCell store tables spot)
     null_told x y one two = column_told x y _ _ one.0 two.0 one.1 two.1
@@ -37,10 +33,8 @@ module _ (store : StoreModel) (tables : Tables) where
 
     foreign_key_told : TellsOne (BreaksForeignKey store tables spot)
     foreign_key_told x y one two =
-        let same_key : one.key ≡ two.key = cc in
-        told_once store.tables rows (λ table row. place_at table.name (row_key table row) one.key.name)
-        (row_at one.stands one.spot_is) (row_at two.stands two.spot_is) one.place_is
-        (two.place_is ∙ ap (λ (key : ForeignKey). place_at two.table.name (row_key two.table two.row) key.name) (sym same_key))
+        told_with store.tables rows (λ table row (key : ForeignKey). place_at table.name (row_key table row) key.name) one.key two.key
+        (row_at one.stands one.spot_is) (row_at two.stands two.spot_is) (λ same_table same_row. cc) one.place_is two.place_is
 
     rules : TellsOneFrom 1 (λ rule. BreaksTableRule store tables rule spot)
     rules =
