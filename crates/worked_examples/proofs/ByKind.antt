@@ -54,7 +54,7 @@ abbrev row_for : TableId → List Value → Row
 row_for t (Whole (pos (suc zero)) ∷ rest) = person_row
 row_for t _ = employee_row
 
--- the condition gives the column Kind its constant
+-- what each writes stands in its row, and so does the constant of its kind
 in_rows : (writing : Writing) → Writes told_staff one_of_each writing → IsInItsRow told_staff one_of_each row_for writing
 in_rows writing by = each (IsInItsRow told_staff one_of_each row_for)
     (λ col value gives. each_given of_person (λ c v. v ≡ cell_of person_row c) (refl, (refl, tt))
