@@ -2,6 +2,11 @@
 //! which a state fails, and the round trip. Nothing here speaks of how any of it is decided.
 #![tactic(auto)]
 
+ghost use Rattle.std.specs.Prelude.{◌≡◌};
+ghost use Rattle.round_trip.specs.Types.{Breach, EntityModel, State, StoreModel, Tables};
+ghost use Rattle.round_trip.specs.Breaches.{IsBreachOf};
+ghost use Rattle.round_trip.specs.TableBreaches.{IsBreachOfTables};
+
 /// The ways in which an entity state fails, in the order in which they are told.
 #[derive(Clone, Copy, Debug, PartialEq, Eq)]
 pub enum FailKind {
@@ -16,3 +21,9 @@ pub enum FailKind {
     /// Another legal state has the same tables.
     Same,
 }
+
+/// The law that no two different breaches are told: of a state, and of tables.
+pub fn one_breach()
+    ensures states { (model : EntityModel) (state : State) (one two : Breach) → IsBreachOf model state one → IsBreachOf model state two → one ≡ two }
+    ensures tables { (store : StoreModel) (tables : Tables) (one two : Breach) → IsBreachOfTables store tables one → IsBreachOfTables store tables two → one ≡ two }
+{}

@@ -1,10 +1,14 @@
 -- Where a fragment agrees with the tables: entity by entity or link by link, and row by row.
-use Rattle.std.proofs.Common.{◌≡◌, List, ◌++◌, sym, ap, subst, ◌∙◌}
-use Rattle.std.specs.Prelude.{map}
+use Rattle.std.proofs.Common.{◌≡◌, List, [], ◌++◌, sym, ap, subst, ◌∙◌}
+use Rattle.std.specs.Prelude.{All, map}
 use Rattle.std.specs.List.{AllByRecursion}
-use Rattle.std.proofs.lemmas.List.Elements.{All-from_recursion}
-use Rattle.round_trip.specs.Words.{Value, Assoc, Fragment, LinkFragment, Schema, Entity, Link, Row, At, State, entities_in, links_in, Tables, rows_in, cells_of, Selects, Shows, ShowsLink, entity_cells, link_cells, IsWrittenTuple, IsShownTuple, IsWrittenLinkTuple, IsShownLinkTuple, AreSameTuples, Satisfies}
+use Rattle.std.proofs.lemmas.List.Elements.{All-nil, All-from_recursion}
+use Rattle.round_trip.specs.Words.{Value, Assoc, Fragment, LinkFragment, Cond, Schema, Entity, Link, Row, At, State, entities_in, links_in, Tables, rows_in, cells_of, MetByRow, Selects, Shows, ShowsLink, entity_cells, link_cells, IsWrittenTuple, IsShownTuple, IsWrittenLinkTuple, IsShownLinkTuple, AreSameTuples, Satisfies}
 use Rattle.worked_examples.proofs.Small.{each_of}
+
+-- a row meets no conditions
+pub meets_none : (row : Row) → All (λ (cond : Cond). MetByRow row cond.on cond.test) []
+meets_none row = All-nil (λ cond. MetByRow row cond.on cond.test)
 
 module _ (schema : Schema) (state : State) (tables : Tables) where
   abbrev pub Agrees : Fragment → Type 0

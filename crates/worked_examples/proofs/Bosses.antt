@@ -25,6 +25,9 @@ unnamed id = person (pos id) Null
 abbrev pub three_unnamed : List Entity
 three_unnamed = unnamed 1 ∷ unnamed 2 ∷ unnamed 3 ∷ []
 
+abbrev pub two_unnamed : List Entity
+two_unnamed = unnamed 1 ∷ unnamed 2 ∷ []
+
 module _ (mult : Mult) where
   pub unnamed_stands : (id : ℕ) → id ≤ 2147483647 → MayStand (bossed_model mult) people_set (unnamed id)
   unnamed_stands id below = may_stand_with (bosses mult ∷ []) id Null below no_name
@@ -37,6 +40,12 @@ module _ (mult : Mult) where
 
   pub three_own_keys : PairsByRecursion (HaveOwnKeys (bossed_model mult)) three_unnamed
   three_own_keys = ((unnamed_differ 1 2 (omega arith), (unnamed_differ 1 3 (omega arith), tt)), ((unnamed_differ 2 3 (omega arith), tt), (tt, tt)))
+
+  pub two_stand : AllByRecursion (MayStand (bossed_model mult) people_set) two_unnamed
+  two_stand = (unnamed_stands 1 (omega arith), (unnamed_stands 2 (omega arith), tt))
+
+  pub two_own_keys : PairsByRecursion (HaveOwnKeys (bossed_model mult)) two_unnamed
+  two_own_keys = ((unnamed_differ 1 2 (omega arith), tt), (tt, tt))
 
   pub is_link : (staff manager : ℕ) → IsLink (bossed_model mult) (bosses mult) (boss_of (pos staff) (pos manager))
   is_link staff manager = record { independent = refl; first = refl; second = refl }

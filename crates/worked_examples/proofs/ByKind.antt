@@ -1,127 +1,151 @@
--- An employee in the table of people and employees: the row is of kind E, so that only the fragment of employees shows it.
-use Rattle.std.proofs.Common.{◌≡◌, ◌≢◌, inl, inr, ℕ, List, [], ◌∷◌, refl, sym, ap, ◌∙◌, arith}
-use Rattle.std.specs.Prelude.{get_or, pos, codes, true, false, Some}
+-- A person and an employee in one table: the rows are of kinds P and E, so that each fragment shows its own.
+use Rattle.std.proofs.Common.{◌≡◌, ◌≢◌, inl, inr, ℕ, zero, suc, List, [], ◌∷◌, refl, arith}
+use Rattle.std.specs.Prelude.{All, pos, codes, true, false, Some}
+use Rattle.std.specs.List.{AllByRecursion}
 use Rattle.std.proofs.lemmas.List.Elements.{All-from_recursion}
-use Rattle.round_trip.specs.Words.{TypeId, Null, Whole, Text, Cond, Entity, Row, cell_of, MetByEntity, MetByRow, IsPicked, Selects, Shows, Writing, Writes}
-use Rattle.edm_types.specs.declared.mapping.CondOn.TheVariants as on
-use Rattle.edm_types.specs.declared.mapping.Test.TheVariants.{IsNull, Equals}
-use Rattle.edm_types.specs.IsA.{base}
-use Rattle.worked_examples.specs.Ids.{type_id, col_id, just, entity_of, row_of}
-use Rattle.worked_examples.specs.People.{id_prop, name_prop, people_set}
-use Rattle.worked_examples.specs.Salary.{staff, staff_model, staff_store, staff_table, employee_type, salary_prop, persons, employees, kind_is}
-use Rattle.worked_examples.specs.ByKind.{one_employee, employee_rows, EmployeeIsLegal, EmployeeIsStored, EmployeeRowIsLegal, EmployeeRowSatisfies}
-use Rattle.worked_examples.proofs.Small.{any_one}
-use Rattle.worked_examples.proofs.Values.{whole_fits, text_fits, text_e}
-use Rattle.worked_examples.proofs.Entities.{MayStand, shaped_set, legal_set}
-use Rattle.worked_examples.proofs.Writings.{entity_writing, each_writing, IsRowOf, OfCond, StandsIn, row_made}
-use Rattle.worked_examples.proofs.States.{legal_by_parts, one_row_stored}
-use Rattle.worked_examples.proofs.LegalRows.{FitsTable, legal_rows, legal_tables}
+use Rattle.round_trip.specs.Words.{TableId, Value, Null, Whole, Text, Entity, Row, cell_of, MetByRow, Writing, Writes, WritesRow}
+use Rattle.emc_base.specs.declared.value.Kind.TheVariants as kind
+use Rattle.worked_examples.specs.Ids.{table_id, col_id}
+use Rattle.worked_examples.specs.Salary.{staff_store, staff_table, persons, employees, kind_is}
+use Rattle.worked_examples.specs.ByKind.{told_staff, optional_salaries, one_of_each, kind_row, told_rows, OneOfEachIsLegal, OneOfEachIsStored, ToldRowsAreLegal, ToldRowsSatisfy}
+use Rattle.worked_examples.proofs.Small.{PairsByRecursion}
+use Rattle.worked_examples.proofs.Values.{null_fits, whole_fits, text_fits, text_p, text_e}
+use Rattle.worked_examples.proofs.Writings.{entity_writing, each_writing, each_given, equals_given}
+use Rattle.worked_examples.proofs.LegalRows.{FitsTable, HaveOwnRowKeys, legal_rows, legal_tables}
+use Rattle.worked_examples.proofs.KeyedRows.{IsInItsRow, HasItsRow, all_rows_stored}
 use Rattle.worked_examples.proofs.Agreement.{Agrees, agrees, satisfied_by_parts}
 use Rattle.worked_examples.proofs.People.{no_name}
+use Rattle.worked_examples.proofs.Staff.{someone, employed, person_stands, employee_stands, person_selected, employee_selected, not_employed, not_a_mere_person, legal_staff}
 
-abbrev employed : Entity
-employed = entity_of (type_id 1) (Whole (pos 7) ∷ Null ∷ Whole (pos 5) ∷ [])
+abbrev a_person : Entity
+a_person = someone 1
 
-abbrev row : Row
-row = row_of (Whole (pos 7) ∷ Null ∷ Text (codes "E") ∷ Whole (pos 5) ∷ [])
+abbrev an_employee : Entity
+an_employee = employed 2 5
 
-stands : MayStand staff_model people_set employed
-stands = record {
-  shape = (employee_type, refl, refl);
-  type = record { concrete = (employee_type, refl, refl); under = base (type_id 1) (type_id 0) (employee_type, refl, refl) };
-  fits = (
-    record { declared = id_prop; is_declared = refl; fits = whole_fits false 7 (omega arith) },
+pub legal : OneOfEachIsLegal
+legal = legal_staff (a_person ∷ an_employee ∷ [])
+    (person_stands 1 (omega arith), (employee_stands 2 5 (omega arith) (omega arith), tt)) (((λ equal. absurd (cc)), tt), (tt, tt))
+
+abbrev person_row : Row
+person_row = kind_row (pos 1) (codes "P") Null
+
+abbrev employee_row : Row
+employee_row = kind_row (pos 2) (codes "E") (Whole (pos 5))
+
+abbrev rows : List Row
+rows = person_row ∷ employee_row ∷ []
+
+abbrev of_person : Writing
+of_person = entity_writing told_staff persons a_person
+
+abbrev of_employee : Writing
+of_employee = entity_writing told_staff employees an_employee
+
+-- each is written by its own fragment alone
+each : (Q : Writing → Type 0) → Q of_person → Q of_employee → (writing : Writing) → Writes told_staff one_of_each writing → Q writing
+each Q first second writing by = each_writing told_staff one_of_each Q (
+  ((λ s. first), ((λ s. absurd (not_a_mere_person 2 5 s)), tt)),
+  (((λ s. absurd (not_employed 1 s)), ((λ s. second), tt)), tt),
+) tt writing by
+
+-- the row of an id
+abbrev row_for : TableId → List Value → Row
+row_for t (Whole (pos (suc zero)) ∷ rest) = person_row
+row_for t _ = employee_row
+
+-- what each writes stands in its row, and so does the constant of its kind
+in_rows : (writing : Writing) → Writes told_staff one_of_each writing → IsInItsRow told_staff one_of_each row_for writing
+in_rows writing by = each (IsInItsRow told_staff one_of_each row_for)
+    (λ col value gives. each_given of_person (λ c v. v ≡ cell_of person_row c) (refl, (refl, tt))
+    (equals_given of_person (λ c v. v ≡ cell_of person_row c) (col_id 2) (Text (codes "P")) refl, tt) col value gives)
+    (λ col value gives. each_given of_employee (λ c v. v ≡ cell_of employee_row c) (refl, (refl, (refl, tt)))
+    (equals_given of_employee (λ c v. v ≡ cell_of employee_row c) (col_id 2) (Text (codes "E")) refl, tt) col value gives)
+    writing by
+
+first : WritesRow told_staff one_of_each (table_id 0) (Whole (pos 1) ∷ []) of_person
+first = record {
+  writes = inl (persons, a_person, record { mapped = (0, omega arith, refl); stands = (0, omega arith, refl); selected = person_selected 1 }, refl);
+  to_table = refl;
+  to_key = refl;
+}
+
+second : WritesRow told_staff one_of_each (table_id 0) (Whole (pos 2) ∷ []) of_employee
+second = record {
+  writes = inl (employees, an_employee, record { mapped = (1, omega arith, refl); stands = (1, omega arith, refl); selected = employee_selected 2 5 }, refl);
+  to_table = refl;
+  to_key = refl;
+}
+
+found : (writing : Writing) → Writes told_staff one_of_each writing
+    → HasItsRow told_staff one_of_each row_for in_rows (table_id 0) (staff_table optional_salaries) rows writing
+found writing by = each (HasItsRow told_staff one_of_each row_for in_rows (table_id 0) (staff_table optional_salaries) rows)
+    (λ to. (0, person_row, omega arith, refl, refl)) (λ to. (1, employee_row, omega arith, refl, refl)) writing by
+
+own : PairsByRecursion (HaveOwnRowKeys (staff_table optional_salaries)) rows
+own = (((λ equal. absurd (cc)), tt), (tt, tt))
+
+pub stored : OneOfEachIsStored
+stored = all_rows_stored told_staff one_of_each row_for in_rows (staff_table optional_salaries) rows (record {
+  is_table = refl;
+  made = (
+    record {
+      demanded = (of_person, first);
+      for_key = refl;
+      cells = (inr (of_person, first, inl (0, omega arith, refl)), (inl refl, (inr (of_person, first, inr (inl (0, omega arith, refl))), (inl refl, tt))));
+    },
     (
-      record { declared = name_prop; is_declared = refl; fits = no_name },
-      (record { declared = salary_prop; is_declared = refl; fits = whole_fits false 5 (omega arith) }, tt),
+      record {
+        demanded = (of_employee, second);
+        for_key = refl;
+        cells = (
+          inr (of_employee, second, inl (0, omega arith, refl)),
+          (inl refl, (inr (of_employee, second, inr (inl (0, omega arith, refl))), (inr (of_employee, second, inl (2, omega arith, refl)), tt))),
+        );
+      },
+      tt,
     ),
   );
-}
-
-pub legal : EmployeeIsLegal
-legal = legal_by_parts staff_model one_employee (record {
-  count = refl;
-  link_count = refl;
-  shapes = (shaped_set staff_model people_set (employed ∷ []) (stands, tt), tt);
-  sets = (legal_set staff_model people_set (employed ∷ []) (stands, tt) (tt, tt), tt);
-  assocs = tt;
+  found = found;
+  own = own;
+  count = (refl, (refl, tt));
 })
 
-selected : Selects staff_model employees employed
-selected = record {
-  picked = (0, just (type_id 1), omega arith, refl, refl);
-  meets = All-from_recursion (λ cond. MetByEntity staff_model employed cond.on cond.test) (kind_is (codes "E") ∷ []) (tt, tt);
-}
-
-no_person : ¬ Selects staff_model persons employed
-no_person selects =
-    let type : type_id 1 ≡ type_id 0 = any_one (IsPicked staff_model (type_id 1)) (just (type_id 0)) selects.picked in
-    let index : ◌≡◌ {A = ℕ} 1 0 = ap (λ (t : TypeId). t.index) type in
-    absurd (omega arith)
-
-abbrev written : Writing
-written = entity_writing staff employees employed
-
-only : (writing : Writing) → Writes staff one_employee writing → writing ≡ written
-only writing by = each_writing staff one_employee (λ w. w ≡ written) (((λ s. absurd (no_person s)), tt), (((λ s. refl), tt), tt)) tt writing by
-
--- the condition gives the column Kind its constant
-kind_given : OfCond written (StandsIn staff staff_table written row) (kind_is (codes "E"))
-kind_given = record {
-  constant = λ col value equal.
-      let at : on.Col (col_id 2) ≡ on.Col col = ap (λ (c : Cond). c.on) equal in
-      let same_col : col_id 2 ≡ col = cc in
-      let test : Equals (Text (codes "E")) ≡ Equals value = ap (λ (c : Cond). c.test) equal in
-      let same_value : Text (codes "E") ≡ value = cc in
-      ap (λ c. cell_of row c) (sym same_col) ∙ same_value;
-  null = λ col equal.
-      let test : Equals (Text (codes "E")) ≡ IsNull true = ap (λ (c : Cond). c.test) equal in
-      absurd (cc);
-}
-
-made : IsRowOf staff staff_table written row
-made = row_made staff staff_table written row refl (refl, (refl, (refl, tt))) (kind_given, tt) (
-  inr (inl (0, omega arith, refl)),
-  (inr (inl (1, omega arith, refl)), (inr (inr (inl (0, omega arith, refl))), (inr (inl (2, omega arith, refl)), tt))),
+fit : AllByRecursion (FitsTable (staff_table optional_salaries)) rows
+fit = (
+  (whole_fits false 1 (omega arith), (no_name, (text_fits false (Some 1) (codes "P") text_p, (null_fits kind.Int32, tt)))),
+  ((whole_fits false 2 (omega arith), (no_name, (text_fits false (Some 1) (codes "E") text_e, (whole_fits true 5 (omega arith), tt)))), tt),
 )
 
-pub stored : EmployeeIsStored
-stored = one_row_stored staff one_employee staff_table written row (record {
-  is_table = refl;
-  to_table = refl;
-  writes = inl (employees, employed, record { mapped = (1, omega arith, refl); stands = (0, omega arith, refl); selected = selected }, refl);
-  only = only;
-  made = made;
-  count = refl;
-})
+pub rows_legal : ToldRowsAreLegal
+rows_legal = legal_tables (staff_store optional_salaries) told_rows stored.shape (legal_rows (staff_table optional_salaries) rows fit own, tt) tt
 
-fits : FitsTable staff_table row
-fits = (whole_fits false 7 (omega arith), (no_name, (text_fits false (Some 1) (codes "E") text_e, (whole_fits false 5 (omega arith), tt))))
+module _ (id : ℕ) (letter : ℕ) (salary : Value) where
+  abbrev lettered : Row
+  lettered = kind_row (pos id) (letter ∷ []) salary
 
-pub rows_legal : EmployeeRowIsLegal
-rows_legal = legal_tables staff_store employee_rows stored.shape (legal_rows staff_table (row ∷ []) (fits, tt) (tt, tt), tt) tt
+  -- the conditions of a fragment whose rows are of this kind
+  abbrev AreMet : ℕ → Type 0
+  AreMet wanted = All (λ cond. MetByRow lettered cond.on cond.test) (kind_is (wanted ∷ []) ∷ [])
 
-shows : Shows employees row
-shows = All-from_recursion (λ cond. MetByRow row cond.on cond.test) (kind_is (codes "E") ∷ []) ((refl, λ none. absurd (cc)), tt)
+  met : AreMet letter
+  met = All-from_recursion (λ cond. MetByRow lettered cond.on cond.test) (kind_is (letter ∷ []) ∷ []) ((refl, λ none. absurd (cc)), tt)
 
--- the bytes of a text are its own
-bytes : (one two : List ℕ) → Text one ≡ Text two → one ≡ two
-bytes one two equal = cc
+  not_met : (other : ℕ) → letter ≢ other → ¬ AreMet other
+  not_met other differ meets =
+      let passes : (Text (letter ∷ []) ≡ Text (other ∷ [])) × (Text (letter ∷ []) ≢ Null) = meets 0 (kind_is (other ∷ [])) (omega arith) in
+      differ (cc (passes.0))
 
-not_shown : ¬ Shows persons row
-not_shown meets =
-    let passes : (Text (codes "E") ≡ Text (codes "P")) × (Text (codes "E") ≢ Null) = meets 0 (kind_is (codes "P")) (omega arith) in
-    let first : ◌≡◌ {A = ℕ} 69 80 = ap (λ text. get_or text 0 0) (bytes (codes "E") (codes "P") passes.0) in
-    absurd (omega arith)
+-- each fragment writes and shows its own
+persons_agree : Agrees told_staff one_of_each told_rows persons
+persons_agree = agrees told_staff one_of_each told_rows persons
+    ((λ s. (person_row, (0, omega arith, refl), met 1 80 Null, refl)), ((λ s. absurd (not_a_mere_person 2 5 s)), tt))
+    ((λ s. (a_person, (0, omega arith, refl), person_selected 1, refl)), ((λ s. absurd (not_met 2 69 (Whole (pos 5)) 80 (omega arith) s)), tt))
 
--- nothing is written and nothing shown
-persons_agree : Agrees staff one_employee employee_rows persons
-persons_agree = agrees staff one_employee employee_rows persons ((λ s. absurd (no_person s)), tt) ((λ s. absurd (not_shown s)), tt)
+employees_agree : Agrees told_staff one_of_each told_rows employees
+employees_agree = agrees told_staff one_of_each told_rows employees
+    ((λ s. absurd (not_employed 1 s)), ((λ s. (employee_row, (1, omega arith, refl), met 2 69 (Whole (pos 5)), refl)), tt))
+    ((λ s. absurd (not_met 1 80 Null 69 (omega arith) s)), ((λ s. (an_employee, (1, omega arith, refl), employee_selected 2 5, refl)), tt))
 
-employees_agree : Agrees staff one_employee employee_rows employees
-employees_agree = agrees staff one_employee employee_rows employees
-    ((λ s. (row, (0, omega arith, refl), shows, refl)), tt)
-    ((λ s. (employed, (0, omega arith, refl), selected, refl)), tt)
-
-pub satisfied : EmployeeRowSatisfies
-satisfied = satisfied_by_parts staff one_employee employee_rows (persons_agree, (employees_agree, tt)) tt
+pub satisfied : ToldRowsSatisfy
+satisfied = satisfied_by_parts told_staff one_of_each told_rows (persons_agree, (employees_agree, tt)) tt

@@ -1,8 +1,8 @@
 -- Three people with three links among them, each in a row of its own.
 use Rattle.std.proofs.Common.{◌≡◌, ◌≢◌, inl, inr, ℕ, ◌≤◌, zero, suc, List, [], ◌∷◌, ◌++◌, length, refl, sym, ap, arith}
-use Rattle.std.specs.Prelude.{All, Any, Contains, pos, false}
+use Rattle.std.specs.Prelude.{Any, Contains, pos, false}
 use Rattle.std.proofs.lemmas.List.Elements.{All-nil, All-from_recursion}
-use Rattle.round_trip.specs.Words.{TableId, Value, Null, Whole, EntityModel, Assoc, Cond, Entity, Link, Row, key_of, cell_of, row_key, MetByEntity, MetByRow, Selects, ShowsLink, Refers, FindsRow, KeepsForeignKey, Writing, Writes, WritesRow, AreDemandedRows}
+use Rattle.round_trip.specs.Words.{TableId, Value, Null, Whole, EntityModel, Assoc, Entity, Link, Row, key_of, cell_of, row_key, MetByEntity, Selects, ShowsLink, Refers, FindsRow, KeepsForeignKey, Writing, Writes, WritesRow, AreDemandedRows}
 use Rattle.edm_types.specs.declared.model.Mult.TheVariants.{Many}
 use Rattle.edm_types.specs.IsA.{same}
 use Rattle.worked_examples.specs.Ids.{type_id, table_id, just, row_of}
@@ -16,7 +16,7 @@ use Rattle.worked_examples.proofs.Writings.{OfFragment, OfLinkFragment, entity_w
 use Rattle.worked_examples.proofs.States.{stored_by_tables}
 use Rattle.worked_examples.proofs.LegalRows.{FitsTable, HaveOwnRowKeys, legal_rows, legal_tables}
 use Rattle.worked_examples.proofs.KeyedRows.{IsInItsRow, IsDemandedRow, HasItsRow, no_clash_by_keys, keyed_rows}
-use Rattle.worked_examples.proofs.Agreement.{Agrees, LinksAgree, agrees, links_agree, satisfied_by_parts}
+use Rattle.worked_examples.proofs.Agreement.{meets_none, Agrees, LinksAgree, agrees, links_agree, satisfied_by_parts}
 use Rattle.worked_examples.proofs.People.{no_name}
 use Rattle.worked_examples.proofs.Bosses.{links_differ, is_link, unnamed, three_unnamed, three_stand, three_own_keys, legal_bossed}
 
@@ -228,13 +228,10 @@ tables_legal = legal_tables joined_store joined_tables stored.shape (
 )
     (keeps_staff, (keeps_manager, tt))
 
-shows : (r : Row) → All (λ (cond : Cond). MetByRow r cond.on cond.test) []
-shows r = All-nil (λ cond. MetByRow r cond.on cond.test)
-
 people_agree : Agrees joined joined_state joined_tables all_people
 people_agree = agrees joined joined_state joined_tables all_people (
-  (λ s. (unnamed_row 1, (0, omega arith, refl), shows (unnamed_row 1), refl)),
-  ((λ s. (unnamed_row 2, (1, omega arith, refl), shows (unnamed_row 2), refl)), ((λ s. (unnamed_row 3, (2, omega arith, refl), shows (unnamed_row 3), refl)), tt)),
+  (λ s. (unnamed_row 1, (0, omega arith, refl), meets_none (unnamed_row 1), refl)),
+  ((λ s. (unnamed_row 2, (1, omega arith, refl), meets_none (unnamed_row 2), refl)), ((λ s. (unnamed_row 3, (2, omega arith, refl), meets_none (unnamed_row 3), refl)), tt)),
 ) (
   (λ s. (unnamed 1, (0, omega arith, refl), selected 1, refl)),
   ((λ s. (unnamed 2, (1, omega arith, refl), selected 2, refl)), ((λ s. (unnamed 3, (2, omega arith, refl), selected 3, refl)), tt)),
@@ -242,7 +239,7 @@ people_agree = agrees joined joined_state joined_tables all_people (
 
 shows_link : (staff manager : ℕ) → ShowsLink joined_links (joined_row staff manager)
 shows_link staff manager = record {
-  meets = shows (joined_row staff manager);
+  meets = meets_none (joined_row staff manager);
   keys = All-from_recursion (λ pair. cell_of (joined_row staff manager) pair.col ≢ Null) (joined_links.first ++ joined_links.second)
       ((λ none. absurd (cc)), ((λ none. absurd (cc)), tt));
 }

@@ -1,12 +1,13 @@
 -- Tables in which one row may come of several writings: each key has its row, in which all that is written to the key stands.
-use Rattle.std.proofs.Common.{◌≡◌, ◌⊎◌, ℕ, List, sym, ap, subst, ◌∙◌}
+use Rattle.std.proofs.Common.{◌≡◌, ◌⊎◌, ℕ, List, [], ◌∷◌, length, sym, ap, subst, ◌∙◌}
 use Rattle.std.specs.Prelude.{Any}
 use Rattle.std.specs.List.{AllByRecursion}
 use Rattle.std.proofs.lemmas.List.Elements.{All-from_recursion, All-weaker}
-use Rattle.round_trip.specs.Words.{TableId, ColId, Value, Null, Table, Column, Schema, Row, State, cell_of, row_key, Writing, Writes, written_key, Fills, DemandsRow, DemandsCell, HasNoClash, HasDemandedCells, AreDemandedRows}
-use Rattle.worked_examples.specs.Ids.{col_id}
+use Rattle.round_trip.specs.Words.{TableId, ColId, Value, Null, Table, Column, Schema, Row, State, cell_of, row_key, Writing, Writes, written_key, Fills, DemandsRow, DemandsCell, HasNoClash, HasDemandedCells, AreDemandedRows, TablesAre}
+use Rattle.worked_examples.specs.Ids.{table_id, col_id}
 use Rattle.worked_examples.proofs.Small.{EachAt, each_at, PairsByRecursion, all_pairs}
 use Rattle.worked_examples.proofs.LegalRows.{HaveOwnRowKeys}
+use Rattle.worked_examples.proofs.States.{IsStoredAt, stored_by_tables}
 
 module _ (schema : Schema) (state : State) (row_for : TableId → List Value → Row) where
   -- what the writing gives stands in the row of its key
@@ -53,3 +54,22 @@ module _ (schema : Schema) (state : State) (row_for : TableId → List Value →
         once = all_pairs (HaveOwnRowKeys table) rows own;
         cells = All-weaker IsDemandedRow (HasDemandedCells schema state t table) cells rows (All-from_recursion IsDemandedRow rows each_row);
       }
+
+  -- a store of one table, in which these are the rows
+  module _ (each : (writing : Writing) → Writes schema state writing → IsInItsRow writing) (table : Table) (rows : List Row) where
+    abbrev HasAllCells : Row → Type 0
+    HasAllCells row = length row.cells ≡ length table.cols
+
+    pub record AreAllRows : Type 0 where
+      pub is_table : table ∷ [] ≡ schema.store.tables
+      pub made : AllByRecursion (IsDemandedRow each (table_id 0) table) rows
+      pub found : (writing : Writing) → Writes schema state writing → HasItsRow each (table_id 0) table rows writing
+      pub own : PairsByRecursion (HaveOwnRowKeys table) rows
+      pub count : AllByRecursion HasAllCells rows
+
+    pub all_rows_stored : AreAllRows → TablesAre schema state (rows ∷ [])
+    all_rows_stored all = stored_by_tables schema state (rows ∷ []) (ap length all.is_table) (no_clash_by_keys each)
+        (subst (EachAt (IsStoredAt schema state (rows ∷ []))) all.is_table (
+          record { shape = All-from_recursion HasAllCells rows all.count; rows = keyed_rows each (table_id 0) table rows all.made all.found all.own },
+          tt,
+        ))

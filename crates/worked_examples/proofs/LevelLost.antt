@@ -12,9 +12,9 @@ use Rattle.worked_examples.specs.LevelLost.{items, item_model, item_type, items_
 use Rattle.worked_examples.specs.LevelLost.{level_is, of_level, level_one_table, level_two_table, LevelIsLost}
 use Rattle.worked_examples.proofs.Small.{PairsByRecursion}
 use Rattle.worked_examples.proofs.Values.{whole_fits}
-use Rattle.worked_examples.proofs.Entities.{MayStand, HaveOwnKeys, shaped_set, legal_set}
+use Rattle.worked_examples.proofs.Entities.{MayStand, HaveOwnKeys}
 use Rattle.worked_examples.proofs.Writings.{each_writing, no_row}
-use Rattle.worked_examples.proofs.States.{legal_by_parts, stored_by_tables}
+use Rattle.worked_examples.proofs.States.{legal_set_alone, stored_by_tables}
 
 abbrev third : Entity
 third = item (pos 1) (pos 3)
@@ -34,13 +34,7 @@ stands = record {
 
 legal : (entities : List Entity) → AllByRecursion (MayStand item_model items_set) entities → PairsByRecursion (HaveOwnKeys item_model) entities
     → IsLegal item_model (only_items entities)
-legal entities each own = legal_by_parts item_model (only_items entities) (record {
-  count = refl;
-  link_count = refl;
-  shapes = (shaped_set item_model items_set entities each, tt);
-  sets = (legal_set item_model items_set entities each own, tt);
-  assocs = tt;
-})
+legal entities each own = legal_set_alone item_model items_set entities refl refl each own
 
 not_selected : (place : List ℕ) (table level : ℕ) → 3 ≢ level → ¬ Selects item_model (of_level place table (pos level)) third
 not_selected place table level other selects =

@@ -1,14 +1,13 @@
 -- A person without a name is written, and the row of this isn't shown.
-use Rattle.std.proofs.Common.{◌≡◌, ◌≢◌, inl, List, [], ◌∷◌, refl, ap, arith}
-use Rattle.std.specs.Prelude.{pos, true, false}
+use Rattle.std.proofs.Common.{◌≡◌, ◌≢◌, inl, List, [], ◌∷◌, refl, arith}
+use Rattle.std.specs.Prelude.{pos}
 use Rattle.std.proofs.lemmas.List.Elements.{All-from_recursion}
-use Rattle.round_trip.specs.Words.{ColId, Value, Null, Whole, Fragment, Cond, Entity, Row, Tables, cell_of, MetByEntity, TablesAre, IsShownTuple}
-use Rattle.edm_types.specs.declared.mapping.Test.TheVariants.{IsNull, Equals}
+use Rattle.round_trip.specs.Words.{Value, Null, Whole, Fragment, Entity, Row, Tables, cell_of, MetByEntity, TablesAre, IsShownTuple}
 use Rattle.worked_examples.specs.Ids.{col_id}
 use Rattle.worked_examples.specs.People.{people_model, people_fragment, person, person_row, only_people, only_rows}
 use Rattle.worked_examples.specs.NameShown.{name_stands, people_with_names, NullNameIsHidden}
 use Rattle.worked_examples.proofs.Small.{each_of}
-use Rattle.worked_examples.proofs.Writings.{OfCond}
+use Rattle.worked_examples.proofs.Writings.{nothing_given}
 use Rattle.worked_examples.proofs.OneRow.{IsMet, selects, the_writing, one_row_demanded}
 use Rattle.worked_examples.proofs.Stored.{both, row_of_both}
 use Rattle.worked_examples.proofs.People.{may_stand, no_name, legal_people}
@@ -28,16 +27,9 @@ shown = people_fragment both (name_stands ∷ [])
 met : IsMet both (name_stands ∷ []) (pos 7) Null Null
 met = All-from_recursion (λ cond. MetByEntity people_model unnamed cond.on cond.test) (name_stands ∷ []) (tt, tt)
 
--- the condition gives its column nothing
-gives_nothing : (Q : ColId → Value → Type 0) → OfCond (the_writing both (name_stands ∷ []) (pos 7) Null Null) Q name_stands
-gives_nothing Q = record {
-  constant = λ col value equal. let test : IsNull false ≡ Equals value = ap (λ (c : Cond). c.test) equal in absurd (cc);
-  null = λ col equal. let test : IsNull false ≡ IsNull true = ap (λ (c : Cond). c.test) equal in absurd (cc);
-}
-
 stored : TablesAre people_with_names (only_people (unnamed ∷ [])) row
 stored = one_row_demanded both (name_stands ∷ []) (pos 7) Null Null met
-    (row_of_both (name_stands ∷ []) (pos 7) Null (gives_nothing (λ col value. cell_of unnamed_row col ≡ value), tt))
+    (row_of_both (name_stands ∷ []) (pos 7) Null (nothing_given (the_writing both (name_stands ∷ []) (pos 7) Null Null) (λ col value. cell_of unnamed_row col ≡ value) (col_id 1), tt))
 
 hidden : (tuple : List Value) → ¬ IsShownTuple row shown tuple
 hidden tuple by =

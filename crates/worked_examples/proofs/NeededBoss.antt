@@ -1,17 +1,14 @@
 -- Two people who need one boss each.
 use Rattle.std.proofs.Common.{◌≡◌, ◌≢◌, ℕ, List, [], ◌∷◌, refl, sym, ◌∙◌, arith}
 use Rattle.std.specs.Prelude.{pos}
-use Rattle.round_trip.specs.Words.{Value, Whole, Entity, Link, AtMostOne, HasCount, AreLegalLinks}
+use Rattle.round_trip.specs.Words.{Value, Whole, Link, AtMostOne, HasCount, AreLegalLinks}
 use Rattle.edm_types.specs.declared.model.Mult.TheVariants.{One}
 use Rattle.edm_types.specs.IsA.{same}
 use Rattle.worked_examples.specs.Ids.{type_id, assoc_id}
 use Rattle.worked_examples.specs.Bosses.{bosses, bossed_model, boss_of}
 use Rattle.worked_examples.specs.NeededBoss.{pair_with, EachOthersBossIsLegal, MissingBossIsNot}
 use Rattle.worked_examples.proofs.Small.{any_one, at_most_one}
-use Rattle.worked_examples.proofs.Bosses.{unnamed, unnamed_stands, unnamed_differ, links_differ, is_link, legal_bossed}
-
-abbrev two : List Entity
-two = unnamed 1 ∷ unnamed 2 ∷ []
+use Rattle.worked_examples.proofs.Bosses.{unnamed, two_unnamed, two_stand, two_own_keys, links_differ, is_link, legal_bossed}
 
 abbrev links : List Link
 links = boss_of (pos 1) (pos 2) ∷ boss_of (pos 2) (pos 1) ∷ []
@@ -28,9 +25,9 @@ at_most id = at_most_one (λ (link : Link). link.first ≡ key id) links
     (((λ first second. absurd (keys_differ 1 2 (omega arith) (first ∙ sym second))), tt), (tt, tt))
 
 pub each_others_boss_is_legal : EachOthersBossIsLegal
-each_others_boss_is_legal = legal_bossed One two links (record {
-  stand = (unnamed_stands One 1 (omega arith), (unnamed_stands One 2 (omega arith), tt));
-  own_keys = ((unnamed_differ One 1 2 (omega arith), tt), (tt, tt));
+each_others_boss_is_legal = legal_bossed One two_unnamed links (record {
+  stand = two_stand One;
+  own_keys = two_own_keys One;
   shapes = (is_link One 1 2, (is_link One 2 1, tt));
   ends = (
     ((0, unnamed 1, omega arith, refl, (same (type_id 0), refl)), (1, unnamed 2, omega arith, refl, (same (type_id 0), refl))),

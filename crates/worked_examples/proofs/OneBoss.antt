@@ -1,9 +1,9 @@
 -- Three people, of whom the first is the boss of the others: two rows come of a person and of a link.
-use Rattle.std.proofs.Common.{◌≡◌, ◌≢◌, inl, inr, ℕ, zero, suc, List, [], ◌∷◌, ◌++◌, length, refl, sym, ◌∙◌, arith}
-use Rattle.std.specs.Prelude.{All, Contains, pos, codes, false, true}
+use Rattle.std.proofs.Common.{◌≡◌, ◌≢◌, inl, inr, ℕ, zero, suc, List, [], ◌∷◌, ◌++◌, refl, sym, ◌∙◌, arith}
+use Rattle.std.specs.Prelude.{Contains, pos, codes, false, true}
 use Rattle.std.specs.List.{AllByRecursion}
 use Rattle.std.proofs.lemmas.List.Elements.{All-nil, All-from_recursion}
-use Rattle.round_trip.specs.Words.{TableId, Value, Null, Whole, Text, EntityModel, Assoc, Cond, Schema, Entity, Link, Row, AtMostOne, cell_of, MetByEntity, MetByRow, Selects, ShowsLink, Refers, FindsRow, KeepsForeignKey, Writing, Writes, WritesRow, AreDemandedRows}
+use Rattle.round_trip.specs.Words.{TableId, Value, Null, Whole, Text, EntityModel, Assoc, Schema, Entity, Link, Row, AtMostOne, cell_of, MetByEntity, Selects, ShowsLink, Refers, FindsRow, KeepsForeignKey, Writing, Writes, WritesRow}
 use Rattle.emc_base.specs.declared.value.Kind.TheVariants as kind
 use Rattle.edm_types.specs.declared.model.Mult.TheVariants.{ZeroOrOne}
 use Rattle.edm_types.specs.IsA.{same}
@@ -15,10 +15,9 @@ use Rattle.worked_examples.proofs.Small.{PairsByRecursion, at_most_one}
 use Rattle.worked_examples.proofs.Values.{null_fits, whole_fits, text_a, text_b, text_c}
 use Rattle.worked_examples.proofs.Entities.{MayStand, HaveOwnKeys}
 use Rattle.worked_examples.proofs.Writings.{entity_writing, link_writing, each_writing, each_given, of_links}
-use Rattle.worked_examples.proofs.States.{stored_by_tables}
 use Rattle.worked_examples.proofs.LegalRows.{FitsTable, HaveOwnRowKeys, legal_rows, legal_tables}
-use Rattle.worked_examples.proofs.KeyedRows.{IsInItsRow, IsDemandedRow, HasItsRow, no_clash_by_keys, keyed_rows}
-use Rattle.worked_examples.proofs.Agreement.{Agrees, LinksAgree, agrees, links_agree, satisfied_by_parts}
+use Rattle.worked_examples.proofs.KeyedRows.{IsInItsRow, IsDemandedRow, HasItsRow, all_rows_stored}
+use Rattle.worked_examples.proofs.Agreement.{meets_none, Agrees, LinksAgree, agrees, links_agree, satisfied_by_parts}
 use Rattle.worked_examples.proofs.People.{may_stand_with, a_name, ids_differ}
 use Rattle.worked_examples.proofs.Bosses.{links_differ, is_link, legal_bossed}
 
@@ -217,15 +216,9 @@ own_row_keys = (
   ((rows_differ 2 3 (codes "b") (codes "c") (Whole (pos 1)) (Whole (pos 1)) (omega arith), tt), (tt, tt)),
 )
 
-stored_rows : AreDemandedRows schema crew (table_id 0) bossed_table rows
-stored_rows = keyed_rows schema crew row_for in_rows (table_id 0) bossed_table rows (boss_demanded, (second_demanded, (third_demanded, tt))) found own_row_keys
-
-abbrev HasThreeCells : Row → Type 0
-HasThreeCells row = length row.cells ≡ 3
-
 pub stored : CrewIsStored
-stored = stored_by_tables schema crew crew_tables refl (no_clash_by_keys schema crew row_for in_rows)
-    (record { shape = All-from_recursion HasThreeCells rows (refl, (refl, (refl, tt))); rows = stored_rows }, tt)
+stored = all_rows_stored schema crew row_for in_rows bossed_table rows
+    (record { is_table = refl; made = (boss_demanded, (second_demanded, (third_demanded, tt))); found = found; own = own_row_keys; count = (refl, (refl, (refl, tt))) })
 
 -- the boss of a row is found in the first
 abbrev FindsBoss : Row → Type 0
@@ -249,13 +242,10 @@ fit = (
 pub tables_legal : CrewTablesAreLegal
 tables_legal = legal_tables bossed_store crew_tables stored.shape (legal_rows bossed_table rows fit own_row_keys, tt) (keeps_key, tt)
 
-shows : (row : Row) → All (λ (cond : Cond). MetByRow row cond.on cond.test) []
-shows row = All-nil (λ cond. MetByRow row cond.on cond.test)
-
 people_agree : Agrees schema crew crew_tables all_people
 people_agree = agrees schema crew crew_tables all_people (
-  (λ s. (boss_row, (0, omega arith, refl), shows boss_row, refl)),
-  ((λ s. (second_row, (1, omega arith, refl), shows second_row, refl)), ((λ s. (third_row, (2, omega arith, refl), shows third_row, refl)), tt)),
+  (λ s. (boss_row, (0, omega arith, refl), meets_none boss_row, refl)),
+  ((λ s. (second_row, (1, omega arith, refl), meets_none second_row, refl)), ((λ s. (third_row, (2, omega arith, refl), meets_none third_row, refl)), tt)),
 ) (
   (λ s. (named 1 (codes "a"), (0, omega arith, refl), selected 1 (codes "a"), refl)),
   (
@@ -267,7 +257,7 @@ people_agree = agrees schema crew crew_tables all_people (
 -- a row with a boss shows a link
 shows_link : (id : ℕ) (name : List ℕ) → ShowsLink boss_links (crew_row (pos id) name (Whole (pos 1)))
 shows_link id name = record {
-  meets = shows (crew_row (pos id) name (Whole (pos 1)));
+  meets = meets_none (crew_row (pos id) name (Whole (pos 1)));
   keys = All-from_recursion (λ pair. cell_of (crew_row (pos id) name (Whole (pos 1))) pair.col ≢ Null) (boss_links.first ++ boss_links.second)
       ((λ none. absurd (cc)), ((λ none. absurd (cc)), tt));
 }

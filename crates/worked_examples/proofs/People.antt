@@ -10,8 +10,8 @@ use Rattle.worked_examples.specs.Ids.{type_id, set_id, prop_id}
 use Rattle.worked_examples.specs.People.{TwentyOneCharactersAreNot, people_with, accented, people_model, people_set, person_type, id_prop, name_prop, person, only_people}
 use Rattle.worked_examples.proofs.Small.{PairsByRecursion}
 use Rattle.worked_examples.proofs.Values.{FitsIn, null_fits, whole_fits, text_fits, no_text_21}
-use Rattle.worked_examples.proofs.Entities.{MayStand, HaveOwnKeys, shaped_set, legal_set}
-use Rattle.worked_examples.proofs.States.{legal_by_parts}
+use Rattle.worked_examples.proofs.Entities.{MayStand, HaveOwnKeys}
+use Rattle.worked_examples.proofs.States.{legal_set_alone}
 
 -- the value may be a name
 abbrev pub FitsName : Value → Type 0
@@ -38,13 +38,7 @@ a_name bytes text = text_fits true (Some 20) bytes text
 -- people who may stand, of different ids, make a legal state
 pub legal_people : (entities : List Entity) → AllByRecursion (MayStand people_model people_set) entities → PairsByRecursion (HaveOwnKeys people_model) entities
     → IsLegal people_model (only_people entities)
-legal_people entities each own = legal_by_parts people_model (only_people entities) (record {
-  count = refl;
-  link_count = refl;
-  shapes = (shaped_set people_model people_set entities each, tt);
-  sets = (legal_set people_model people_set entities each own, tt);
-  assocs = tt;
-})
+legal_people entities each own = legal_set_alone people_model people_set entities refl refl each own
 
 -- people of different ids have different keys
 pub ids_differ : (assocs : List Assoc) (one two : ℕ) (name other : Value) → one ≢ two

@@ -1,11 +1,12 @@
 -- Legal states and tables of small schemas, set by set, association by association, table by table.
-use Rattle.std.proofs.Common.{◌≡◌, ℕ, [], ◌∷◌, length, sym, ap, subst, ◌∙◌}
+use Rattle.std.proofs.Common.{◌≡◌, ℕ, List, [], ◌∷◌, length, sym, ap, subst, ◌∙◌}
 use Rattle.std.specs.Prelude.{All, Some}
 use Rattle.std.specs.List.{AllByRecursion}
 use Rattle.std.proofs.lemmas.List.Elements.{All-nil, All-from_recursion}
-use Rattle.round_trip.specs.Words.{EntityModel, EntitySet, Assoc, Constraint, Table, Schema, Row, IsEntity, State, entities_in, links_in, IsIndependent, IsLink, Tables, rows_in, cell_of, IsLegalSet, AreLegalLinks, HavePrincipals, IsLegal, Writing, Writes, Fills, HasNoClash, AreDemandedRows, TablesAre}
+use Rattle.round_trip.specs.Words.{EntityModel, EntitySet, Assoc, Constraint, Table, Schema, Entity, Row, IsEntity, State, entities_in, links_in, IsIndependent, IsLink, Tables, rows_in, cell_of, IsLegalSet, AreLegalLinks, HavePrincipals, IsLegal, Writing, Writes, Fills, HasNoClash, AreDemandedRows, TablesAre}
 use Rattle.worked_examples.specs.Ids.{set_id, assoc_id, table_id}
-use Rattle.worked_examples.proofs.Small.{EachAt, each_at, each_list}
+use Rattle.worked_examples.proofs.Small.{EachAt, each_at, each_list, PairsByRecursion}
+use Rattle.worked_examples.proofs.Entities.{MayStand, HaveOwnKeys, shaped_set, legal_set}
 use Rattle.worked_examples.proofs.Writings.{IsOnlyWriting, IsRowOf, AreApart, no_clash, one_row}
 
 module _ (model : EntityModel) (state : State) where
@@ -37,6 +38,19 @@ module _ (model : EntityModel) (state : State) where
     links = λ a assoc at. (each_at IsLegalAssocAt model.assocs parts.assocs a.index assoc at).links;
     principals = λ a assoc constraint at. (each_at IsLegalAssocAt model.assocs parts.assocs a.index assoc at).principals constraint;
   }
+
+-- a model of one set and no association
+pub legal_set_alone : (model : EntityModel) (set : EntitySet) (entities : List Entity) → set ∷ [] ≡ model.sets → [] ≡ model.assocs
+    → AllByRecursion (MayStand model set) entities → PairsByRecursion (HaveOwnKeys model) entities → IsLegal model (record { entities = entities ∷ []; links = [] })
+legal_set_alone model set entities is_set no_assocs each own =
+    let state : State = record { entities = entities ∷ []; links = [] } in
+    legal_by_parts model state (record {
+      count = ap length is_set;
+      link_count = ap length no_assocs;
+      shapes = (shaped_set model set entities each, tt);
+      sets = subst (EachAt (LegalSetAt model state)) is_set (legal_set model set entities each own, tt);
+      assocs = subst (EachAt (IsLegalAssocAt model state)) no_assocs tt;
+    })
 
 module _ (schema : Schema) (state : State) (tables : Tables) where
   -- the t-th table: its rows have its columns, and are the demanded ones

@@ -11,9 +11,9 @@ use Rattle.worked_examples.specs.Owners.{employee_type, all_people}
 use Rattle.worked_examples.specs.TypeLost.{untold, untold_model, employee, TypeIsLost}
 use Rattle.worked_examples.proofs.Small.{each_of}
 use Rattle.worked_examples.proofs.Values.{whole_fits}
-use Rattle.worked_examples.proofs.Entities.{MayStand, shaped_set, legal_set}
+use Rattle.worked_examples.proofs.Entities.{MayStand}
 use Rattle.worked_examples.proofs.Writings.{entity_writing, each_writing, row_made}
-use Rattle.worked_examples.proofs.States.{legal_by_parts, one_row_stored}
+use Rattle.worked_examples.proofs.States.{legal_set_alone, one_row_stored}
 use Rattle.worked_examples.proofs.People.{no_name}
 
 abbrev a_person : Entity
@@ -46,13 +46,7 @@ employee_stands = record {
 }
 
 legal : (entity : Entity) → MayStand untold_model people_set entity → IsLegal untold_model (only_people (entity ∷ []))
-legal entity may = legal_by_parts untold_model (only_people (entity ∷ [])) (record {
-  count = refl;
-  link_count = refl;
-  shapes = (shaped_set untold_model people_set (entity ∷ []) (may, tt), tt);
-  sets = (legal_set untold_model people_set (entity ∷ []) (may, tt) (tt, tt), tt);
-  assocs = tt;
-})
+legal entity may = legal_set_alone untold_model people_set (entity ∷ []) refl refl (may, tt) (tt, tt)
 
 selected : (entity : Entity) → IsA untold_model entity.ty (type_id 0) → Selects untold_model all_people entity
 selected entity is = record {

@@ -48,7 +48,11 @@ no_text_21 text =
     let within : length text.characters ≤ 20 = text.within in
     absurd (omega arith)
 
--- the letter of a kind
+-- the letters of kinds
+pub text_p : IsText (Some 1) (codes "P")
+unfolding lib.Utf8.encode
+text_p = record { characters = codes "P"; scalar = refl; spelled = refl; within = omega arith }
+
 pub text_e : IsText (Some 1) (codes "E")
 unfolding lib.Utf8.encode
 text_e = record { characters = codes "E"; scalar = refl; spelled = refl; within = omega arith }

@@ -1,6 +1,6 @@
 -- What a state writes, by the fragments and link fragments of a mapping, and its tables by what it writes.
 use Rattle.std.proofs.Common.{ℕ, ◌≡◌, ◌≢◌, ◌⊎◌, inl, inr, [], ◌∷◌, refl, sym, ap, subst, ◌∙◌}
-use Rattle.std.specs.Prelude.{true}
+use Rattle.std.specs.Prelude.{true, false}
 use Rattle.std.specs.List.{AllByRecursion}
 use Rattle.std.proofs.lemmas.List.Elements.{All-from_recursion, All-nil}
 use Rattle.round_trip.specs.Words.{TableId, ColId, Value, Null, Assoc, Table, Column, Fragment, LinkFragment, Cond, Schema, Entity, Link, Row, At, State, entities_in, links_in, cell_of, row_key, Selects, Writing, entity_cells, link_cells, Writes, written_key, Fills, WritesRow, DemandsRow, HasNoClash, HasDemandedCells, AreDemandedRows}
@@ -118,6 +118,34 @@ module _ (writing : Writing) (Q : ColId → Value → Type 0) where
   pub record OfCond (cond : Cond) : Type 0 where
     pub constant : (col : ColId) (value : Value) → cond ≡ record { on = on.Col col; test = Equals value } → Q col value
     pub null : (col : ColId) → cond ≡ record { on = on.Col col; test = IsNull true } → Q col Null
+
+  -- a Value condition gives its column the constant
+  pub equals_given : (c : ColId) (constant : Value) → Q c constant → OfCond (record { on = on.Col c; test = Equals constant })
+  equals_given c constant holds = record {
+    constant = λ col value equal.
+        let at : on.Col c ≡ on.Col col = ap (λ (cond : Cond). cond.on) equal in
+        let test : Equals constant ≡ Equals value = ap (λ (cond : Cond). cond.test) equal in
+        let same_value : constant ≡ value = cc in
+        let same_col : c ≡ col = cc in
+        subst (λ v. Q col v) same_value (subst (λ d. Q d constant) same_col holds);
+    null = λ col equal. let test : Equals constant ≡ IsNull true = ap (λ (cond : Cond). cond.test) equal in absurd (cc);
+  }
+
+  -- an IsNull condition gives it null, if it asks for null, and else nothing
+  pub null_given : (c : ColId) → Q c Null → OfCond (record { on = on.Col c; test = IsNull true })
+  null_given c holds = record {
+    constant = λ col value equal. let test : IsNull true ≡ Equals value = ap (λ (cond : Cond). cond.test) equal in absurd (cc);
+    null = λ col equal.
+        let at : on.Col c ≡ on.Col col = ap (λ (cond : Cond). cond.on) equal in
+        let same_col : c ≡ col = cc in
+        subst (λ d. Q d Null) same_col holds;
+  }
+
+  pub nothing_given : (c : ColId) → OfCond (record { on = on.Col c; test = IsNull false })
+  nothing_given c = record {
+    constant = λ col value equal. let test : IsNull false ≡ Equals value = ap (λ (cond : Cond). cond.test) equal in absurd (cc);
+    null = λ col equal. let test : IsNull false ≡ IsNull true = ap (λ (cond : Cond). cond.test) equal in absurd (cc);
+  }
 
   -- Q of each value that a writing gives a column
   pub each_given : AllByRecursion OfCell writing.cells → AllByRecursion OfCond writing.conds → (col : ColId) (value : Value) → Fills writing col value → Q col value

@@ -1,6 +1,6 @@
 -- Bosses: people who have bosses among them, so many as a multiplicity says, and a table with a column for one boss.
 use Rattle.std.specs.Prelude.{ℕ, ℤ, List, [], ◌∷◌, Some, None, codes}
-use Rattle.round_trip.specs.Words.{Whole, EntityModel, Assoc, End, Mult, StoreModel, Table, Column, ForeignKey, Fragment, LinkFragment, Schema, Entity, Link, State}
+use Rattle.round_trip.specs.Words.{Whole, EntityModel, Assoc, End, Mult, StoreModel, Table, Column, ForeignKey, Fragment, LinkFragment, Cond, Schema, Entity, Link, State}
 use Rattle.emc_base.specs.declared.value.Kind.TheVariants as kind
 use Rattle.edm_types.specs.declared.model.Mult.TheVariants.{Many}
 use Rattle.worked_examples.specs.Ids.{type_id, set_id, table_id, col_id, assoc_id, needed_column, optional_column, pair_of}
@@ -53,20 +53,26 @@ abbrev pub all_people : Fragment
 all_people = people_fragment (pair_of 0 0 ∷ pair_of 1 1 ∷ []) []
 
 -- the link stands in the row of the one who is staff
-abbrev pub boss_links : LinkFragment
-boss_links = record {
+abbrev pub boss_links_if : List Cond → LinkFragment
+boss_links_if conds = record {
   place = codes "/EntityContainerMapping/AssociationSetMapping/0";
   assoc = assoc_id 0;
   table = table_id 0;
   first = pair_of 0 0 ∷ [];
   second = pair_of 0 2 ∷ [];
-  conds = [];
+  conds = conds;
 }
 
+abbrev pub boss_links : LinkFragment
+boss_links = boss_links_if []
+
 -- people and links stand in one table
-abbrev pub bossed : Mult → Schema
-bossed mult = record {
+abbrev pub bossed_by : LinkFragment → Mult → Schema
+bossed_by fragment mult = record {
   model = bossed_model mult;
   store = bossed_store;
-  mapping = record { fragments = all_people ∷ []; links = boss_links ∷ [] };
+  mapping = record { fragments = all_people ∷ []; links = fragment ∷ [] };
 }
+
+abbrev pub bossed : Mult → Schema
+bossed mult = bossed_by boss_links mult

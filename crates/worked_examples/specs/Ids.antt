@@ -1,6 +1,6 @@
 -- Short words for the parts of small models: ids by their numbers, and what the examples share.
-use Rattle.std.specs.Prelude.{ℕ, List, [], ◌∷◌, true, false}
-use Rattle.round_trip.specs.Words.{SetId, TypeId, PropId, TableId, ColId, AssocId, Value, Kind, Prop, TypeNode, EntitySet, Column, Pick, Pair, Entity, Row}
+use Rattle.std.specs.Prelude.{ℕ, List, [], ◌∷◌, Option, None, true, false, codes}
+use Rattle.round_trip.specs.Words.{SetId, TypeId, PropId, TableId, ColId, AssocId, Value, Kind, EntityModel, EntityType, Prop, TypeNode, EntitySet, Assoc, Column, Pick, Pair, Entity, Row}
 use Rattle.edm_types.specs.declared.model.TypeNode.{TypeNode', end_of-TypeNode, more_of-TypeNode}
 
 abbrev pub type_id : ℕ → TypeId
@@ -63,3 +63,20 @@ leaf ty = TypeNode' ty false [] end_of-TypeNode
 
 abbrev pub stem : TypeId → TypeId → TypeNode
 stem ty below = TypeNode' ty false (tt ∷ []) (more_of-TypeNode (leaf below) end_of-TypeNode)
+
+-- a concrete type by its name, base, key and properties
+abbrev pub concrete_type : List ℕ → Option TypeId → List PropId → List PropId → EntityType
+concrete_type name base key props = record { name = name; base = base; is_abstract = false; key = key; props = props; navs = [] }
+
+-- a model by its types, properties, forest, sets and associations
+abbrev pub model_of : List EntityType → List Prop → List TypeNode → List EntitySet → List Assoc → EntityModel
+model_of types props forest sets assocs = record {
+  namespace = codes "N";
+  alias = None;
+  container = codes "C";
+  types = types;
+  props = props;
+  forest = forest;
+  sets = sets;
+  assocs = assocs;
+}

@@ -1,40 +1,24 @@
 -- LevelLost: items in two tables, one for those of level 1 and one for those of level 2. An item of level 3 stands in neither.
-use Rattle.std.specs.Prelude.{ℕ, ℤ, pos, List, [], ◌∷◌, None, false, codes}
+use Rattle.std.specs.Prelude.{ℕ, ℤ, pos, List, [], ◌∷◌, None, codes}
 use Rattle.round_trip.specs.Words.{Whole, EntityModel, EntityType, Prop, EntitySet, StoreModel, Table, Fragment, Cond, Schema, Entity, State, place_at, FailsAt}
 use Rattle.emc_base.specs.declared.value.Kind.TheVariants as kind
 use Rattle.edm_types.specs.declared.mapping.CondOn.TheVariants as on
 use Rattle.edm_types.specs.declared.mapping.Test.TheVariants.{Equals}
 use Rattle.round_trip.specs.declared.FailKind.TheVariants as kinds
-use Rattle.worked_examples.specs.Ids.{type_id, set_id, prop_id, table_id, col_id, needed, needed_column, set_of, pair_of, just, entity_of, leaf}
+use Rattle.worked_examples.specs.Ids.{type_id, set_id, prop_id, table_id, col_id, needed, needed_column, set_of, pair_of, just, entity_of, leaf, concrete_type, model_of}
 use Rattle.worked_examples.specs.People.{id_prop}
 
 abbrev pub level_prop : Prop
 level_prop = needed (type_id 0) (codes "Level") kind.Int32
 
 abbrev pub item_type : EntityType
-item_type = record {
-  name = codes "Item";
-  base = None;
-  is_abstract = false;
-  key = prop_id 0 ∷ [];
-  props = prop_id 0 ∷ prop_id 1 ∷ [];
-  navs = [];
-}
+item_type = concrete_type (codes "Item") None (prop_id 0 ∷ []) (prop_id 0 ∷ prop_id 1 ∷ [])
 
 abbrev pub items_set : EntitySet
 items_set = set_of (codes "Items") (type_id 0)
 
 abbrev pub item_model : EntityModel
-item_model = record {
-  namespace = codes "N";
-  alias = None;
-  container = codes "C";
-  types = item_type ∷ [];
-  props = id_prop ∷ level_prop ∷ [];
-  forest = leaf (type_id 0) ∷ [];
-  sets = items_set ∷ [];
-  assocs = [];
-}
+item_model = model_of (item_type ∷ []) (id_prop ∷ level_prop ∷ []) (leaf (type_id 0) ∷ []) (items_set ∷ []) []
 
 -- a table of ids
 abbrev pub ids_table : List ℕ → Table

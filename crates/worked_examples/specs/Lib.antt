@@ -9,8 +9,11 @@ pub mod NameShown
 pub mod Bosses
 pub mod TwoBosses
 pub mod OneBoss
+pub mod NoBoss
 pub mod NeededBoss
+pub mod LinkHidden
 pub mod JoinedBosses
 pub mod BossLost
 pub mod Owners
 pub mod TypeLost
+pub mod Seats

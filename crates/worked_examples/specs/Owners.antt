@@ -5,19 +5,12 @@ use Rattle.round_trip.specs.Words.{Null, Whole, EntityModel, EntityType, Prop, E
 use Rattle.emc_base.specs.declared.value.Kind.TheVariants as kind
 use Rattle.edm_types.specs.declared.model.Mult.TheVariants.{One, Many}
 use Rattle.round_trip.specs.declared.FailKind.TheVariants as kinds
-use Rattle.worked_examples.specs.Ids.{type_id, set_id, prop_id, table_id, col_id, needed, needed_column, set_of, pair_of, just, with_below, entity_of, leaf, stem}
+use Rattle.worked_examples.specs.Ids.{type_id, set_id, prop_id, table_id, col_id, needed, needed_column, set_of, pair_of, just, with_below, entity_of, leaf, stem, concrete_type, model_of}
 use Rattle.worked_examples.specs.People.{id_prop, name_prop, person_type, people_set, people_table, person}
 
 -- an employee is a person with nothing more
 abbrev pub employee_type : EntityType
-employee_type = record {
-  name = codes "Employee";
-  base = Some (type_id 0);
-  is_abstract = false;
-  key = prop_id 0 ∷ [];
-  props = prop_id 0 ∷ prop_id 1 ∷ [];
-  navs = [];
-}
+employee_type = concrete_type (codes "Employee") (Some (type_id 0)) (prop_id 0 ∷ []) (prop_id 0 ∷ prop_id 1 ∷ [])
 
 abbrev pub order_id_prop : Prop
 order_id_prop = needed (type_id 2) (codes "Id") kind.Int32
@@ -26,14 +19,7 @@ abbrev pub owner_id_prop : Prop
 owner_id_prop = needed (type_id 2) (codes "OwnerId") kind.Int32
 
 abbrev pub order_type : EntityType
-order_type = record {
-  name = codes "Order";
-  base = None;
-  is_abstract = false;
-  key = prop_id 2 ∷ [];
-  props = prop_id 2 ∷ prop_id 3 ∷ [];
-  navs = [];
-}
+order_type = concrete_type (codes "Order") None (prop_id 2 ∷ []) (prop_id 2 ∷ prop_id 3 ∷ [])
 
 abbrev pub orders_set : EntitySet
 orders_set = set_of (codes "Orders") (type_id 2)
@@ -52,16 +38,7 @@ owner = record {
 }
 
 abbrev pub shop_model : EntityModel
-shop_model = record {
-  namespace = codes "N";
-  alias = None;
-  container = codes "C";
-  types = person_type ∷ employee_type ∷ order_type ∷ [];
-  props = id_prop ∷ name_prop ∷ order_id_prop ∷ owner_id_prop ∷ [];
-  forest = stem (type_id 0) (type_id 1) ∷ leaf (type_id 2) ∷ [];
-  sets = people_set ∷ orders_set ∷ [];
-  assocs = owner ∷ [];
-}
+shop_model = model_of (person_type ∷ employee_type ∷ order_type ∷ []) (id_prop ∷ name_prop ∷ order_id_prop ∷ owner_id_prop ∷ []) (stem (type_id 0) (type_id 1) ∷ leaf (type_id 2) ∷ []) (people_set ∷ orders_set ∷ []) (owner ∷ [])
 
 abbrev pub employees_table : Table
 employees_table = record { name = codes "Employees"; cols = needed_column (codes "Id") kind.Int32 ∷ []; key = col_id 0 ∷ [] }

@@ -1,8 +1,8 @@
 -- People: one type with an id and a name that may be null, one table, and one fragment that writes both.
-use Rattle.std.specs.Prelude.{ℕ, zero, suc, ℤ, pos, List, [], ◌∷◌, Some, None, false, codes}
+use Rattle.std.specs.Prelude.{ℕ, zero, suc, ℤ, pos, List, [], ◌∷◌, Some, None, codes}
 use Rattle.round_trip.specs.Words.{Value, Null, Whole, Text, EntityModel, EntityType, Prop, EntitySet, Assoc, StoreModel, Table, Fragment, Pair, Cond, Schema, Entity, Row, State, Tables, IsLegal, AreLegalTables, TablesAre, Satisfies}
 use Rattle.emc_base.specs.declared.value.Kind.TheVariants as kind
-use Rattle.worked_examples.specs.Ids.{type_id, set_id, prop_id, table_id, col_id, needed, optional, needed_column, optional_column, set_of, pair_of, just, entity_of, row_of, leaf}
+use Rattle.worked_examples.specs.Ids.{type_id, set_id, prop_id, table_id, col_id, needed, optional, needed_column, optional_column, set_of, pair_of, just, entity_of, row_of, leaf, concrete_type, model_of}
 
 -- an id, which is the key, and a name of at most 20 characters that may be null
 abbrev pub id_prop : Prop
@@ -12,30 +12,14 @@ abbrev pub name_prop : Prop
 name_prop = optional (type_id 0) (codes "Name") (kind.Text (Some 20))
 
 abbrev pub person_type : EntityType
-person_type = record {
-  name = codes "Person";
-  base = None;
-  is_abstract = false;
-  key = prop_id 0 ∷ [];
-  props = prop_id 0 ∷ prop_id 1 ∷ [];
-  navs = [];
-}
+person_type = concrete_type (codes "Person") None (prop_id 0 ∷ []) (prop_id 0 ∷ prop_id 1 ∷ [])
 
 abbrev pub people_set : EntitySet
 people_set = set_of (codes "People") (type_id 0)
 
 -- people with these associations, and with none
 abbrev pub people_with : List Assoc → EntityModel
-people_with assocs = record {
-  namespace = codes "N";
-  alias = None;
-  container = codes "C";
-  types = person_type ∷ [];
-  props = id_prop ∷ name_prop ∷ [];
-  forest = leaf (type_id 0) ∷ [];
-  sets = people_set ∷ [];
-  assocs = assocs;
-}
+people_with assocs = model_of (person_type ∷ []) (id_prop ∷ name_prop ∷ []) (leaf (type_id 0) ∷ []) (people_set ∷ []) assocs
 
 abbrev pub people_model : EntityModel
 people_model = people_with []

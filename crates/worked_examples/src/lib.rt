@@ -3,10 +3,10 @@
 
 ghost use Rattle.worked_examples.specs.BossLost.{BossIsLost};
 ghost use Rattle.worked_examples.specs.ByKind.{
-  EmployeeIsLegal,
-  EmployeeIsStored,
-  EmployeeRowIsLegal,
-  EmployeeRowSatisfies,
+  OneOfEachIsLegal,
+  OneOfEachIsStored,
+  ToldRowsAreLegal,
+  ToldRowsSatisfy,
 };
 ghost use Rattle.worked_examples.specs.JoinedBosses.{
   JoinedIsLegal,
@@ -15,9 +15,16 @@ ghost use Rattle.worked_examples.specs.JoinedBosses.{
   JoinedTablesSatisfy,
 };
 ghost use Rattle.worked_examples.specs.LevelLost.{LevelIsLost};
+ghost use Rattle.worked_examples.specs.LinkHidden.{BossIsHidden};
 ghost use Rattle.worked_examples.specs.LongName.{LongNameIsTold};
 ghost use Rattle.worked_examples.specs.NameShown.{NullNameIsHidden};
 ghost use Rattle.worked_examples.specs.NeededBoss.{EachOthersBossIsLegal, MissingBossIsNot};
+ghost use Rattle.worked_examples.specs.NoBoss.{
+  BosslessIsStored,
+  BosslessRowSatisfies,
+  NoBossIsDemanded,
+  OnlyBosslessIsShown,
+};
 ghost use Rattle.worked_examples.specs.OneBoss.{
   CrewIsLegal,
   CrewIsStored,
@@ -35,6 +42,13 @@ ghost use Rattle.worked_examples.specs.People.{
   TwentyOneCharactersAreNot,
 };
 ghost use Rattle.worked_examples.specs.Salary.{SalaryIsLeftNull};
+ghost use Rattle.worked_examples.specs.Seats.{
+  SeatRowsAreLegal,
+  SeatRowsSatisfy,
+  SeatsAreKeyed,
+  SeatsAreLegal,
+  SeatsAreStored,
+};
 ghost use Rattle.worked_examples.specs.TwoBosses.{TwoBossesClash};
 ghost use Rattle.worked_examples.specs.TypeLost.{TypeIsLost};
 ghost use Rattle.worked_examples.specs.Unwritten.{NameIsLost};
@@ -83,13 +97,13 @@ pub fn leaves_a_salary_null()
     ensures fails { SalaryIsLeftNull }
 {}
 
-/// An employee, told by a column: the state is legal, the row holds the column's constant, and the row is legal and agrees with
-/// the fragment of employees and with that of the others.
+/// An employee, told by a column from a person who is none: the state is legal, each row holds its kind's constant, and the rows are
+/// legal and agree with both fragments.
 pub fn stores_an_employee_by_kind()
-    ensures legal { EmployeeIsLegal }
-    ensures demanded { EmployeeIsStored }
-    ensures legal_tables { EmployeeRowIsLegal }
-    ensures satisfied { EmployeeRowSatisfies }
+    ensures legal { OneOfEachIsLegal }
+    ensures demanded { OneOfEachIsStored }
+    ensures legal_tables { ToldRowsAreLegal }
+    ensures satisfied { ToldRowsSatisfy }
 {}
 
 /// A fragment that shows fewer rows than it writes disagrees with its table.
@@ -111,10 +125,24 @@ pub fn stores_one_boss()
     ensures satisfied { CrewTablesSatisfy }
 {}
 
+/// A fragment that shows only rows whose column of bosses is null demands null there, and its rows are those without a boss. The
+/// tables agree with it.
+pub fn stores_a_person_without_a_boss()
+    ensures null { NoBossIsDemanded }
+    ensures shown { OnlyBosslessIsShown }
+    ensures demanded { BosslessIsStored }
+    ensures satisfied { BosslessRowSatisfies }
+{}
+
 /// Where each person has exactly one boss, a person without a boss isn't legal.
 pub fn needs_a_boss()
     ensures legal { EachOthersBossIsLegal }
     ensures missing { MissingBossIsNot }
+{}
+
+/// A link fragment that shows fewer rows than it writes disagrees with its table: the place has the keys of both ends.
+pub fn hides_a_boss()
+    ensures fails { BossIsHidden }
 {}
 
 /// Any number of bosses of each person, in a table of their own: the state is legal, each link is a row of both ids, and the tables
@@ -134,4 +162,14 @@ pub fn loses_a_boss()
 /// A foreign key that points to a narrower table than the model's association dangles.
 pub fn dangles_at_an_owner()
     ensures fails { OwnerDangles }
+{}
+
+/// A key of two parts: the state is legal, the key of each row is in the order of the table's key, and the rows are legal and agree
+/// with the fragment.
+pub fn stores_seats()
+    ensures legal { SeatsAreLegal }
+    ensures keyed { SeatsAreKeyed }
+    ensures demanded { SeatsAreStored }
+    ensures legal_tables { SeatRowsAreLegal }
+    ensures satisfied { SeatRowsSatisfy }
 {}

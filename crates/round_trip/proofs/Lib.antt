@@ -1,0 +1,4 @@
+mod FirstBreach
+mod AtPlaces
+mod StateBreaches
+mod TableBreaches
