@@ -1,235 +1,270 @@
-//! Documents for tests: those of the first form, and those that just miss it.
+//! Documents for tests, each the first example with some texts in place of others.
 
-/// A type of people with a number and a name.
-pub(crate) const CSDL: &str =
-    r#"{"Namespace":"N","EntityContainer":{"Name":"C","EntitySet":[{"Name":"People","EntityType":"N.Person"}]},"EntityType":[{"Name":"Person","Key":["Id"],"Property":[{"Name":"Id","Type":"Int32","Nullable":false},{"Name":"Name","Type":"String","MaxLength":20}]}]}"#;
-
-/// A table for them.
-pub(crate) const SSDL: &str =
-    r#"{"Namespace":"S","EntityContainer":{"Name":"D","EntitySet":[{"Name":"People","EntityType":"S.People"}]},"EntityType":[{"Name":"People","Key":["Id"],"Property":[{"Name":"Id","Type":"int","Nullable":false},{"Name":"Name","Type":"nvarchar","MaxLength":20}]}]}"#;
-
-/// The name of a person is written to the column of that name.
-pub(crate) const MSL: &str =
-    r#"{"EntityContainerMapping":{"StorageEntityContainer":"D","CdmEntityContainer":"C","EntitySetMapping":[{"Name":"People","EntityTypeMapping":[{"TypeName":"N.Person","MappingFragment":[{"StoreEntitySet":"People","ScalarProperty":[{"Name":"Id","ColumnName":"Id"},{"Name":"Name","ColumnName":"Name"}]}]}]}]}}"#;
-
-/// The same without the pair of the name.
-pub(crate) const LOSING_MSL: &str =
-    r#"{"EntityContainerMapping":{"StorageEntityContainer":"D","CdmEntityContainer":"C","EntitySetMapping":[{"Name":"People","EntityTypeMapping":[{"TypeName":"N.Person","MappingFragment":[{"StoreEntitySet":"People","ScalarProperty":[{"Name":"Id","ColumnName":"Id"}]}]}]}]}}"#;
+/// An edit of the first example: the file, a text that stands in it, and what stands in its place.
+pub(crate) type Edit = (&'static str, &'static str, &'static str);
 
 const ACCEPTED: (&str, u8) = ("accepted\n", 0);
 
 const NOT_OF_THE_FORM: (&str, u8) = ("rule V99 msl \"\"\n", 1);
 
-/// What three documents are, the documents, and what is told of them with which number.
-pub(crate) const FORMS: [(&str, [&str; 3], (&str, u8)); 23] = [
+const NO_JSON: (&str, u8) = ("rule V1 msl \"\"\n", 1);
+
+const LOST: (&str, u8) = (
+    "fails same\nat {\"key\":[7],\"name\":\"People\",\"part\":\"\"}\nstate {\"People\":[{\"$type\":\"N.Person\",\"Id\":7,\"Name\":null}]}\nother {\"People\":[{\"$type\":\"N.Person\",\"Id\":7,\"Name\":\"a\"}]}\n",
+    1,
+);
+
+const LOST_WITH_QUOTES: (&str, u8) = (
+    "fails same\nat {\"key\":[7],\"name\":\"People\",\"part\":\"\"}\nstate {\"People\":[{\"$type\":\"N.Person\",\"Id\":7,\"N\\\"\\\\\\u0001😀\":null}]}\nother {\"People\":[{\"$type\":\"N.Person\",\"Id\":7,\"N\\\"\\\\\\u0001😀\":\"a\"}]}\n",
+    1,
+);
+
+/// What the documents show, their edits, and what is told of them with which number.
+pub(crate) const FORMS: [(&str, &[Edit], (&str, u8)); 25] = [
+    ("the first example", &[], ACCEPTED),
+    (
+        "a name that isn't written",
+        &[("P", r#",{"Name":"Name","ColumnName":"Name"}"#, r#""#)],
+        LOST,
+    ),
     (
         "a member that stands twice, of which the last counts",
-        [
-            r#"{"Namespace":"X","Namespace":"N","EntityContainer":{"Name":"C","EntitySet":[{"Name":"People","EntityType":"N.Person"}]},"EntityType":[{"Name":"Person","Key":["Id"],"Property":[{"Name":"Id","Type":"Int32","Nullable":false},{"Name":"Name","Type":"String","MaxLength":20}]}]}"#,
-            SSDL,
-            MSL,
-        ],
+        &[(
+            "M",
+            r#"{"Namespace":"N""#,
+            r#"{"Namespace":"X","Namespace":"N""#,
+        )],
         ACCEPTED,
     ),
     (
         "one property",
-        [
-            r#"{"Namespace":"N","EntityContainer":{"Name":"C","EntitySet":[{"Name":"People","EntityType":"N.Person"}]},"EntityType":[{"Name":"Person","Key":["Id"],"Property":[{"Name":"Id","Type":"Int32","Nullable":false}]}]}"#,
-            r#"{"Namespace":"S","EntityContainer":{"Name":"D","EntitySet":[{"Name":"People","EntityType":"S.People"}]},"EntityType":[{"Name":"People","Key":["Id"],"Property":[{"Name":"Id","Type":"int","Nullable":false}]}]}"#,
-            r#"{"EntityContainerMapping":{"StorageEntityContainer":"D","CdmEntityContainer":"C","EntitySetMapping":[{"Name":"People","EntityTypeMapping":[{"TypeName":"N.Person","MappingFragment":[{"StoreEntitySet":"People","ScalarProperty":[{"Name":"Id","ColumnName":"Id"}]}]}]}]}}"#,
+        &[
+            (
+                "M",
+                r#",{"Name":"Name","Type":"String","MaxLength":20}"#,
+                r#""#,
+            ),
+            (
+                "S",
+                r#",{"Name":"Name","Type":"nvarchar","MaxLength":20}"#,
+                r#""#,
+            ),
+            ("P", r#",{"Name":"Name","ColumnName":"Name"}"#, r#""#),
         ],
         ACCEPTED,
     ),
     (
         "sixteen properties",
-        [
-            r#"{"Namespace":"N","EntityContainer":{"Name":"C","EntitySet":[{"Name":"People","EntityType":"N.Person"}]},"EntityType":[{"Name":"Person","Key":["Id"],"Property":[{"Name":"Id","Type":"Int32","Nullable":false},{"Name":"Name","Type":"String","MaxLength":20},{"Name":"P0","Type":"String"},{"Name":"P1","Type":"Int32"},{"Name":"P2","Type":"String"},{"Name":"P3","Type":"Int32"},{"Name":"P4","Type":"String"},{"Name":"P5","Type":"Int32"},{"Name":"P6","Type":"String"},{"Name":"P7","Type":"Int32"},{"Name":"P8","Type":"String"},{"Name":"P9","Type":"Int32"},{"Name":"P10","Type":"String"},{"Name":"P11","Type":"Int32"},{"Name":"P12","Type":"String"},{"Name":"P13","Type":"Int32"}]}]}"#,
-            r#"{"Namespace":"S","EntityContainer":{"Name":"D","EntitySet":[{"Name":"People","EntityType":"S.People"}]},"EntityType":[{"Name":"People","Key":["Id"],"Property":[{"Name":"Id","Type":"int","Nullable":false},{"Name":"Name","Type":"nvarchar","MaxLength":20},{"Name":"C99","Type":"nvarchar"},{"Name":"C98","Type":"int"},{"Name":"C97","Type":"nvarchar"},{"Name":"C96","Type":"int"},{"Name":"C95","Type":"nvarchar"},{"Name":"C94","Type":"int"},{"Name":"C93","Type":"nvarchar"},{"Name":"C92","Type":"int"},{"Name":"C91","Type":"nvarchar"},{"Name":"C90","Type":"int"},{"Name":"C89","Type":"nvarchar"},{"Name":"C88","Type":"int"},{"Name":"C87","Type":"nvarchar"},{"Name":"C86","Type":"int"}]}]}"#,
-            r#"{"EntityContainerMapping":{"StorageEntityContainer":"D","CdmEntityContainer":"C","EntitySetMapping":[{"Name":"People","EntityTypeMapping":[{"TypeName":"N.Person","MappingFragment":[{"StoreEntitySet":"People","ScalarProperty":[{"Name":"Id","ColumnName":"Id"},{"Name":"Name","ColumnName":"Name"},{"Name":"P0","ColumnName":"C99"},{"Name":"P1","ColumnName":"C98"},{"Name":"P2","ColumnName":"C97"},{"Name":"P3","ColumnName":"C96"},{"Name":"P4","ColumnName":"C95"},{"Name":"P5","ColumnName":"C94"},{"Name":"P6","ColumnName":"C93"},{"Name":"P7","ColumnName":"C92"},{"Name":"P8","ColumnName":"C91"},{"Name":"P9","ColumnName":"C90"},{"Name":"P10","ColumnName":"C89"},{"Name":"P11","ColumnName":"C88"},{"Name":"P12","ColumnName":"C87"},{"Name":"P13","ColumnName":"C86"}]}]}]}]}}"#,
+        &[
+            (
+                "M",
+                r#"{"Name":"Name","Type":"String","MaxLength":20}"#,
+                r#"{"Name":"Name","Type":"String","MaxLength":20},{"Name":"P0","Type":"String"},{"Name":"P1","Type":"Int32"},{"Name":"P2","Type":"String"},{"Name":"P3","Type":"Int32"},{"Name":"P4","Type":"String"},{"Name":"P5","Type":"Int32"},{"Name":"P6","Type":"String"},{"Name":"P7","Type":"Int32"},{"Name":"P8","Type":"String"},{"Name":"P9","Type":"Int32"},{"Name":"P10","Type":"String"},{"Name":"P11","Type":"Int32"},{"Name":"P12","Type":"String"},{"Name":"P13","Type":"Int32"}"#,
+            ),
+            (
+                "S",
+                r#"{"Name":"Name","Type":"nvarchar","MaxLength":20}"#,
+                r#"{"Name":"Name","Type":"nvarchar","MaxLength":20},{"Name":"C99","Type":"nvarchar"},{"Name":"C98","Type":"int"},{"Name":"C97","Type":"nvarchar"},{"Name":"C96","Type":"int"},{"Name":"C95","Type":"nvarchar"},{"Name":"C94","Type":"int"},{"Name":"C93","Type":"nvarchar"},{"Name":"C92","Type":"int"},{"Name":"C91","Type":"nvarchar"},{"Name":"C90","Type":"int"},{"Name":"C89","Type":"nvarchar"},{"Name":"C88","Type":"int"},{"Name":"C87","Type":"nvarchar"},{"Name":"C86","Type":"int"}"#,
+            ),
+            (
+                "P",
+                r#"{"Name":"Name","ColumnName":"Name"}"#,
+                r#"{"Name":"Name","ColumnName":"Name"},{"Name":"P0","ColumnName":"C99"},{"Name":"P1","ColumnName":"C98"},{"Name":"P2","ColumnName":"C97"},{"Name":"P3","ColumnName":"C96"},{"Name":"P4","ColumnName":"C95"},{"Name":"P5","ColumnName":"C94"},{"Name":"P6","ColumnName":"C93"},{"Name":"P7","ColumnName":"C92"},{"Name":"P8","ColumnName":"C91"},{"Name":"P9","ColumnName":"C90"},{"Name":"P10","ColumnName":"C89"},{"Name":"P11","ColumnName":"C88"},{"Name":"P12","ColumnName":"C87"},{"Name":"P13","ColumnName":"C86"}"#,
+            ),
         ],
         ACCEPTED,
     ),
     (
         "seventeen properties",
-        [
-            r#"{"Namespace":"N","EntityContainer":{"Name":"C","EntitySet":[{"Name":"People","EntityType":"N.Person"}]},"EntityType":[{"Name":"Person","Key":["Id"],"Property":[{"Name":"Id","Type":"Int32","Nullable":false},{"Name":"Name","Type":"String","MaxLength":20},{"Name":"P0","Type":"String"},{"Name":"P1","Type":"Int32"},{"Name":"P2","Type":"String"},{"Name":"P3","Type":"Int32"},{"Name":"P4","Type":"String"},{"Name":"P5","Type":"Int32"},{"Name":"P6","Type":"String"},{"Name":"P7","Type":"Int32"},{"Name":"P8","Type":"String"},{"Name":"P9","Type":"Int32"},{"Name":"P10","Type":"String"},{"Name":"P11","Type":"Int32"},{"Name":"P12","Type":"String"},{"Name":"P13","Type":"Int32"},{"Name":"P14","Type":"String"}]}]}"#,
-            r#"{"Namespace":"S","EntityContainer":{"Name":"D","EntitySet":[{"Name":"People","EntityType":"S.People"}]},"EntityType":[{"Name":"People","Key":["Id"],"Property":[{"Name":"Id","Type":"int","Nullable":false},{"Name":"Name","Type":"nvarchar","MaxLength":20},{"Name":"C99","Type":"nvarchar"},{"Name":"C98","Type":"int"},{"Name":"C97","Type":"nvarchar"},{"Name":"C96","Type":"int"},{"Name":"C95","Type":"nvarchar"},{"Name":"C94","Type":"int"},{"Name":"C93","Type":"nvarchar"},{"Name":"C92","Type":"int"},{"Name":"C91","Type":"nvarchar"},{"Name":"C90","Type":"int"},{"Name":"C89","Type":"nvarchar"},{"Name":"C88","Type":"int"},{"Name":"C87","Type":"nvarchar"},{"Name":"C86","Type":"int"},{"Name":"C85","Type":"nvarchar"}]}]}"#,
-            r#"{"EntityContainerMapping":{"StorageEntityContainer":"D","CdmEntityContainer":"C","EntitySetMapping":[{"Name":"People","EntityTypeMapping":[{"TypeName":"N.Person","MappingFragment":[{"StoreEntitySet":"People","ScalarProperty":[{"Name":"Id","ColumnName":"Id"},{"Name":"Name","ColumnName":"Name"},{"Name":"P0","ColumnName":"C99"},{"Name":"P1","ColumnName":"C98"},{"Name":"P2","ColumnName":"C97"},{"Name":"P3","ColumnName":"C96"},{"Name":"P4","ColumnName":"C95"},{"Name":"P5","ColumnName":"C94"},{"Name":"P6","ColumnName":"C93"},{"Name":"P7","ColumnName":"C92"},{"Name":"P8","ColumnName":"C91"},{"Name":"P9","ColumnName":"C90"},{"Name":"P10","ColumnName":"C89"},{"Name":"P11","ColumnName":"C88"},{"Name":"P12","ColumnName":"C87"},{"Name":"P13","ColumnName":"C86"},{"Name":"P14","ColumnName":"C85"}]}]}]}]}}"#,
+        &[
+            (
+                "M",
+                r#"{"Name":"Name","Type":"String","MaxLength":20}"#,
+                r#"{"Name":"Name","Type":"String","MaxLength":20},{"Name":"P0","Type":"String"},{"Name":"P1","Type":"Int32"},{"Name":"P2","Type":"String"},{"Name":"P3","Type":"Int32"},{"Name":"P4","Type":"String"},{"Name":"P5","Type":"Int32"},{"Name":"P6","Type":"String"},{"Name":"P7","Type":"Int32"},{"Name":"P8","Type":"String"},{"Name":"P9","Type":"Int32"},{"Name":"P10","Type":"String"},{"Name":"P11","Type":"Int32"},{"Name":"P12","Type":"String"},{"Name":"P13","Type":"Int32"},{"Name":"P14","Type":"String"}"#,
+            ),
+            (
+                "S",
+                r#"{"Name":"Name","Type":"nvarchar","MaxLength":20}"#,
+                r#"{"Name":"Name","Type":"nvarchar","MaxLength":20},{"Name":"C99","Type":"nvarchar"},{"Name":"C98","Type":"int"},{"Name":"C97","Type":"nvarchar"},{"Name":"C96","Type":"int"},{"Name":"C95","Type":"nvarchar"},{"Name":"C94","Type":"int"},{"Name":"C93","Type":"nvarchar"},{"Name":"C92","Type":"int"},{"Name":"C91","Type":"nvarchar"},{"Name":"C90","Type":"int"},{"Name":"C89","Type":"nvarchar"},{"Name":"C88","Type":"int"},{"Name":"C87","Type":"nvarchar"},{"Name":"C86","Type":"int"},{"Name":"C85","Type":"nvarchar"}"#,
+            ),
+            (
+                "P",
+                r#"{"Name":"Name","ColumnName":"Name"}"#,
+                r#"{"Name":"Name","ColumnName":"Name"},{"Name":"P0","ColumnName":"C99"},{"Name":"P1","ColumnName":"C98"},{"Name":"P2","ColumnName":"C97"},{"Name":"P3","ColumnName":"C96"},{"Name":"P4","ColumnName":"C95"},{"Name":"P5","ColumnName":"C94"},{"Name":"P6","ColumnName":"C93"},{"Name":"P7","ColumnName":"C92"},{"Name":"P8","ColumnName":"C91"},{"Name":"P9","ColumnName":"C90"},{"Name":"P10","ColumnName":"C89"},{"Name":"P11","ColumnName":"C88"},{"Name":"P12","ColumnName":"C87"},{"Name":"P13","ColumnName":"C86"},{"Name":"P14","ColumnName":"C85"}"#,
+            ),
         ],
         NOT_OF_THE_FORM,
     ),
     (
-        "largest bound",
-        [
-            r#"{"Namespace":"N","EntityContainer":{"Name":"C","EntitySet":[{"Name":"People","EntityType":"N.Person"}]},"EntityType":[{"Name":"Person","Key":["Id"],"Property":[{"Name":"Id","Type":"Int32","Nullable":false},{"Name":"Name","Type":"String","MaxLength":1048576}]}]}"#,
-            r#"{"Namespace":"S","EntityContainer":{"Name":"D","EntitySet":[{"Name":"People","EntityType":"S.People"}]},"EntityType":[{"Name":"People","Key":["Id"],"Property":[{"Name":"Id","Type":"int","Nullable":false},{"Name":"Name","Type":"nvarchar","MaxLength":1048576}]}]}"#,
-            MSL,
+        "the largest bound",
+        &[
+            ("M", r#""MaxLength":20"#, r#""MaxLength":1048576"#),
+            ("S", r#""MaxLength":20"#, r#""MaxLength":1048576"#),
         ],
         ACCEPTED,
     ),
     (
-        "smallest bound",
-        [
-            r#"{"Namespace":"N","EntityContainer":{"Name":"C","EntitySet":[{"Name":"People","EntityType":"N.Person"}]},"EntityType":[{"Name":"Person","Key":["Id"],"Property":[{"Name":"Id","Type":"Int32","Nullable":false},{"Name":"Name","Type":"String","MaxLength":1}]}]}"#,
-            r#"{"Namespace":"S","EntityContainer":{"Name":"D","EntitySet":[{"Name":"People","EntityType":"S.People"}]},"EntityType":[{"Name":"People","Key":["Id"],"Property":[{"Name":"Id","Type":"int","Nullable":false},{"Name":"Name","Type":"nvarchar","MaxLength":1}]}]}"#,
-            MSL,
+        "the smallest bound",
+        &[
+            ("M", r#""MaxLength":20"#, r#""MaxLength":1"#),
+            ("S", r#""MaxLength":20"#, r#""MaxLength":1"#),
         ],
         ACCEPTED,
     ),
     (
-        "bound past the largest",
-        [
-            r#"{"Namespace":"N","EntityContainer":{"Name":"C","EntitySet":[{"Name":"People","EntityType":"N.Person"}]},"EntityType":[{"Name":"Person","Key":["Id"],"Property":[{"Name":"Id","Type":"Int32","Nullable":false},{"Name":"Name","Type":"String","MaxLength":1048577}]}]}"#,
-            r#"{"Namespace":"S","EntityContainer":{"Name":"D","EntitySet":[{"Name":"People","EntityType":"S.People"}]},"EntityType":[{"Name":"People","Key":["Id"],"Property":[{"Name":"Id","Type":"int","Nullable":false},{"Name":"Name","Type":"nvarchar","MaxLength":1048577}]}]}"#,
-            MSL,
+        "a bound past the largest",
+        &[
+            ("M", r#""MaxLength":20"#, r#""MaxLength":1048577"#),
+            ("S", r#""MaxLength":20"#, r#""MaxLength":1048577"#),
         ],
         NOT_OF_THE_FORM,
     ),
     (
-        "column named twice",
-        [
-            CSDL,
-            SSDL,
-            r#"{"EntityContainerMapping":{"StorageEntityContainer":"D","CdmEntityContainer":"C","EntitySetMapping":[{"Name":"People","EntityTypeMapping":[{"TypeName":"N.Person","MappingFragment":[{"StoreEntitySet":"People","ScalarProperty":[{"Name":"Id","ColumnName":"Id"},{"Name":"Name","ColumnName":"Name"},{"Name":"Name","ColumnName":"Id"}]}]}]}]}}"#,
-        ],
+        "a column that is named twice",
+        &[(
+            "P",
+            r#"{"Name":"Name","ColumnName":"Name"}"#,
+            r#"{"Name":"Name","ColumnName":"Name"},{"Name":"Name","ColumnName":"Id"}"#,
+        )],
         NOT_OF_THE_FORM,
     ),
     (
-        "dotted namespace",
-        [
-            r#"{"Namespace":"A.B.C","EntityContainer":{"Name":"C","EntitySet":[{"Name":"People","EntityType":"A.B.C.Person"}]},"EntityType":[{"Name":"Person","Key":["Id"],"Property":[{"Name":"Id","Type":"Int32","Nullable":false},{"Name":"Name","Type":"String","MaxLength":20}]}]}"#,
-            SSDL,
-            r#"{"EntityContainerMapping":{"StorageEntityContainer":"D","CdmEntityContainer":"C","EntitySetMapping":[{"Name":"People","EntityTypeMapping":[{"TypeName":"A.B.C.Person","MappingFragment":[{"StoreEntitySet":"People","ScalarProperty":[{"Name":"Id","ColumnName":"Id"},{"Name":"Name","ColumnName":"Name"}]}]}]}]}}"#,
+        "a namespace with dots",
+        &[
+            ("M", r#"{"Namespace":"N""#, r#"{"Namespace":"A.B.C""#),
+            ("M", r#""N.Person""#, r#""A.B.C.Person""#),
+            ("P", r#""N.Person""#, r#""A.B.C.Person""#),
         ],
         ACCEPTED,
     ),
     (
-        "free column",
-        [
-            CSDL,
-            r#"{"Namespace":"S","EntityContainer":{"Name":"D","EntitySet":[{"Name":"People","EntityType":"S.People"}]},"EntityType":[{"Name":"People","Key":["Id"],"Property":[{"Name":"Id","Type":"int","Nullable":false},{"Name":"Name","Type":"nvarchar","MaxLength":20},{"Name":"Note","Type":"nvarchar"}]}]}"#,
-            MSL,
+        "a column that nothing writes",
+        &[(
+            "S",
+            r#"{"Name":"Name","Type":"nvarchar","MaxLength":20}"#,
+            r#"{"Name":"Name","Type":"nvarchar","MaxLength":20},{"Name":"Note","Type":"nvarchar"}"#,
+        )],
+        ACCEPTED,
+    ),
+    (
+        "a key that may be null",
+        &[("M", r#","Nullable":false"#, r#""#)],
+        NOT_OF_THE_FORM,
+    ),
+    (
+        "a key that is a text",
+        &[
+            ("M", r#""Int32""#, r#""String""#),
+            ("S", r#""int""#, r#""nvarchar""#),
+        ],
+        NOT_OF_THE_FORM,
+    ),
+    (
+        "a key that isn't written",
+        &[("P", r#"{"Name":"Id","ColumnName":"Id"},"#, r#""#)],
+        NOT_OF_THE_FORM,
+    ),
+    (
+        "a name with quotes",
+        &[
+            (
+                "M",
+                r#""Name":"Name","Type""#,
+                r#""Name":"N\"\\\u0001😀","Type""#,
+            ),
+            ("S", r#""Name":"Name","Type""#, r#""Name":"c\"\t","Type""#),
+            (
+                "P",
+                r#"{"Name":"Name","ColumnName":"Name"}"#,
+                r#"{"Name":"N\"\\\u0001😀","ColumnName":"c\"\t"}"#,
+            ),
         ],
         ACCEPTED,
     ),
     (
-        "key that may be null",
-        [
-            r#"{"Namespace":"N","EntityContainer":{"Name":"C","EntitySet":[{"Name":"People","EntityType":"N.Person"}]},"EntityType":[{"Name":"Person","Key":["Id"],"Property":[{"Name":"Id","Type":"Int32"},{"Name":"Name","Type":"String","MaxLength":20}]}]}"#,
-            SSDL,
-            MSL,
+        "a name with quotes that isn't written",
+        &[
+            (
+                "M",
+                r#""Name":"Name","Type""#,
+                r#""Name":"N\"\\\u0001😀","Type""#,
+            ),
+            ("P", r#",{"Name":"Name","ColumnName":"Name"}"#, r#""#),
         ],
+        LOST_WITH_QUOTES,
+    ),
+    (
+        "a column that is too narrow",
+        &[("S", r#""MaxLength":20"#, r#""MaxLength":19"#)],
         NOT_OF_THE_FORM,
     ),
     (
-        "key that is text",
-        [
-            r#"{"Namespace":"N","EntityContainer":{"Name":"C","EntitySet":[{"Name":"People","EntityType":"N.Person"}]},"EntityType":[{"Name":"Person","Key":["Id"],"Property":[{"Name":"Id","Type":"String","Nullable":false},{"Name":"Name","Type":"String","MaxLength":20}]}]}"#,
-            r#"{"Namespace":"S","EntityContainer":{"Name":"D","EntitySet":[{"Name":"People","EntityType":"S.People"}]},"EntityType":[{"Name":"People","Key":["Id"],"Property":[{"Name":"Id","Type":"nvarchar","Nullable":false},{"Name":"Name","Type":"nvarchar","MaxLength":20}]}]}"#,
-            MSL,
-        ],
-        NOT_OF_THE_FORM,
-    ),
-    (
-        "key not written",
-        [
-            CSDL,
-            SSDL,
-            r#"{"EntityContainerMapping":{"StorageEntityContainer":"D","CdmEntityContainer":"C","EntitySetMapping":[{"Name":"People","EntityTypeMapping":[{"TypeName":"N.Person","MappingFragment":[{"StoreEntitySet":"People","ScalarProperty":[{"Name":"Name","ColumnName":"Name"}]}]}]}]}}"#,
-        ],
-        NOT_OF_THE_FORM,
-    ),
-    (
-        "name with quotes",
-        [
-            r#"{"Namespace":"N","EntityContainer":{"Name":"C","EntitySet":[{"Name":"People","EntityType":"N.Person"}]},"EntityType":[{"Name":"Person","Key":["Id"],"Property":[{"Name":"Id","Type":"Int32","Nullable":false},{"Name":"N\"\\\u0001😀","Type":"String","MaxLength":20}]}]}"#,
-            r#"{"Namespace":"S","EntityContainer":{"Name":"D","EntitySet":[{"Name":"People","EntityType":"S.People"}]},"EntityType":[{"Name":"People","Key":["Id"],"Property":[{"Name":"Id","Type":"int","Nullable":false},{"Name":"c\"\t","Type":"nvarchar","MaxLength":20}]}]}"#,
-            r#"{"EntityContainerMapping":{"StorageEntityContainer":"D","CdmEntityContainer":"C","EntitySetMapping":[{"Name":"People","EntityTypeMapping":[{"TypeName":"N.Person","MappingFragment":[{"StoreEntitySet":"People","ScalarProperty":[{"Name":"Id","ColumnName":"Id"},{"Name":"N\"\\\u0001😀","ColumnName":"c\"\t"}]}]}]}]}}"#,
-        ],
-        ACCEPTED,
-    ),
-    (
-        "name with quotes lost",
-        [
-            r#"{"Namespace":"N","EntityContainer":{"Name":"C","EntitySet":[{"Name":"People","EntityType":"N.Person"}]},"EntityType":[{"Name":"Person","Key":["Id"],"Property":[{"Name":"Id","Type":"Int32","Nullable":false},{"Name":"N\"\\\u0001😀","Type":"String","MaxLength":20}]}]}"#,
-            SSDL,
-            r#"{"EntityContainerMapping":{"StorageEntityContainer":"D","CdmEntityContainer":"C","EntitySetMapping":[{"Name":"People","EntityTypeMapping":[{"TypeName":"N.Person","MappingFragment":[{"StoreEntitySet":"People","ScalarProperty":[{"Name":"Id","ColumnName":"Id"}]}]}]}]}}"#,
-        ],
-        (
-            "fails same\nat {\"key\":[7],\"name\":\"People\",\"part\":\"\"}\nstate {\"People\":[{\"$type\":\"N.Person\",\"Id\":7,\"N\\\"\\\\\\u0001😀\":null}]}\nother {\"People\":[{\"$type\":\"N.Person\",\"Id\":7,\"N\\\"\\\\\\u0001😀\":\"a\"}]}\n",
-            1,
-        ),
-    ),
-    (
-        "narrow column",
-        [
-            CSDL,
-            r#"{"Namespace":"S","EntityContainer":{"Name":"D","EntitySet":[{"Name":"People","EntityType":"S.People"}]},"EntityType":[{"Name":"People","Key":["Id"],"Property":[{"Name":"Id","Type":"int","Nullable":false},{"Name":"Name","Type":"nvarchar","MaxLength":19}]}]}"#,
-            MSL,
-        ],
-        NOT_OF_THE_FORM,
-    ),
-    (
-        "nullable told",
-        [
-            r#"{"Namespace":"N","EntityContainer":{"Name":"C","EntitySet":[{"Name":"People","EntityType":"N.Person"}]},"EntityType":[{"Name":"Person","Key":["Id"],"Property":[{"Name":"Id","Type":"Int32","Nullable":false},{"Name":"Name","Type":"String","MaxLength":20,"Nullable":true}]}]}"#,
-            r#"{"Namespace":"S","EntityContainer":{"Name":"D","EntitySet":[{"Name":"People","EntityType":"S.People"}]},"EntityType":[{"Name":"People","Key":["Id"],"Property":[{"Name":"Id","Type":"int","Nullable":false},{"Name":"Name","Type":"nvarchar","MaxLength":20,"Nullable":true}]}]}"#,
-            MSL,
+        "a property that is said to be nullable",
+        &[
+            (
+                "M",
+                r#""MaxLength":20"#,
+                r#""MaxLength":20,"Nullable":true"#,
+            ),
+            (
+                "S",
+                r#""MaxLength":20"#,
+                r#""MaxLength":20,"Nullable":true"#,
+            ),
         ],
         ACCEPTED,
     ),
     (
         "another order",
-        [
-            r#"{"Namespace":"N","EntityContainer":{"Name":"C","EntitySet":[{"Name":"People","EntityType":"N.Person"}]},"EntityType":[{"Name":"Person","Key":["Id"],"Property":[{"Name":"Name","Type":"String","MaxLength":20},{"Name":"Id","Type":"Int32","Nullable":false}]}]}"#,
-            r#"{"Namespace":"S","EntityContainer":{"Name":"D","EntitySet":[{"Name":"People","EntityType":"S.People"}]},"EntityType":[{"Name":"People","Key":["Id"],"Property":[{"Name":"Name","Type":"nvarchar","MaxLength":20},{"Name":"Id","Type":"int","Nullable":false}]}]}"#,
-            r#"{"EntityContainerMapping":{"StorageEntityContainer":"D","CdmEntityContainer":"C","EntitySetMapping":[{"Name":"People","EntityTypeMapping":[{"TypeName":"N.Person","MappingFragment":[{"StoreEntitySet":"People","ScalarProperty":[{"Name":"Name","ColumnName":"Name"},{"Name":"Id","ColumnName":"Id"}]}]}]}]}}"#,
+        &[
+            (
+                "M",
+                r#"{"Name":"Id","Type":"Int32","Nullable":false},{"Name":"Name","Type":"String","MaxLength":20}"#,
+                r#"{"Name":"Name","Type":"String","MaxLength":20},{"Name":"Id","Type":"Int32","Nullable":false}"#,
+            ),
+            (
+                "S",
+                r#"{"Name":"Id","Type":"int","Nullable":false},{"Name":"Name","Type":"nvarchar","MaxLength":20}"#,
+                r#"{"Name":"Name","Type":"nvarchar","MaxLength":20},{"Name":"Id","Type":"int","Nullable":false}"#,
+            ),
+            (
+                "P",
+                r#"{"Name":"Id","ColumnName":"Id"},{"Name":"Name","ColumnName":"Name"}"#,
+                r#"{"Name":"Name","ColumnName":"Name"},{"Name":"Id","ColumnName":"Id"}"#,
+            ),
         ],
         ACCEPTED,
     ),
     (
-        "property without bound",
-        [
-            r#"{"Namespace":"N","EntityContainer":{"Name":"C","EntitySet":[{"Name":"People","EntityType":"N.Person"}]},"EntityType":[{"Name":"Person","Key":["Id"],"Property":[{"Name":"Id","Type":"Int32","Nullable":false},{"Name":"Name","Type":"String"}]}]}"#,
-            SSDL,
-            MSL,
-        ],
+        "a property without a bound",
+        &[("M", r#","MaxLength":20"#, r#""#)],
         NOT_OF_THE_FORM,
     ),
     (
-        "wider column",
-        [
-            CSDL,
-            r#"{"Namespace":"S","EntityContainer":{"Name":"D","EntitySet":[{"Name":"People","EntityType":"S.People"}]},"EntityType":[{"Name":"People","Key":["Id"],"Property":[{"Name":"Id","Type":"int","Nullable":false},{"Name":"Name","Type":"nvarchar"}]}]}"#,
-            MSL,
-        ],
+        "a column without a bound",
+        &[("S", r#","MaxLength":20"#, r#""#)],
         ACCEPTED,
     ),
     (
-        "wrong container",
-        [
-            CSDL,
-            SSDL,
-            r#"{"EntityContainerMapping":{"StorageEntityContainer":"D","CdmEntityContainer":"X","EntitySetMapping":[{"Name":"People","EntityTypeMapping":[{"TypeName":"N.Person","MappingFragment":[{"StoreEntitySet":"People","ScalarProperty":[{"Name":"Id","ColumnName":"Id"},{"Name":"Name","ColumnName":"Name"}]}]}]}]}}"#,
-        ],
+        "another container",
+        &[(
+            "P",
+            r#""CdmEntityContainer":"C""#,
+            r#""CdmEntityContainer":"X""#,
+        )],
         NOT_OF_THE_FORM,
     ),
     (
-        "unknown member",
-        [
-            CSDL,
-            SSDL,
-            r#"{"EntityContainerMapping":{"StorageEntityContainer":"D","CdmEntityContainer":"C","EntitySetMapping":[{"Name":"People","EntityTypeMapping":[{"TypeName":"N.Person","MappingFragment":[{"StoreEntitySet":"People","ScalarProperty":[{"Name":"Id","ColumnName":"Id"},{"Name":"Name","ColumnName":"Name"}]}]}]}]},"X":1}"#,
-        ],
+        "an unknown member",
+        &[("P", r#"]}]}]}]}}"#, r#"]}]}]}]},"X":1}"#)],
         NOT_OF_THE_FORM,
     ),
     (
-        "not JSON before not of the form",
-        [
-            r#"{"Namespace":"N","EntityContainer":{"Name":"C","EntitySet":[{"Name":"People","EntityType":"N.Person"}]},"EntityType":[{"Name":"Person","Key":["Id"],"Property":[{"Name":"Id","Type":"Int32","Nullable":false},{"Name":"Name","Type":"String","MaxLength":20}]}],"X":1}"#,
-            SSDL,
-            r#"{"#,
+        "no JSON, and before it an unknown member",
+        &[
+            ("M", r#"20}]}]}"#, r#"20}]}],"X":1}"#),
+            ("P", r#"{"EntityContainerMapping":"#, r#""#),
         ],
-        ("rule V1 msl \"\"\n", 1),
+        NO_JSON,
     ),
 ];

@@ -1,13 +1,10 @@
 use crate::commands::run;
-use crate::forms::{CSDL, FORMS, LOSING_MSL, MSL, SSDL};
+use crate::forms::{Edit, FORMS};
 use crate::status::Status;
 use emc_base::{Bin, MemFiles, MemSink, Seq, Txt};
-use json_form::{Doc, DocFault};
+use mapping_core::{Doc, DocFault, PEOPLE_CSDL as CSDL, PEOPLE_MSL as MSL, PEOPLE_SSDL as SSDL};
 use std::alloc::Global;
 use std::process::Abort;
-
-const LOST: &str =
-    "fails same\nat {\"key\":[7],\"name\":\"People\",\"part\":\"\"}\nstate {\"People\":[{\"$type\":\"N.Person\",\"Id\":7,\"Name\":null}]}\nother {\"People\":[{\"$type\":\"N.Person\",\"Id\":7,\"Name\":\"a\"}]}\n";
 
 const USAGE: &str =
     "usage: check M S P | views M S P | store M S P ENTITIES | load M S P TABLES | save M S P TABLES CHANGES OUT | drill SEED COUNT\n";
@@ -92,32 +89,46 @@ fn tells(rt: &impl Abort, alloc: Global, documents: [&str; 3], answer: (&str, u8
     prints(rt, alloc, &CHECK, &held, &NO_FAULTS, answer);
 }
 
-#[test]
-fn accepts_the_first_example(rt: HostRuntime) {
-    tells(&rt, rt.alloc(), [CSDL, SSDL, MSL], ("accepted\n", 0));
+// The document with one text in place of another.
+fn edited(rt: &impl Abort, alloc: Global, document: &str, (old, new): (&str, &str)) -> String {
+    let (before, after) = document.split_once(old).expect(rt, "no such text");
+    format!(in alloc; "{before}{new}{after}").expect(rt, "memory")
 }
 
-#[test]
-fn shows_two_states_of_one_table(rt: HostRuntime) {
-    tells(&rt, rt.alloc(), [CSDL, SSDL, LOSING_MSL], (LOST, 1));
+// The document with the edits of its file.
+fn with_edits(
+    rt: &impl Abort,
+    alloc: Global,
+    (file, document): (&str, &str),
+    edits: &[Edit],
+) -> String {
+    let mut text = String::from_str(alloc, document).expect(rt, "memory");
+    for (name, old, new) in edits {
+        if *name == file {
+            text = edited(rt, alloc, text.as_str(), (old, new));
+        }
+    }
+    text
 }
 
 #[test]
 fn reads_the_first_form_alone(rt: HostRuntime) {
-    for (name, documents, answer) in FORMS {
-        tells_of(&rt, rt.alloc(), name, documents, answer);
+    for (name, edits, answer) in FORMS {
+        tells_of(&rt, rt.alloc(), name, edits, answer);
     }
 }
 
-// The same of documents with a name, which a failure tells.
+// What `check` prints of the first example with some edits, which a failure of the test names.
 fn tells_of(
     rt: &impl Abort,
     alloc: Global,
     name: &str,
-    documents: [&str; 3],
+    edits: &[Edit],
     (text, number): (&str, u8),
 ) {
-    let [csdl, ssdl, msl] = documents;
+    let csdl = with_edits(rt, alloc, ("M", CSDL), edits);
+    let ssdl = with_edits(rt, alloc, ("S", SSDL), edits);
+    let msl = with_edits(rt, alloc, ("P", MSL), edits);
     let held = [
         ("M", csdl.as_bytes()),
         ("S", ssdl.as_bytes()),
