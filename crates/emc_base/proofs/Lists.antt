@@ -1,10 +1,8 @@
 -- Items at places, lists of one item, items told apart by a key, and tests over lists.
-use Rattle.std.proofs.Common.{◌≡◌, ◌≢◌, ⊎_elim, ℕ, zero, suc, ◌<◌, ◌≤◌, List, [], ◌∷◌, map, length, get_or, All, AllPairs, Any, Contains, refl, sym, ap, subst, ◌∙◌, slice_get, arith, ◌&&◌, Bool, true, false, not, inl, inr}
+use Rattle.std.proofs.Common.{◌≡◌, ◌≢◌, ⊎_elim, ℕ, zero, suc, ◌<◌, ◌≤◌, List, [], ◌∷◌, length, get_or, All, AllPairs, Contains, refl, sym, ap, subst, ◌∙◌, arith, ◌&&◌, Bool, true, false, not, inl, inr}
 use Rattle.std.proofs.lemmas.Bool.{cases_lt, cases_eq, and_parts, not-true, both_ways, false_from_ne_true}
-use Rattle.std.proofs.lemmas.List.{get_or_default, get_or-map}
 use Rattle.std.proofs.lemmas.List.Elements.{Contains-get_or}
 use Rattle.std.proofs.lemmas.Option.{slice_get_within, get_or_from_slice_get, slice_get_cases}
-use Rattle.std.proofs.Math.ListN.{length-map}
 use Rattle.emc_base.specs.Lists.{At}
 use Rattle.std.specs.List.{list_all, list_any}
 use Rattle.std.proofs.lemmas.List.Folds.{list_any_at}
