@@ -1,5 +1,5 @@
 -- Texts of three documents that mean something are of the first form.
-use Rattle.std.proofs.Common.{◌≡◌, ℕ, List, Bool, true, false, Option, Some, None, if◌then◌else◌, refl, sym, subst}
+use Rattle.std.proofs.Common.{◌≡◌, ℕ, List, Bool, true, false, Option, Some, None, if◌then◌else◌, refl, subst}
 use Rattle.std.specs.Option.{option_and_then}
 use Rattle.serde_json.specs.Data.{Data}
 use Rattle.json_form.specs.TreeParts.{tree_at}

@@ -1,5 +1,5 @@
 -- What documents of the first form mean is a mapping of one set of one type to one table.
-use Rattle.std.proofs.Common.{◌≡◌, ◌&&◌, codes, Bool, true, false, refl, sym, ap, subst, ◌∙◌, slice_get, nat_le}
+use Rattle.std.proofs.Common.{◌≡◌, ◌&&◌, codes, Bool, true, false, refl, sym, ap, ◌∙◌, slice_get, nat_le}
 use Rattle.std.specs.List.{list_all}
 use Rattle.std.proofs.lemmas.Bool.{and_parts, both_ways, false_from_ne_true}
 use Rattle.std.proofs.Math.ListN.{length-map}
@@ -7,7 +7,7 @@ use Rattle.std.proofs.lemmas.List.Sums.{AllPass-from_list_all}
 use Rattle.std.proofs.lemmas.List.Elements.{All-weaker}
 use Rattle.std.proofs.lemmas.Option.{slice_get_within}
 use Rattle.serde_json.specs.Data.{Data}
-use Rattle.round_trip.specs.Words.{PropId, ColId, Pair, Schema}
+use Rattle.round_trip.specs.Words.{PropId, ColId, Pair}
 use Rattle.one_table.specs.OneTable.{IsFittingPair, IsOneTable, IsOneType, IsOnlyFragment, IsOnlyTable}
 use Rattle.first_form.specs.declared.content.Content.{Content}
 use Rattle.first_form.specs.declared.declared_form.Declared.{Declared}

@@ -7,7 +7,7 @@ use Rattle.std.proofs.lemmas.Option.{slice_get-map}
 use Rattle.serde_json.specs.Data.{Data, null}
 use Rattle.serde_json.specs.Find.{pointer}
 use Rattle.emc_base.specs.declared.value.Value.TheVariants as value
-use Rattle.round_trip.specs.Words.{PropId, Kind, Prop, Column, Schema, At, InDomain}
+use Rattle.round_trip.specs.Words.{PropId, Kind, Prop, Column, At, InDomain}
 use Rattle.emc_base.specs.declared.value.Kind.TheVariants as kind
 use Rattle.emc_base.specs.Domain.{IsWithin}
 use Rattle.first_form.specs.declared.declared_form.Vocabulary.{Vocabulary}
@@ -20,7 +20,6 @@ use Rattle.std.specs.Option.{option_and_then}
 use Rattle.std.proofs.lemmas.Bool.Decides.{nat_tests}
 use Rattle.std.proofs.lemmas.Int.{ints}
 use Rattle.json_form.specs.TreeParts.{whole_of}
-use Rattle.first_form.specs.declared.content.Content.{Content}
 use Rattle.first_form.specs.declared.declared_form.Declared.{Declared}
 use Rattle.first_form.specs.declared.declared_form.Vocabulary.TheVariants.{Model, Store}
 use Rattle.first_form.specs.declared.shape.Shape.TheVariants as shape

@@ -1,6 +1,6 @@
 -- The first example: three documents of the first form as texts, and the model, the store and the mapping that they mean.
 -- Source: CSDL, SSDL and MSL version 3 in the JSON spelling of the first form.
-use Rattle.std.specs.Prelude.{ℕ, List, [], ◌∷◌, ◌++◌, true, false, Some, None, codes}
+use Rattle.std.specs.Prelude.{[], ◌∷◌, true, false, Some, None, codes}
 use Rattle.emc_base.specs.declared.value.Kind.TheVariants.{Int32, Text}
 use Rattle.round_trip.specs.Words.{EntityModel, StoreModel, Mapping, Schema}
 use Rattle.edm_types.specs.declared.model.TypeNode.{roll-TypeNode}

@@ -1,5 +1,5 @@
 -- What the words of a command give, by what was read.
-use Rattle.std.proofs.Common.{◌≡◌, ◌≤◌, ℕ, List, [], ◌∷◌, length, drop, ◌==◌, ◌&&◌, Bool, true, false, Option, Some, None, Result, Ok, Err, IfOk, MatchOption, if◌then◌else◌, codes, inl, inr, refl, sym, subst, arith}
+use Rattle.std.proofs.Common.{◌≡◌, ◌≤◌, ℕ, List, [], ◌∷◌, length, ◌==◌, ◌&&◌, Bool, true, false, Option, Some, None, Result, Ok, Err, IfOk, MatchOption, if◌then◌else◌, codes, inl, inr, refl, sym, subst, arith}
 use Rattle.std.specs.Str.{bytes_eq}
 use Rattle.std.proofs.lemmas.Bool.{and_parts}
 use Rattle.std.proofs.lemmas.Bool.Decides.{nat_tests}
@@ -15,7 +15,7 @@ use Rattle.mapping_cli.specs.Commands.{command_of, inputs_of}
 use Rattle.mapping_cli.specs.Inputs.{AreInputs, FailsToRead}
 use Rattle.mapping_cli.specs.Gives.{GivesInputs, GivesOn, Says}
 use Rattle.mapping_cli.specs.Reading.{ReadsInputs}
-use Rattle.mapping_cli.specs.Runs.{Breaks, Ends}
+use Rattle.mapping_cli.specs.Runs.{Ends}
 use Rattle.mapping_cli.specs.Texts.{usage_text}
 use Rattle.mapping_cli.proofs.FilesRead.{as_many}
 

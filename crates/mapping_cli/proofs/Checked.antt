@@ -1,5 +1,5 @@
 -- What `check` gives, by what reading and deciding answered.
-use Rattle.std.proofs.Common.{◌≡◌, ℕ, List, Option, Result, Ok, Err, IfOk, inl, inr, refl, sym, ap, ◌∙◌, subst}
+use Rattle.std.proofs.Common.{◌≡◌, ℕ, List, Option, Result, Ok, Err, IfOk, inl, inr, refl, sym, ap, ◌∙◌}
 use Rattle.emc_base.specs.declared.memory.Memory.{Memory}
 use Rattle.emc_base.specs.Files.{FileMap}
 use Rattle.emc_base.specs.Lists.{At}

@@ -1,5 +1,5 @@
 -- Reading the input files of a command, one after the other.
-use Rattle.std.proofs.Common.{◌≡◌, ◌+◌, ◌<◌, ◌≤◌, ℕ, zero, suc, List, [], ◌∷◌, ◌++◌, length, take, Option, Some, None, Result, Ok, Err, IsSomeAnd, IsErrAnd, codes, inl, inr, refl, sym, subst, arith}
+use Rattle.std.proofs.Common.{◌≡◌, ◌+◌, ◌<◌, ◌≤◌, ℕ, zero, suc, List, [], ◌∷◌, ◌++◌, length, take, Option, Some, None, Result, Ok, Err, IsSomeAnd, IsErrAnd, inl, inr, refl, sym, subst, arith}
 use Rattle.emc_base.specs.declared.files.ReadFault.{ReadFault}
 use Rattle.emc_base.specs.declared.files.ReadFault.TheVariants as fault
 use Rattle.emc_base.specs.Files.{FileMap, CountsRead, Tells}
@@ -7,9 +7,8 @@ use Rattle.emc_base.specs.Lists.{At}
 use Rattle.emc_base.proofs.Loops.{take_item}
 use Rattle.mapping_cli.specs.declared.answer.Halt.{Halt}
 use Rattle.mapping_cli.specs.declared.answer.Halt.TheVariants as halt
-use Rattle.mapping_cli.specs.Inputs.{AreInputs, IsFirstUnread, IsInput, IsLacking, StandsAt, largest_file}
+use Rattle.mapping_cli.specs.Inputs.{AreInputs, IsFirstUnread, IsInput, StandsAt, largest_file}
 use Rattle.mapping_cli.specs.Reading.{ReadsInput, ReadsInputs, TellsFault}
-use Rattle.mapping_cli.specs.Texts.{file_text}
 
 -- a list that is longer than that
 longer : (n : ℕ) → (bytes : List ℕ) × (n < length bytes)

@@ -1,5 +1,5 @@
 -- Which rule is told, by how far the three documents could be read.
-use Rattle.std.proofs.Common.{◌≡◌, ◌≢◌, ◌<◌, ◌≤◌, ℕ, List, [], Option, Some, None, Result, Ok, Err, IsErrAnd, inl, inr, ⊎_elim, refl, sym, subst, arith}
+use Rattle.std.proofs.Common.{◌≡◌, ◌≢◌, ◌<◌, ◌≤◌, ℕ, List, [], Some, None, Result, Ok, Err, IsErrAnd, inl, inr, ⊎_elim, refl, sym, subst, arith}
 use Rattle.std.proofs.lemmas.Bool.{cases_lt}
 use Rattle.std.specs.declared.cmp.Ordering.TheVariants.{Greater}
 use Rattle.serde_json.specs.Data.{Data}
@@ -13,7 +13,7 @@ use Rattle.round_trip.specs.Words.{Schema, VocabFile}
 use Rattle.first_form.specs.Meaning.{first_form_meaning, meaning_of_texts}
 use Rattle.mapping_core.specs.Compiles.{ReadsSchema}
 use Rattle.mapping_core.specs.Reading.{IsFaultOrMemory, ReadsAs, fault_at_root}
-use Rattle.mapping_core.specs.Rules.{AreUnbuilt, BreaksAt, IsNotJson, IsToldRule, Means, bytes_of, file_number, not_json, unbuilt}
+use Rattle.mapping_core.specs.Rules.{BreaksAt, IsNotJson, IsToldRule, Means, bytes_of, file_number, not_json, unbuilt}
 
 -- the root comes after no place
 root_first : (place : List Step) → place ≡ [] → steps_cmp [] place ≢ Greater
