@@ -1,7 +1,7 @@
--- Names: 1 to 480 Unicode scalar values. Names of types, sets and properties hold none of . ; ( ) $, a Namespace may hold the dot.
+-- Names: texts of 1 to 480 Unicode scalar values. A Namespace holds none of ; ( ) $, and may hold dots; names of types, sets and properties
+-- hold no dot either.
 -- Source: the profile's names of CSDL, SSDL and MSL.
-use Rattle.std.specs.Prelude.{◌&&◌, ◌||◌, ◌==◌, ℕ, List, Bool, not, nat_le, length}
-use Rattle.std.specs.List.{list_all}
+use Rattle.std.specs.Prelude.{◌≡◌, ◌≢◌, ◌⊎◌, ℕ, ◌≤◌, List, All, length}
 use Rattle.std.specs.Str.{chars}
 
 -- the most Unicode scalar values of a name
@@ -9,17 +9,20 @@ abbrev pub longest_name : ℕ
 longest_name = 480
 
 -- 1 to 480 Unicode scalar values
-abbrev pub is_name : List ℕ → Bool
-is_name text = nat_le 1 (length (chars text)) && nat_le (length (chars text)) longest_name
+pub record IsName (text : List ℕ) : Type 0 where
+  pub some : 1 ≤ length (chars text)
+  pub few : length (chars text) ≤ longest_name
 
 -- one of ; ( ) $
-abbrev pub is_bracket_or_sign : ℕ → Bool
-is_bracket_or_sign byte = byte == 59 || byte == 40 || byte == 41 || byte == 36
+abbrev pub IsBracketOrSign : ℕ → Type 0
+IsBracketOrSign byte = (byte ≡ 59) ⊎ (byte ≡ 40) ⊎ (byte ≡ 41) ⊎ (byte ≡ 36)
 
 -- a name that holds none of ; ( ) $
-abbrev pub is_namespace : List ℕ → Bool
-is_namespace text = is_name text && list_all (λ byte. not (is_bracket_or_sign byte)) text
+pub record IsNamespace (text : List ℕ) : Type 0 where
+  pub name : IsName text
+  pub free : All (λ byte. ¬ IsBracketOrSign byte) text
 
 -- a name that holds none of . ; ( ) $
-abbrev pub is_plain_name : List ℕ → Bool
-is_plain_name text = is_namespace text && list_all (λ byte. not (byte == 46)) text
+pub record IsPlainName (text : List ℕ) : Type 0 where
+  pub namespace : IsNamespace text
+  pub dotless : All (λ byte. byte ≢ 46) text

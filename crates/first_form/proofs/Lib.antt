@@ -1,4 +1,5 @@
 pub mod Members
+pub mod NameTests
 pub mod Places
 pub mod Samples
 pub mod Ids

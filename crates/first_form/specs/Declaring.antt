@@ -13,7 +13,7 @@ use Rattle.first_form.specs.declared.declared_form.Vocabulary.TheVariants.{Model
 use Rattle.first_form.specs.Pointed.{text_at, items_at, part_at}
 use Rattle.first_form.specs.declared.shape.Shape.TheVariants as shape
 use Rattle.first_form.specs.Shapes.{has_shape}
-use Rattle.edm_types.specs.Names.{is_name, is_plain_name}
+use Rattle.first_form.specs.Names.{is_name, is_plain_name}
 
 -- the word for a whole number of 32 bits
 abbrev pub whole_word : Vocabulary → List ℕ

@@ -18,7 +18,7 @@ use Rattle.first_form.specs.declared.content.Content.{Content}
 use Rattle.first_form.specs.Pointed.{text_at, items_at, part_at}
 use Rattle.first_form.specs.declared.shape.Shape.TheVariants as shape
 use Rattle.first_form.specs.Shapes.{has_shape}
-use Rattle.edm_types.specs.Names.{is_name, is_plain_name, is_namespace}
+use Rattle.first_form.specs.Names.{is_name, is_plain_name, is_namespace}
 use Rattle.first_form.specs.Declaring.{is_property, is_given_name, declared_in}
 
 -- an array of one item

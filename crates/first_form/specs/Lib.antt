@@ -1,3 +1,4 @@
+pub mod Names
 pub mod Pointed
 pub mod Shapes
 pub mod Declaring

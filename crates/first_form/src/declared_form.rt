@@ -6,9 +6,10 @@ ghost use Rattle.json_form.specs.Nodes.{part_of};
 ghost use Rattle.first_form.specs.Pointed.{items_at, part_at, text_at};
 ghost use Rattle.first_form.specs.Declaring.{bound_of, column_of, declared_in, has_known_nullable, has_known_type, is_bound, is_given_name, is_property, is_typed, reference_in, short_number, text_word, whole_word};
 
+use crate::names::{is_name, is_plain_name};
 use crate::pointed::{items_at, str_at, text_at, two_texts_at};
 use crate::shape::{Shape, has_shape};
-use edm_types::{Column, is_name, is_plain_name};
+use edm_types::Column;
 use emc_base::{Kind, Memory, Seq, Txt};
 use json_form::Node;
 use serde_json::Value;

@@ -7,9 +7,10 @@ ghost use Rattle.first_form.specs.Form.{has_column, has_container_layout, has_fe
 
 use crate::declared_form::{Declared, Vocabulary, are_properties_at, is_given_name};
 use crate::mapped_form::{Mapped, NamedPair};
+use crate::names::{is_name, is_namespace, is_plain_name};
 use crate::pointed::{has_one_item_at, items_at};
 use crate::shape::{Shape, has_shape, has_shape_at};
-use edm_types::{Column, Pair, is_name, is_namespace, is_plain_name};
+use edm_types::{Column, Pair};
 use emc_base::{ColId, Kind, Memory, PropId, Seq};
 use json_form::Node;
 use std::alloc::Global;

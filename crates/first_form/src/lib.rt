@@ -8,6 +8,7 @@ mod example;
 mod form;
 mod mapped_form;
 mod meaning;
+mod names;
 mod pointed;
 mod shape;
 
