@@ -2,7 +2,9 @@ use crate::commands::run;
 use crate::forms::{Edit, FORMS};
 use crate::status::Status;
 use emc_base::{Bin, MemFiles, MemSink, Seq, Txt};
-use mapping_core::{Doc, DocFault, PEOPLE_CSDL as CSDL, PEOPLE_MSL as MSL, PEOPLE_SSDL as SSDL};
+use mapping_core::{
+    Doc, DocFault, PEOPLE_CSDL as CSDL, PEOPLE_MSL as MSL, PEOPLE_SSDL as SSDL, Verdict, compile,
+};
 use std::alloc::Global;
 use std::process::Abort;
 
@@ -137,6 +139,36 @@ fn tells_of(
     let (out, status) = runs(rt, alloc, &CHECK, &held, &NO_FAULTS);
     assert_eq!(rt; out.written(), text.as_bytes(), "of {name}");
     assert_eq!(rt; status.number(), number, "of {name}");
+}
+
+// What compiling three documents answers, in a word.
+fn compiled(rt: &impl Abort, alloc: Global, documents: [&str; 3]) -> &'static str {
+    let [csdl, ssdl, msl] = documents;
+    let csdl = Bin::of(alloc, csdl.as_bytes()).expect(rt, "memory");
+    let ssdl = Bin::of(alloc, ssdl.as_bytes()).expect(rt, "memory");
+    let msl = Bin::of(alloc, msl.as_bytes()).expect(rt, "memory");
+    match compile(alloc, &csdl, &ssdl, &msl) {
+        Ok(_compiled) => "accepted",
+        Err(Verdict::Rule(_)) => "rule",
+        Err(Verdict::Limit(_)) => "limit",
+        Err(Verdict::Fails(_)) => "fails",
+        Err(Verdict::Memory) => "memory",
+    }
+}
+
+#[test]
+fn compiles_three_documents(rt: HostRuntime) {
+    let pair = r#",{"Name":"Name","ColumnName":"Name"}"#;
+    let losing = edited(&rt, rt.alloc(), MSL, (pair, ""));
+    let answers = [
+        ([CSDL, SSDL, MSL], "accepted"),
+        ([CSDL, SSDL, losing.as_str()], "fails"),
+        ([CSDL, "", MSL], "rule"),
+        ([SSDL, CSDL, MSL], "rule"),
+    ];
+    for (documents, answer) in answers {
+        assert_eq!(rt; compiled(&rt, rt.alloc(), documents), answer);
+    }
 }
 
 #[test]
