@@ -3,10 +3,6 @@ pub mod Lists
 pub mod Domain
 pub mod Order
 pub mod Faults
-pub mod Files
-pub mod Sink
-pub mod InMemory
-pub mod MemFiles
 pub mod OrderLaws
 pub mod Places
 pub mod ValueRefs

@@ -76,10 +76,8 @@ impl Value {
         ensures { IfOk result (λ value. value ≡ self.now) }
     {
         let _alloc = alloc;
-        match self.clone() {
-            Ok(value) => Ok(value),
-            Err(_) => Err(Memory),
-        }
+        let value = self.clone()?;
+        Ok(value)
     }
 }
 
@@ -89,10 +87,8 @@ impl Kind {
         ensures { IfOk result (λ kind. kind ≡ self.now) }
     {
         let _alloc = alloc;
-        match self.clone() {
-            Ok(kind) => Ok(kind),
-            Err(_) => Err(Memory),
-        }
+        let kind = self.clone()?;
+        Ok(kind)
     }
 }
 
@@ -102,10 +98,8 @@ impl Seq<Value> {
         ensures { IfOk result (λ key. key ≡ self.now) }
     {
         let _alloc = alloc;
-        match self.clone() {
-            Ok(key) => Ok(key),
-            Err(_) => Err(Memory),
-        }
+        let key = self.clone()?;
+        Ok(key)
     }
 }
 

@@ -4,7 +4,7 @@ use Rattle.std.specs.Str.{bytes_eq}
 use Rattle.std.proofs.lemmas.Bool.{and_parts}
 use Rattle.std.proofs.lemmas.Bool.Decides.{nat_tests}
 use Rattle.emc_base.specs.declared.memory.Memory.{Memory}
-use Rattle.emc_base.specs.Files.{FileMap}
+use Rattle.emc_files.specs.Files.{FileMap}
 use Rattle.mapping_cli.specs.declared.answer.Halt.TheVariants as halt
 use Rattle.mapping_cli.specs.declared.answer.Answer.{Answer}
 use Rattle.mapping_cli.specs.declared.status.Status.{Status}

@@ -1,7 +1,7 @@
 -- What `check` gives, by what reading and deciding answered.
 use Rattle.std.proofs.Common.{◌≡◌, ℕ, List, Option, Result, Ok, Err, IfOk, inl, inr, refl, sym, ap, ◌∙◌}
 use Rattle.emc_base.specs.declared.memory.Memory.{Memory}
-use Rattle.emc_base.specs.Files.{FileMap}
+use Rattle.emc_files.specs.Files.{FileMap}
 use Rattle.emc_base.specs.Lists.{At}
 use Rattle.mapping_core.specs.Words.{Failure, IsFailureOf, IsPrintable, IsToldRule, Means, RuleFault, Schema}
 use Rattle.mapping_cli.specs.declared.answer.Answer.{Answer}

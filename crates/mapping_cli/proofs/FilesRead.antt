@@ -1,8 +1,8 @@
 -- Reading the input files of a command, one after the other.
 use Rattle.std.proofs.Common.{◌≡◌, ◌+◌, ◌<◌, ◌≤◌, ℕ, zero, suc, List, [], ◌∷◌, ◌++◌, length, take, Option, Some, None, Result, Ok, Err, IsSomeAnd, IsErrAnd, inl, inr, refl, sym, subst, arith}
-use Rattle.emc_base.specs.declared.files.ReadFault.{ReadFault}
-use Rattle.emc_base.specs.declared.files.ReadFault.TheVariants as fault
-use Rattle.emc_base.specs.Files.{FileMap, CountsRead, Tells}
+use Rattle.emc_files.specs.declared.files.ReadFault.{ReadFault}
+use Rattle.emc_files.specs.declared.files.ReadFault.TheVariants as fault
+use Rattle.emc_files.specs.Files.{FileMap, CountsRead, Tells}
 use Rattle.emc_base.specs.Lists.{At}
 use Rattle.emc_base.proofs.Loops.{take_item}
 use Rattle.mapping_cli.specs.declared.answer.Halt.{Halt}

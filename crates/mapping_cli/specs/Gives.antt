@@ -1,6 +1,6 @@
 -- What a command prints, the status it ends with, and what it leaves in the files, by the content of its input files.
 use Rattle.std.specs.Prelude.{◌≡◌, ◌⊎◌, ℕ, List, Option, MatchOption}
-use Rattle.emc_base.specs.Files.{FileMap}
+use Rattle.emc_files.specs.Files.{FileMap}
 use Rattle.emc_base.specs.Lists.{At}
 use Rattle.mapping_core.specs.Words.{Failure, IsFailureOf, IsPrintable, IsToldRule, Keeps, Means, RuleFault, Schema}
 use Rattle.mapping_cli.specs.declared.status.Status.{Status}

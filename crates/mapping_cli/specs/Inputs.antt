@@ -1,6 +1,6 @@
 -- The input files of a command: their contents, and what is told of the first that isn't read.
 use Rattle.std.specs.Prelude.{◌≡◌, ◌⊎◌, ℕ, ◌<◌, ◌≤◌, List, [], ◌∷◌, length, take, Option, Some, None, IfSome, codes, ⊤}
-use Rattle.emc_base.specs.Files.{FileMap}
+use Rattle.emc_files.specs.Files.{FileMap}
 use Rattle.emc_base.specs.Lists.{At}
 use Rattle.mapping_cli.specs.Texts.{file_text}
 
@@ -42,6 +42,6 @@ abbrev pub LacksInput : Option FileMap → List (List ℕ) → List ℕ → Type
 LacksInput held names text = (name : List ℕ) × IsFirstUnread held names name × IsLacking held name text
 
 -- The text tells a file that may fail to be read, and before which each is present and not too large. What may fail is a member of the
--- trait of files: of files in general, only a read that failed shows that one may.
+-- trait of files: of files in general, only a call that failed shows that one may.
 abbrev pub FailsToRead : (List ℕ → Type 0) → Option FileMap → List (List ℕ) → List ℕ → Type 0
 FailsToRead may_fail held names text = (name : List ℕ) × IsFirstUnread held names name × may_fail name × (text ≡ file_text (codes "failed") name)

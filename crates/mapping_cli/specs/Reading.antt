@@ -1,9 +1,9 @@
 -- What the steps of reading the input files answer.
 use Rattle.std.specs.Prelude.{◌≡◌, ◌⊎◌, ℕ, List, Option, Result, Ok, Err, codes, ⊤}
-use Rattle.emc_base.specs.declared.files.ReadFault.{ReadFault}
-use Rattle.emc_base.specs.declared.files.ReadFault.TheVariants as fault
+use Rattle.emc_files.specs.declared.files.ReadFault.{ReadFault}
+use Rattle.emc_files.specs.declared.files.ReadFault.TheVariants as fault
 use Rattle.emc_base.specs.Faults.{RoseOrStands}
-use Rattle.emc_base.specs.Files.{FileMap}
+use Rattle.emc_files.specs.Files.{FileMap}
 use Rattle.mapping_cli.specs.declared.answer.Halt.{Halt}
 use Rattle.mapping_cli.specs.declared.answer.Halt.TheVariants.{Tells, Memory}
 use Rattle.mapping_cli.specs.declared.status.Status.TheVariants.{FileFault}

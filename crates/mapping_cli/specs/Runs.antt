@@ -1,7 +1,7 @@
 -- The promise of the program: what it printed, how it ended, and what it left, in every case.
 use Rattle.std.specs.Prelude.{◌≡◌, ◌≢◌, ◌⊎◌, ℕ, List, [], ◌++◌, take, Option, MatchOption, option_map}
 use Rattle.emc_base.specs.Faults.{RoseOrStands}
-use Rattle.emc_base.specs.Files.{FileMap}
+use Rattle.emc_files.specs.Files.{FileMap}
 use Rattle.mapping_cli.specs.declared.status.Status.{Status}
 use Rattle.mapping_cli.specs.declared.status.Status.TheVariants.{Done, MappingRefused, DocumentRefused, Usage, FileFault, SinkFault, Memory}
 use Rattle.mapping_cli.specs.Commands.{command_of, inputs_of}

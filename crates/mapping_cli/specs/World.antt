@@ -1,6 +1,6 @@
 -- What the program reads from and writes to, as far as it is told, with the two counts of faults.
 use Rattle.std.specs.Prelude.{ℕ, List, Option}
-use Rattle.emc_base.specs.Files.{FileMap}
+use Rattle.emc_files.specs.Files.{FileMap}
 
 -- the files, the count of their faults, what was written, and the count of the sink's faults
 pub record World : Type 0 where

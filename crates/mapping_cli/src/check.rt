@@ -1,5 +1,5 @@
 ghost use Rattle.std.specs.Prelude.{◌≡◌, ◌≤◌, IfOk, length, Option};
-ghost use Rattle.emc_base.specs.Files.{FileMap};
+ghost use Rattle.emc_files.specs.Files.{FileMap};
 ghost use Rattle.mapping_core.specs.Words.{IsMeant};
 ghost use Rattle.mapping_cli.specs.Gives.{GivesOn, GivesVerdict, Says};
 ghost use Rattle.mapping_cli.specs.Texts.{accepted_text};

@@ -1,7 +1,7 @@
 ghost use Rattle.std.specs.Prelude.{◌≡◌, ◌≤◌, IfOk, length, Option};
 ghost use Rattle.emc_base.specs.contracts.files.Files as F;
 ghost use Rattle.emc_base.specs.contracts.sink.Sink as W;
-ghost use Rattle.emc_base.specs.Files.{FileMap};
+ghost use Rattle.emc_files.specs.Files.{FileMap};
 ghost use Rattle.mapping_cli.specs.declared.status.Status.TheVariants.{Usage};
 ghost use Rattle.mapping_cli.specs.Gives.{GivesOn};
 ghost use Rattle.mapping_cli.specs.Runs.{Ends, Runs};
@@ -14,7 +14,8 @@ use crate::inputs::read_inputs;
 use crate::status::Status;
 use crate::texts::usage_text;
 use crate::words::{Command, command_of, inputs_of};
-use emc_base::{Bin, Files, Memory, Seq, Sink, SinkFault, Txt};
+use emc_base::{Bin, Memory, Seq, Txt};
+use emc_files::{Files, Sink, SinkFault};
 use std::alloc::Global;
 
 /// Does what the words after the program's name ask for. Reads files, prints one text, and tells how it ended.

@@ -6,7 +6,8 @@ ghost use Rattle.mapping_cli.specs.Texts.{file_text};
 use crate::answer::{Answer, Halt};
 use crate::status::Status;
 use crate::texts::file_text;
-use emc_base::{Bin, Files, Memory, ReadFault, Seq, Txt};
+use emc_base::{Bin, Memory, Seq, Txt};
+use emc_files::{Files, ReadFault};
 use std::alloc::Global;
 
 /// The largest input file, in bytes.

@@ -14,7 +14,8 @@ mod texts;
 mod words;
 
 pub use commands::run;
-use emc_base::{DiskFiles, OutSink, Txt};
+use emc_base::Txt;
+use emc_files::{DiskFiles, OutSink};
 pub use status::Status;
 use std::process::ExitCode;
 use std::rt::HostRuntime;

@@ -1,7 +1,8 @@
 use crate::commands::run;
 use crate::forms::{Edit, FORMS};
 use crate::status::Status;
-use emc_base::{Bin, MemFiles, MemSink, Seq, Txt};
+use emc_base::{Bin, Seq, Txt};
+use emc_files::{MemFiles, MemSink};
 use mapping_core::{
     Doc, DocFault, PEOPLE_CSDL as CSDL, PEOPLE_MSL as MSL, PEOPLE_SSDL as SSDL, Verdict, compile,
 };

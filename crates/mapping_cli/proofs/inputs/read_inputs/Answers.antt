@@ -1,6 +1,6 @@
 use Rattle.std.proofs.Common.{◌∙◌, ◌+◌, ℕ, List, Option, length, take, refl, sym, subst}
 use Rattle.std.proofs.lemmas.Option.{slice_get_read}
-use Rattle.emc_base.specs.Files.{FileMap}
+use Rattle.emc_files.specs.Files.{FileMap}
 use Rattle.mapping_cli.specs.Inputs.{AreInputs, IsInput}
 use Rattle.mapping_cli.proofs.FilesRead.{next_input}
 use Rattle.mapping_cli.proofs.inputs.read_inputs.Goals as goal

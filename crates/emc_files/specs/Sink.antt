@@ -1,7 +1,7 @@
 -- What a call on a sink leaves written, and when it may tell a fault.
 use Rattle.std.specs.Prelude.{◌≡◌, ℕ, List, ◌++◌, take, Option, option_map, Result, Ok, Err}
-use Rattle.emc_base.specs.declared.sink.SinkFault.{SinkFault}
-use Rattle.emc_base.specs.declared.sink.SinkFault.TheVariants.{Failed, Memory}
+use Rattle.emc_files.specs.declared.sink.SinkFault.{SinkFault}
+use Rattle.emc_files.specs.declared.sink.SinkFault.TheVariants.{Failed, Memory}
 use Rattle.emc_base.specs.Faults.{RoseOrStands}
 
 -- Where it is told, what is written grew by all of the bytes, after Failed by some of the first of them, after Memory not

@@ -1,8 +1,7 @@
 ghost use Rattle.std.specs.Prelude.{◌≡◌, ◌≤◌, ℕ, List, Option, IfOk, length};
-ghost use Rattle.emc_base.specs.Files.{FileMap, Tells, CountsRead, Replaces, CountsReplace};
+ghost use Rattle.emc_files.specs.Files.{FileMap, Tells, CountsRead, Replaces, CountsReplace};
 
-use crate::bin::Bin;
-use crate::txt::Txt;
+use emc_base::{Bin, Txt};
 use std::alloc::Global;
 use thiserror::Error;
 
@@ -47,7 +46,7 @@ pub trait Files {
 
     /// All bytes of a file, of which there may be at most `limit`. `Missing` comes exactly where no file has the name, `TooLarge`
     /// exactly where it has more bytes than that, and `Failed` only where the count of faults rose in the call or stands at its last
-    /// value. No read changes the files.
+    /// value, and only for a name whose calls may fail. No read changes the files.
     fn read(&mut self, alloc: Global, name: &Txt, limit: u64) -> Result<Bin, ReadFault>
         ensures tells { Tells (held self.old) name.now limit result }
         ensures fits { IfOk result (λ bytes. length bytes ≤ limit) }
@@ -57,7 +56,7 @@ pub trait Files {
 
     /// Puts the bytes at the name, in place of what stood there, or where no file stood. After `Failed` the files are as before, or
     /// the bytes stand at the name; after `Memory` they are as before. `Failed` comes only where the count of faults rose in the call
-    /// or stands at its last value.
+    /// or stands at its last value, and only for a name whose calls may fail.
     fn replace(&mut self, alloc: Global, name: &Txt, bytes: &Bin) -> Result<(), ReplaceFault>
         ensures replaces { Replaces (held self.old) (held self.new) name.now bytes.now result }
         ensures cause { CountsReplace (fault_count self.old) (fault_count self.new) result }

@@ -1,9 +1,9 @@
 -- What a call on files tells of their content and leaves of it, and when it may tell a fault.
 use Rattle.std.specs.Prelude.{◌≡◌, ◌≢◌, ◌⊎◌, ℕ, ◌<◌, List, length, Option, Some, None, Result, Ok, Err, IsSomeAnd, ⊤}
-use Rattle.emc_base.specs.declared.files.ReadFault.{ReadFault}
-use Rattle.emc_base.specs.declared.files.ReadFault.TheVariants as read
-use Rattle.emc_base.specs.declared.files.ReplaceFault.{ReplaceFault}
-use Rattle.emc_base.specs.declared.files.ReplaceFault.TheVariants as replace
+use Rattle.emc_files.specs.declared.files.ReadFault.{ReadFault}
+use Rattle.emc_files.specs.declared.files.ReadFault.TheVariants as read
+use Rattle.emc_files.specs.declared.files.ReplaceFault.{ReplaceFault}
+use Rattle.emc_files.specs.declared.files.ReplaceFault.TheVariants as replace
 use Rattle.emc_base.specs.Faults.{RoseOrStands}
 
 -- a finite map from names to byte lists, as its look-up

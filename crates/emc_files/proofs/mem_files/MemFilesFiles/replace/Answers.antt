@@ -1,6 +1,6 @@
 use Rattle.std.proofs.Common.{inl, refl, ap, Some}
-use Rattle.emc_base.specs.InMemory.{KeptFiles}
-use Rattle.emc_base.proofs.mem_files.MemFilesFiles.replace.Goals as goal
+use Rattle.emc_files.specs.InMemory.{KeptFiles}
+use Rattle.emc_files.proofs.mem_files.MemFilesFiles.replace.Goals as goal
 
 pub returns-then-contains-clause-replaces : goal.returns-then-contains-clause-replaces
 returns-then-contains-clause-replaces c = inl refl

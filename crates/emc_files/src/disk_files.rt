@@ -1,11 +1,9 @@
 ghost use Rattle.std.specs.Prelude.{◌≡◌, ◌≢◌, ◌≤◌, ◌↔◌, ◌++◌, IfOk, codes, length};
 ghost use Rattle.emc_base.specs.Faults.{one_more};
-ghost use Rattle.emc_base.specs.Files.{CountsRead, CountsReplace, Replaces, Tells, any_may_fail, untold};
+ghost use Rattle.emc_files.specs.Files.{CountsRead, CountsReplace, Replaces, Tells, any_may_fail, untold};
 
-use crate::bin::Bin;
 use crate::files::{Files, ReadFault, ReplaceFault};
-use crate::memory::Memory;
-use crate::txt::Txt;
+use emc_base::{Bin, Memory, Txt};
 use std::alloc::Global;
 use std::io;
 use std::io::{ErrorKind, Read};
@@ -134,6 +132,7 @@ fn read_at_most<R: std::rt::Files>(
             Err(error) => return Err(error),
         }
     }
+    // After so many interrupted reads the file counts as one that could not be read.
     Err(io::Error::from(ErrorKind::TimedOut))
 }
 

@@ -1,15 +1,12 @@
 ghost use Rattle.std.specs.Prelude.{◌≡◌, ◌≢◌, ◌≤◌, ◌↔◌, List, ℕ, Contains, IfOk, OnOk, OnErr, Some, length, []};
 ghost use Rattle.std.specs.BTreeMap.{get_by_text};
-ghost use Rattle.emc_base.specs.Files.{FileMap, Tells, CountsRead, Replaces, CountsReplace, PutsFile, HoldsNothing, any_may_fail};
+ghost use Rattle.emc_files.specs.Files.{FileMap, Tells, CountsRead, Replaces, CountsReplace, PutsFile, HoldsNothing, any_may_fail};
 ghost use Rattle.emc_base.specs.Faults.{one_more};
-ghost use Rattle.emc_base.specs.InMemory.{CountsFiles, CountsReplaced};
-ghost use Rattle.emc_base.specs.MemFiles.{kept_files};
+ghost use Rattle.emc_files.specs.InMemory.{CountsFiles, CountsReplaced};
+ghost use Rattle.emc_files.specs.MemFiles.{kept_files};
 
-use crate::bin::Bin;
 use crate::files::{Files, ReadFault, ReplaceFault};
-use crate::memory::Memory;
-use crate::seq::Seq;
-use crate::txt::Txt;
+use emc_base::{Bin, Memory, Seq, Txt};
 use std::alloc::Global;
 use std::collections::BTreeMap;
 

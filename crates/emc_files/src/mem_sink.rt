@@ -1,10 +1,10 @@
 ghost use Rattle.std.specs.Prelude.{◌≡◌, ◌≢◌, ◌++◌, [], ℕ, List, take, Some, MatchOption, IsErr};
-ghost use Rattle.emc_base.specs.Sink.{Puts, CountsPut};
+ghost use Rattle.emc_files.specs.Sink.{Puts, CountsPut};
 ghost use Rattle.emc_base.specs.Faults.{one_more};
-ghost use Rattle.emc_base.specs.InMemory.{CountsSink, taken_at, KeptSink};
+ghost use Rattle.emc_files.specs.InMemory.{CountsSink, taken_at, KeptSink};
 
-use crate::seq::Seq;
 use crate::sink::{Sink, SinkFault};
+use emc_base::Seq;
 use std::alloc::Global;
 use std::marker::Model;
 
@@ -20,7 +20,7 @@ pub struct MemSink {
 
 impl Model for MemSink {
     ghost use Rattle.std.specs.Prelude.{List, ℕ};
-    ghost use Rattle.emc_base.specs.InMemory.{KeptSink};
+    ghost use Rattle.emc_files.specs.InMemory.{KeptSink};
 
     ghost Value = { KeptSink };
 

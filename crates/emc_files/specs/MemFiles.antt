@@ -1,7 +1,7 @@
 -- What `MemFiles` shows to contracts.
 use Rattle.std.specs.BTreeMap.{get_by_text}
-use Rattle.emc_base.specs.declared.mem_files.MemFiles.{MemFiles}
-use Rattle.emc_base.specs.InMemory.{KeptFiles}
+use Rattle.emc_files.specs.declared.mem_files.MemFiles.{MemFiles}
+use Rattle.emc_files.specs.InMemory.{KeptFiles}
 
 -- its files as a look-up, and what it counts
 abbrev pub kept_files : MemFiles → KeptFiles

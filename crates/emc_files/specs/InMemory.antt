@@ -1,13 +1,13 @@
 -- What the files and the sink in memory keep.
 use Rattle.std.specs.Prelude.{◌≡◌, Result, Ok, Err, ℕ, List, ◌==◌, find, Option, option_map}
-use Rattle.emc_base.specs.declared.files.ReadFault.{ReadFault}
-use Rattle.emc_base.specs.declared.files.ReadFault.TheVariants as read
-use Rattle.emc_base.specs.declared.files.ReplaceFault.{ReplaceFault}
-use Rattle.emc_base.specs.declared.files.ReplaceFault.TheVariants as replace
-use Rattle.emc_base.specs.declared.sink.SinkFault.{SinkFault}
-use Rattle.emc_base.specs.declared.sink.SinkFault.TheVariants as put
+use Rattle.emc_files.specs.declared.files.ReadFault.{ReadFault}
+use Rattle.emc_files.specs.declared.files.ReadFault.TheVariants as read
+use Rattle.emc_files.specs.declared.files.ReplaceFault.{ReplaceFault}
+use Rattle.emc_files.specs.declared.files.ReplaceFault.TheVariants as replace
+use Rattle.emc_files.specs.declared.sink.SinkFault.{SinkFault}
+use Rattle.emc_files.specs.declared.sink.SinkFault.TheVariants as put
 use Rattle.emc_base.specs.Faults.{one_more}
-use Rattle.emc_base.specs.Files.{FileMap}
+use Rattle.emc_files.specs.Files.{FileMap}
 
 -- files: what they hold, the numbers of the calls that fail, how many calls there were, and how many failed
 pub record KeptFiles : Type 0 where

@@ -1,5 +1,5 @@
 ghost use Rattle.std.specs.Prelude.{◌≡◌, ℕ, List, Option};
-ghost use Rattle.emc_base.specs.Sink.{Puts, CountsPut};
+ghost use Rattle.emc_files.specs.Sink.{Puts, CountsPut};
 
 use thiserror::Error;
 

@@ -1,6 +1,6 @@
 ghost use Rattle.std.specs.Prelude.{◌≡◌, ◌≢◌, None};
 ghost use Rattle.emc_base.specs.Faults.{one_more};
-ghost use Rattle.emc_base.specs.Sink.{CountsPut, Puts};
+ghost use Rattle.emc_files.specs.Sink.{CountsPut, Puts};
 
 use crate::sink::{Sink, SinkFault};
 use std::marker::Model;

@@ -1,0 +1,4 @@
+pub mod Files
+pub mod Sink
+pub mod InMemory
+pub mod MemFiles
