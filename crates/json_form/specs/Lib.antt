@@ -3,3 +3,4 @@ pub mod Documents
 pub mod Nodes
 pub mod Trees
 pub mod Pointers
+pub mod PlaceOrder

@@ -4,6 +4,7 @@
 mod doc;
 mod node;
 mod pointer;
+mod step_order;
 #[cfg(test)]
 mod tests;
 mod tree;
@@ -11,4 +12,5 @@ mod tree;
 pub use doc::{Doc, DocFault};
 pub use node::Node;
 pub use pointer::{Step, pointer_of};
+pub use step_order::place_order_is_total;
 pub use tree::{array_tree, key_tree, object_tree, place_text, quoted, text_tree, value_tree};
