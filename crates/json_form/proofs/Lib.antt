@@ -1,2 +1,4 @@
 pub mod Views
+pub mod Members
+pub mod Depths
 pub mod Objects

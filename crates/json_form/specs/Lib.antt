@@ -1,4 +1,5 @@
 pub mod TreeParts
+pub mod Members
 pub mod Documents
 pub mod Nodes
 pub mod Trees

@@ -3,7 +3,7 @@ use Rattle.std.proofs.Common.{◌≡◌, ◌≢◌, ◌⊎◌, ⊎_elim, inl, in
 use Rattle.std.specs.declared.cmp.Ordering.{Ordering}
 use Rattle.std.specs.declared.cmp.Ordering.TheVariants.{Less, Equal, Greater}
 use Rattle.std.specs.Ordering.{is_gt, is_lt, ord_min, ordering_reverse}
-use Rattle.std.specs.Cmp.{IsTotalOrder, upto}
+use Rattle.std.specs.Cmp.{IsTotalOrder, tied_itself, upto}
 use Rattle.std.proofs.lemmas.Bool.{cases_eq}
 use Rattle.std.proofs.lemmas.Option.{slice_get_within}
 use Rattle.emc_base.proofs.Lists.{at_once}
@@ -93,3 +93,7 @@ module _ {F : Type 0} (cmp : F → F → Ordering) (total : IsTotalOrder cmp) wh
       where
         back : (fault : F) → Among P items fault → AmongFirst P items n fault
         back fault some = record { among = some; within = (let w : some.i < length items = slice_get_within items some.i some.item some.here in omega arith) }
+
+-- the one fault that there is
+pub least_only : {F : Type 0} (cmp : F → F → Ordering) → IsTotalOrder cmp → (P : F → Type 0) (found : F) → P found → ((fault : F) → P fault → fault ≡ found) → IsLeast cmp P (Some found)
+least_only cmp total P found is only = (is, λ fault holds. untested (cmp found fault) (ap is_gt (ap (cmp found) (only fault holds) ∙ tied_itself total found)))

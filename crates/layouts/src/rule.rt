@@ -1,0 +1,57 @@
+ghost use Rattle.std.specs.Prelude.{◌≡◌};
+ghost use Rattle.layouts.specs.Rules.{rule_number};
+
+/// A rule that three documents have to keep. Each has a number, by which the rules are ordered, and which is what is printed.
+/// Source: this project's profile of CSDL, SSDL and MSL, version 3.
+#[derive(Clone, Copy, Debug, PartialEq, Eq)]
+pub enum Rule {
+    /// 1: the file is JSON.
+    IsJson,
+    /// 2: each node has the form that its layout says.
+    HasForm,
+    /// 3: no member is missing that must be there.
+    HasMembers,
+    /// 4: each member is known.
+    IsKnown,
+    /// 5: no construct stands there that is left out.
+    IsSupported,
+    /// 6: no name is given twice in its scope.
+    NamedOnce,
+    /// 7: each name resolves to something of the sort that is needed.
+    Resolves,
+    /// 8: no type is its own ancestor.
+    Ancestors,
+    /// 9: just the types without a base have a key, of one to four properties, each once.
+    TypeKey,
+    /// 10: the properties of a key aren't nullable, and are of types that a key may have.
+    KeyProperty,
+    /// 11: no property has the name of an inherited one.
+    InheritedName,
+    /// 12: the type of a property is a simple one or an enumeration, whose numbers lie within its underlying type.
+    PropertyType,
+    /// 13: a bound stands at a text or a byte list alone, and is a number from 1 to 1,048,576.
+    Bound,
+}
+
+impl Rule {
+    /// The number that is printed.
+    pub fn number(self) -> u8
+        ensures { result ≡ rule_number self }
+    {
+        match self {
+            Rule::IsJson => 1,
+            Rule::HasForm => 2,
+            Rule::HasMembers => 3,
+            Rule::IsKnown => 4,
+            Rule::IsSupported => 5,
+            Rule::NamedOnce => 6,
+            Rule::Resolves => 7,
+            Rule::Ancestors => 8,
+            Rule::TypeKey => 9,
+            Rule::KeyProperty => 10,
+            Rule::InheritedName => 11,
+            Rule::PropertyType => 12,
+            Rule::Bound => 13,
+        }
+    }
+}
