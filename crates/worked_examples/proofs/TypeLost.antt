@@ -11,7 +11,7 @@ use Rattle.worked_examples.specs.Owners.{employee_type, all_people}
 use Rattle.worked_examples.specs.TypeLost.{untold, untold_model, employee, TypeIsLost}
 use Rattle.worked_examples.proofs.Small.{each_of}
 use Rattle.worked_examples.proofs.Values.{whole_fits}
-use Rattle.worked_examples.proofs.Entities.{MayStand}
+use Rattle.worked_examples.proofs.Entities.{MayStand, two_values_stand}
 use Rattle.worked_examples.proofs.Writings.{entity_writing, each_writing, row_made}
 use Rattle.worked_examples.proofs.States.{legal_set_alone, one_row_stored}
 use Rattle.worked_examples.proofs.People.{no_name}
@@ -32,11 +32,7 @@ employee_is_person : IsA untold_model (type_id 1) (type_id 0)
 employee_is_person = base (type_id 1) (type_id 0) (employee_type, refl, refl)
 
 person_stands : MayStand untold_model people_set a_person
-person_stands = record {
-  shape = (person_type, refl, refl);
-  type = record { concrete = (person_type, refl, refl); under = same (type_id 0) };
-  fits = (record { declared = id_prop; is_declared = refl; fits = whole_fits false 7 (omega arith) }, (record { declared = name_prop; is_declared = refl; fits = no_name }, tt));
-}
+person_stands = two_values_stand (Whole (pos 7)) Null (whole_fits false 7 (omega arith)) no_name
 
 employee_stands : MayStand untold_model people_set an_employee
 employee_stands = record {
