@@ -47,7 +47,7 @@ module _ {name set_name : List ℕ} {key : List PropId} {types : List EntityType
     {sets : List EntitySet} {assocs : List Assoc} where
   pub two_values_stand : (first second : Value) → FitsIn one.kind one.nullable first → FitsIn two.kind two.nullable second
       → MayStand (model_of (concrete_type name None key (prop_id 0 ∷ prop_id 1 ∷ []) ∷ types) (one ∷ two ∷ props) forest sets assocs)
-          (set_of set_name (type_id 0)) (entity_of (type_id 0) (first ∷ second ∷ []))
+      (set_of set_name (type_id 0)) (entity_of (type_id 0) (first ∷ second ∷ []))
   two_values_stand first second first_fits second_fits = record {
     shape = (_, refl, refl);
     type = record { concrete = (_, refl, refl); under = same (type_id 0) };

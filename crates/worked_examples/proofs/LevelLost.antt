@@ -5,10 +5,8 @@ use Rattle.std.specs.List.{AllByRecursion}
 use Rattle.std.proofs.lemmas.List.Elements.{All-nil}
 use Rattle.std.proofs.lemmas.List.Sorted.{IsPermutation-refl, Contains-permutation}
 use Rattle.round_trip.specs.Words.{Null, Whole, Entity, Row, State, Tables, rows_in, Selects, IsLegal, Writing, Writes, TablesAre}
-use Rattle.edm_types.specs.IsA.{same}
-use Rattle.worked_examples.specs.Ids.{type_id, set_id, table_id}
-use Rattle.worked_examples.specs.People.{id_prop}
-use Rattle.worked_examples.specs.LevelLost.{items, item_model, item_type, items_set, level_prop, item, only_items}
+use Rattle.worked_examples.specs.Ids.{set_id, table_id}
+use Rattle.worked_examples.specs.LevelLost.{items, item_model, items_set, item, only_items}
 use Rattle.worked_examples.specs.LevelLost.{level_is, of_level, level_one_table, level_two_table, LevelIsLost}
 use Rattle.worked_examples.proofs.Small.{PairsByRecursion}
 use Rattle.worked_examples.proofs.Values.{whole_fits}

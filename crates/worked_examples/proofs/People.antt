@@ -5,9 +5,8 @@ use Rattle.std.specs.List.{AllByRecursion}
 use Rattle.round_trip.specs.Words.{Value, Null, Whole, Text, Assoc, Entity, HasProp, IsLegalSet, IsLegal}
 use Rattle.emc_base.specs.declared.value.Kind.TheVariants as kind
 use Rattle.emc_base.specs.Domain.{IsText}
-use Rattle.edm_types.specs.IsA.{same}
-use Rattle.worked_examples.specs.Ids.{type_id, set_id, prop_id}
-use Rattle.worked_examples.specs.People.{TwentyOneCharactersAreNot, people_with, accented, people_model, people_set, person_type, id_prop, name_prop, person, only_people}
+use Rattle.worked_examples.specs.Ids.{set_id, prop_id}
+use Rattle.worked_examples.specs.People.{TwentyOneCharactersAreNot, people_with, accented, people_model, people_set, name_prop, person, only_people}
 use Rattle.worked_examples.proofs.Small.{PairsByRecursion}
 use Rattle.worked_examples.proofs.Values.{FitsIn, null_fits, whole_fits, text_fits, no_text_21}
 use Rattle.worked_examples.proofs.Entities.{MayStand, two_values_stand, HaveOwnKeys}

@@ -4,9 +4,8 @@ use Rattle.std.specs.Prelude.{Contains, pos, false}
 use Rattle.std.specs.List.{AllByRecursion}
 use Rattle.std.proofs.lemmas.List.Elements.{All-nil}
 use Rattle.round_trip.specs.Words.{TableId, Value, Whole, Entity, Row, cell_of, MetByEntity, Selects, Writing, Writes, WritesRow}
-use Rattle.edm_types.specs.IsA.{same}
 use Rattle.worked_examples.specs.Ids.{type_id, table_id, just, row_of}
-use Rattle.worked_examples.specs.Seats.{seats, seats_model, seats_set, seats_store, seats_table, seat_type, row_prop, number_prop, all_seats, seat, seat_row, two_seats, seat_rows, SeatsAreLegal, SeatsAreKeyed, SeatsAreStored, SeatRowsAreLegal, SeatRowsSatisfy}
+use Rattle.worked_examples.specs.Seats.{seats, seats_model, seats_set, seats_store, seats_table, all_seats, seat, seat_row, two_seats, seat_rows, SeatsAreLegal, SeatsAreKeyed, SeatsAreStored, SeatRowsAreLegal, SeatRowsSatisfy}
 use Rattle.worked_examples.proofs.Small.{PairsByRecursion}
 use Rattle.worked_examples.proofs.Values.{whole_fits}
 use Rattle.worked_examples.proofs.Entities.{MayStand, two_values_stand}

@@ -4,9 +4,9 @@ use Rattle.std.specs.Prelude.{pos, false}
 use Rattle.std.specs.List.{AllByRecursion}
 use Rattle.std.proofs.lemmas.List.Elements.{All-from_recursion}
 use Rattle.round_trip.specs.Words.{TypeId, Null, Whole, Pair, Entity, MetByEntity, IsPicked, Selects, IsLegal}
-use Rattle.edm_types.specs.IsA.{same, base}
+use Rattle.edm_types.specs.IsA.{base}
 use Rattle.worked_examples.specs.Ids.{type_id, just}
-use Rattle.worked_examples.specs.People.{id_prop, name_prop, person_type, people_set, person, only_people}
+use Rattle.worked_examples.specs.People.{id_prop, name_prop, people_set, person, only_people}
 use Rattle.worked_examples.specs.Salary.{staff_model, employee_type, salary_prop, persons, employees, of_kind, kind_is}
 use Rattle.worked_examples.specs.ByKind.{employee}
 use Rattle.worked_examples.proofs.Small.{PairsByRecursion, any_one}

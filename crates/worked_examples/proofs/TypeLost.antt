@@ -6,7 +6,7 @@ use Rattle.std.proofs.lemmas.List.Sorted.{IsPermutation-refl, Contains-permutati
 use Rattle.round_trip.specs.Words.{TypeId, Null, Whole, Entity, Row, IsA, Tables, rows_in, MetByEntity, Selects, IsLegal, Writing, Writes, TablesAre}
 use Rattle.edm_types.specs.IsA.{same, base}
 use Rattle.worked_examples.specs.Ids.{type_id, set_id, with_below}
-use Rattle.worked_examples.specs.People.{id_prop, name_prop, person_type, people_set, people_table, person, person_row, only_people, only_rows}
+use Rattle.worked_examples.specs.People.{id_prop, name_prop, people_set, people_table, person, person_row, only_people, only_rows}
 use Rattle.worked_examples.specs.Owners.{employee_type, all_people}
 use Rattle.worked_examples.specs.TypeLost.{untold, untold_model, employee, TypeIsLost}
 use Rattle.worked_examples.proofs.Small.{each_of}
