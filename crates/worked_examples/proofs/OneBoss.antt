@@ -209,8 +209,13 @@ own_row_keys = (
 )
 
 pub stored : CrewIsStored
-stored = all_rows_stored schema crew row_for in_rows bossed_table rows
-    (record { is_table = refl; made = (boss_demanded, (led_demanded 2 (codes "b") refl second second_link, (led_demanded 3 (codes "c") refl third third_link, tt))); found = found; own = own_row_keys; count = (refl, (refl, (refl, tt))) })
+stored = all_rows_stored schema crew row_for in_rows bossed_table rows (record {
+  is_table = refl;
+  made = (boss_demanded, (led_demanded 2 (codes "b") refl second second_link, (led_demanded 3 (codes "c") refl third third_link, tt)));
+  found = found;
+  own = own_row_keys;
+  count = (refl, (refl, (refl, tt)));
+})
 
 -- the boss of a row is found in the first
 abbrev FindsBoss : Row → Type 0
