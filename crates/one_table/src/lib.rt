@@ -8,7 +8,7 @@ ghost use Rattle.std.specs.Prelude.{◌≡◌, List, [], ◌∷◌};
 ghost use Rattle.round_trip.specs.Words.{PropId, Value, Null, Place, EntitySet, Schema, State, IsLegal, place_at, FailsAt, HasGoodTables, Keeps};
 ghost use Rattle.round_trip.specs.declared.FailKind.{FailKind};
 ghost use Rattle.round_trip.specs.declared.FailKind.TheVariants.{Same};
-ghost use Rattle.one_table.specs.Lost.{AreLost, IsLost, lost_values, shown_key, state_by};
+ghost use Rattle.one_table.specs.LostValues.{AreLost, IsLost, lost_values, shown_key, state_by};
 ghost use Rattle.one_table.specs.OneTable.{IsOneTable, WritesEveryProperty};
 
 pub use unwritten::unwritten_property;

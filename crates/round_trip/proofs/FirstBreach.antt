@@ -6,12 +6,27 @@ use Rattle.std.specs.declared.cmp.Ordering.TheVariants.{Less, Equal, Greater}
 use Rattle.std.specs.Ordering.{ordering_reverse, nat_cmp}
 use Rattle.std.specs.Cmp.Lexicographic.{nat_list_cmp_total, slice_cmp}
 use Rattle.std.specs.FinMap.{nat_cmp-IsAntisymmetric, slice_cmp-IsAntisymmetric}
-use Rattle.round_trip.specs.Types.{Place, Breach}
+use Rattle.round_trip.specs.Types.{Value, Null, Place, Kind, Breach, InDomain}
 use Rattle.round_trip.specs.Breaches.{IsFirstBreach}
 
 -- no more than one place is told
 abbrev pub TellsOne : (Place → Type 0) → Type 0
 TellsOne Told = (one two : Place) → Told one → Told two → one ≡ two
+
+-- values that stand where something is declared, as a property or a column
+module _ {Declared : Type 0} (Stands : Place → Value → Declared → Type 0) where
+  abbrev pub StandsSome : Place → Type 0
+  StandsSome place = (value : Value) × (declared : Declared) × Stands place value declared
+
+  module _ (one : TellsOne StandsSome) where
+    -- of a null that may not stand there
+    pub null_told : (Forbids : Declared → Type 0) → TellsOne (λ place. (declared : Declared) × Stands place Null declared × Forbids declared)
+    null_told Forbids x y first second = one x y (Null, first.0, first.1) (Null, second.0, second.1)
+
+    -- of a value that is outside its domain
+    pub domain_told : (kind_of : Declared → Kind)
+        → TellsOne (λ place. (value : Value) × (declared : Declared) × Stands place value declared × (value ≢ Null) × ¬ InDomain value (kind_of declared))
+    domain_told kind_of x y first second = one x y (first.0, first.1, first.2) (second.0, second.1, second.2)
 
 -- all the rules have this number or a greater one, and each tells one place
 pub record TellsOneFrom (number : ℕ) (Told : ℕ → Place → Type 0) : Type 0 where
