@@ -1,6 +1,6 @@
 ghost use Rattle.std.specs.Prelude.{◌≡◌, ◌≤◌, IfOk, length, Option};
-ghost use Rattle.emc_base.specs.contracts.files.Files as F;
-ghost use Rattle.emc_base.specs.contracts.sink.Sink as W;
+ghost use Rattle.emc_files.specs.contracts.files.Files as F;
+ghost use Rattle.emc_files.specs.contracts.sink.Sink as W;
 ghost use Rattle.emc_files.specs.Files.{FileMap};
 ghost use Rattle.mapping_cli.specs.declared.status.Status.TheVariants.{Usage};
 ghost use Rattle.mapping_cli.specs.Gives.{GivesOn};

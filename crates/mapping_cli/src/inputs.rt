@@ -1,5 +1,5 @@
 ghost use Rattle.std.specs.Prelude.{◌≡◌};
-ghost use Rattle.emc_base.specs.contracts.files.Files as F;
+ghost use Rattle.emc_files.specs.contracts.files.Files as F;
 ghost use Rattle.mapping_cli.specs.Reading.{IsTold, ReadsInput, ReadsInputs, TellsFault};
 ghost use Rattle.mapping_cli.specs.Texts.{file_text};
 
