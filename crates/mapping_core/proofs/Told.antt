@@ -13,7 +13,7 @@ use Rattle.round_trip.specs.Words.{Schema, VocabFile}
 use Rattle.first_form.specs.Meaning.{first_form_meaning, meaning_of_texts}
 use Rattle.mapping_core.specs.Compiles.{ReadsSchema}
 use Rattle.mapping_core.specs.Reading.{IsFaultOrMemory, ReadsAs, fault_at_root}
-use Rattle.mapping_core.specs.Rules.{BreaksAt, IsNotJson, IsToldRule, Means, bytes_of, file_number, not_json, unbuilt}
+use Rattle.mapping_core.specs.Rules.{BreaksAt, IsNotJson, IsToldRule, bytes_of, file_number, not_json, unbuilt}
 
 -- files of one number are one file
 pub same_file : (one two : VocabFile) → file_number one ≡ file_number two → one ≡ two
@@ -91,14 +91,6 @@ module _ (csdl ssdl msl : List ℕ) where
 
     meaning_is : meaning_of_texts csdl ssdl msl ≡ first_form_meaning c s m
     meaning_is = rw (is_csdl, is_ssdl, is_msl) refl
-
-    -- documents that mean something break no rule
-    pub means : (schema : Schema) → Some schema ≡ first_form_meaning c s m → Means csdl ssdl msl schema
-    means schema is = record { unbroken = unbroken; meaning = cc (meaning_is, is) }
-      where
-        unbroken : (file : VocabFile) (rule : ℕ) (place : List Step) → ¬ BreaksAt csdl ssdl msl file rule place
-        unbroken file rule place (inl json) = all_json file json.2
-        unbroken file rule place (inr last) = let none : meaning_of_texts csdl ssdl msl ≡ None = last.3.meaningless in cc (meaning_is, is)
 
     -- documents that mean nothing break the last rule
     tells_unbuilt : None ≡ first_form_meaning c s m → IsToldRule csdl ssdl msl (fault_at_root Msl unbuilt)
