@@ -1,2 +1,2 @@
 pub mod Plain
-pub mod Zips
+pub mod Told

@@ -5,6 +5,7 @@ ghost use Rattle.serde_json.specs.Written.{compact_text};
 ghost use Rattle.serde_json.specs.View.{members_view, view};
 ghost use Rattle.json_form.specs.Trees.{array_of, put_all};
 ghost use Rattle.round_trip.specs.Words.{IsEntity, IsState};
+ghost use Rattle.entity_state.specs.Tells.{HasApartNames, IsTextOf};
 ghost use Rattle.entity_state.specs.StateTree.{assoc_member, entity_tree, is_independent, link_tree, name_of, named_value, set_member, state_tree};
 
 use crate::state::EntityState;
@@ -18,7 +19,8 @@ use std::alloc::Global;
 /// has them in key order. `Memory` comes where there is none for it.
 pub fn state_text(alloc: Global, model: &EntityModel, state: &EntityState) -> Result<String, Memory>
     requires { IsState model.now state.now }
-    ensures { IfOk result (λ text. string_bytes text ≡ compact_text (state_tree model.now state.now)) }
+    ensures text { IfOk result (λ text. string_bytes text ≡ compact_text (state_tree model.now state.now)) }
+    ensures tells { IfOk result (λ text. HasApartNames model.now → IsTextOf model.now state.now (string_bytes text)) }
 {
     let mut members = Map::new(alloc);
     put_sets(alloc, &mut members, model, state)?;

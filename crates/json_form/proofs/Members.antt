@@ -1,7 +1,7 @@
 -- Objects made member by member: loops over the items that pass a test, and what stands in such an object.
-use Rattle.std.proofs.Common.{◌≡◌, ◌≢◌, ◌⊎◌, ⊎_elim, ◌+◌, ◌<◌, ℕ, zero, suc, List, [], ◌∷◌, ◌++◌, map, take, length, filter, cond, Bool, true, false, true≢false, Option, Some, IsSome, slice_get, get_or, All, AllPairs, Contains, inl, inr, refl, sym, ap, subst, ◌∙◌, arith}
+use Rattle.std.proofs.Common.{◌≡◌, ◌≢◌, ◌⊎◌, ⊎_elim, ◌+◌, ℕ, zero, suc, List, [], ◌∷◌, ◌++◌, map, take, filter, cond, Bool, true, false, true≢false, Some, IsSome, slice_get, All, AllPairs, Contains, inl, inr, refl, sym, ap, subst, ◌∙◌, arith}
 use Rattle.std.proofs.lemmas.List.{map-append, append-nil}
-use Rattle.std.proofs.lemmas.List.Elements.{All-tail, filter_more}
+use Rattle.std.proofs.lemmas.List.Elements.{All-tail, Contains-append_right, filter_more}
 use Rattle.std.proofs.lemmas.Option.{slice_get_within, get_or_from_slice_get}
 use Rattle.std.proofs.lemmas.Slice.Eq.{bytes_eq-Decides}
 use Rattle.std.specs.Str.{bytes_eq}
@@ -54,9 +54,6 @@ get_member-put_all start (first ∷ entries) entry apart (zero, within, is) =
 get_member-put_all start (first ∷ entries) entry apart (suc k, within, is) =
     get_member-put_all (put first.0 first.1 start) entries entry (λ i j d below inside. apart (suc i) (suc j) d (omega arith) (omega arith)) (k, omega arith, is)
 
-later : {X : Type 0} (x : X) (xs : List X) (y : X) → Contains xs y → Contains (x ∷ xs) y
-later x xs y (k, within, is) = (suc k, omega arith, is)
-
 put_or_before : (name other : List ℕ) (d : Data) (start : Members) (others : List (List ℕ)) (b : Bool) → bytes_eq name other ≡ b
     → IsSome (get_member name (put other d start)) → IsSome (get_member name start) ⊎ Contains (other ∷ others) name
 put_or_before name other d start others true same some = inr (0, omega arith, sym ((bytes_eq-Decides name other).0 same))
@@ -69,5 +66,5 @@ pub names-put_all : (name : List ℕ) (start : Members) (entries : List (List �
 names-put_all name start [] some = inl some
 names-put_all name start (entry ∷ entries) some =
     ⊎_elim (put_or_before name entry.0 entry.1 start (map (λ e. e.0) entries) (bytes_eq name entry.0) refl)
-    (λ has. inr (later entry.0 (map (λ e. e.0) entries) name has))
+    (λ has. inr (Contains-append_right (entry.0 ∷ []) (map (λ e. e.0) entries) name has))
     (names-put_all name (put entry.0 entry.1 start) entries some)

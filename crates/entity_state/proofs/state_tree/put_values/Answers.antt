@@ -2,7 +2,7 @@ use Rattle.std.proofs.Common.{◌∙◌, sym, ap, map, ⊎_elim}
 use Rattle.serde_json.specs.View.{members_view}
 use Rattle.json_form.specs.Trees.{put_all}
 use Rattle.entity_state.specs.StateTree.{named_value}
-use Rattle.entity_state.proofs.Zips.{zip-no_first, zip-no_second}
+use Rattle.emc_base.proofs.Mapped.{zip-no_first, zip-no_second}
 use Rattle.entity_state.proofs.state_tree.put_values.Goals as goal
 
 pub returns : goal.returns
