@@ -1,5 +1,5 @@
 -- A state's tree has no float.
-use Rattle.std.proofs.Common.{◌≡◌, ◌∙◌, ap, map, filter, false, refl, codes}
+use Rattle.std.proofs.Common.{◌≡◌, ◌∙◌, ap, filter, false, refl, codes}
 use Rattle.std.specs.List.{enumerate_from}
 use Rattle.serde_json.specs.Data.{string, no_members, put}
 use Rattle.serde_json.specs.Written.{has_float, members_have_float}
@@ -8,7 +8,7 @@ use Rattle.json_form.proofs.Members.{put_all-both}
 use Rattle.json_form.proofs.Objects.{members_have_float-put, put_all-plain, array_of-plain, value_tree-plain, key_tree-plain}
 use Rattle.std.proofs.Common.{zip}
 use Rattle.round_trip.specs.Words.{EntityModel, Assoc, Entity, Link, props_of, State, entities_in, links_in}
-use Rattle.entity_state.specs.StateTree.{assoc_member, entity_tree, full_name, is_independent, link_tree, named_value, set_member, state_tree}
+use Rattle.entity_state.specs.StateTree.{assoc_member, assoc_members, entity_tree, full_name, is_independent, link_tree, named_value, set_member, set_members, state_tree}
 
 pub entity_tree-plain : (model : EntityModel) (entity : Entity) → has_float (entity_tree model entity) ≡ false
 entity_tree-plain model entity =
@@ -24,8 +24,8 @@ pub state_tree-plain : (model : EntityModel) (state : State) → has_float (stat
 state_tree-plain model state =
     let sets = enumerate_from 0 model.sets in
     let assocs = filter (λ entry. is_independent entry.1) (enumerate_from 0 model.assocs) in
-    ap members_have_float (put_all-both no_members (map (set_member model state) sets) (map (assoc_member state) assocs))
-    ∙ put_all-plain (put_all no_members (map (set_member model state) sets)) (assoc_member state) assocs
+    ap members_have_float (put_all-both no_members (set_members model state) (assoc_members model state))
+    ∙ put_all-plain (put_all no_members (set_members model state)) (assoc_member state) assocs
     (λ entry. array_of-plain (link_tree entry.1) (links_in state (record { index = entry.0 })) (link_tree-plain entry.1))
     (put_all-plain no_members (set_member model state) sets
     (λ entry. array_of-plain (entity_tree model) (entities_in state (record { index = entry.0 })) (entity_tree-plain model)) refl)

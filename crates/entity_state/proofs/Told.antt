@@ -16,7 +16,7 @@ use Rattle.serde_json.specs.Find.{get, get_member}
 use Rattle.json_form.specs.Trees.{key_tree, object_of}
 use Rattle.json_form.proofs.Members.{get_member-put_all, names-put_all}
 use Rattle.round_trip.specs.Words.{SetId, PropId, AssocId, Value, EntityModel, EntityType, EntitySet, Assoc, Entity, Link, At, props_of, value_beside, value_of, State, entities_in, links_in, IsEntity, IsIndependent, IsState}
-use Rattle.entity_state.specs.StateTree.{assoc_member, entity_tree, full_name, is_independent, link_tree, name_of, named_value, set_member, state_tree}
+use Rattle.entity_state.specs.StateTree.{assoc_member, assoc_members, entity_tree, full_name, is_independent, link_tree, name_of, named_value, set_member, set_members, state_tree}
 use Rattle.entity_state.specs.Tells.{entity_names, state_names, HasApartNames, TellsEntity, TellsLink, TellsState}
 
 -- in an object made of members with names of their own, each stands under its name
@@ -81,13 +81,13 @@ tells_link assoc link apart =
 
 module _ (model : EntityModel) (state : State) where
   abbrev sets : List (List ℕ × Data)
-  sets = map (set_member model state) (enumerate_from 0 model.sets)
+  sets = set_members model state
+
+  abbrev assocs : List (List ℕ × Data)
+  assocs = assoc_members model state
 
   abbrev kept : List (ℕ × Assoc)
   kept = filter (λ entry. is_independent entry.1) (enumerate_from 0 model.assocs)
-
-  abbrev assocs : List (List ℕ × Data)
-  assocs = map (assoc_member state) kept
 
   names_are : map (λ entry. entry.0) (sets ++ assocs) ≡ state_names model
   names_are =

@@ -43,10 +43,17 @@ assoc_member state entry = (entry.1.set_name, array_of (map (link_tree entry.1) 
 abbrev pub is_independent : Assoc → Bool
 is_independent assoc = is_none assoc.constraint
 
+-- the members of all entity sets, in the order of the model
+abbrev pub set_members : EntityModel → State → List (List ℕ × Data)
+set_members model state = map (set_member model state) (enumerate_from 0 model.sets)
+
+-- the members of all independent association sets, in the order of the model
+abbrev pub assoc_members : EntityModel → State → List (List ℕ × Data)
+assoc_members model state = map (assoc_member state) (filter (λ entry. is_independent entry.1) (enumerate_from 0 model.assocs))
+
 -- a member for each entity set and each independent association set
 abbrev pub state_tree : EntityModel → State → Data
-state_tree model state = object_of (map (set_member model state) (enumerate_from 0 model.sets)
-    ++ map (assoc_member state) (filter (λ entry. is_independent entry.1) (enumerate_from 0 model.assocs)))
+state_tree model state = object_of (set_members model state ++ assoc_members model state)
 
 -- the entities of each set stand in the order of their keys, and the links in that of their ends' keys
 pub record IsInKeyOrder (model : EntityModel) (state : State) : Type 0 where

@@ -1,12 +1,11 @@
-ghost use Rattle.std.specs.Prelude.{◌≡◌, ◌++◌, ◌∷◌, All, IfOk, OnOk, codes, filter, length, map, string_bytes, zip};
+ghost use Rattle.std.specs.Prelude.{◌≡◌, ◌++◌, ◌∷◌, All, IfOk, OnOk, codes, length, map, string_bytes, zip};
 ghost use Rattle.serde_json.specs.Data.{string, put};
-ghost use Rattle.std.specs.List.{enumerate_from};
 ghost use Rattle.serde_json.specs.Written.{compact_text};
 ghost use Rattle.serde_json.specs.View.{members_view, view};
 ghost use Rattle.json_form.specs.Trees.{array_of, put_all};
 ghost use Rattle.round_trip.specs.Words.{IsEntity, IsState};
 ghost use Rattle.entity_state.specs.Tells.{HasApartNames, IsTextOf};
-ghost use Rattle.entity_state.specs.StateTree.{assoc_member, entity_tree, is_independent, link_tree, name_of, named_value, set_member, state_tree};
+ghost use Rattle.entity_state.specs.StateTree.{assoc_members, entity_tree, link_tree, name_of, named_value, set_members, state_tree};
 
 use crate::state::EntityState;
 use edm_types::{Assoc, Entity, EntityModel, EntityType, Link};
@@ -36,7 +35,7 @@ fn put_sets(
     state: &EntityState,
 ) -> Result<(), Memory>
     requires { IsState model.now state.now }
-    ensures { OnOk result (members_view members.new.entries ≡ put_all (members_view members.old.entries) (map (set_member model.now state.now) (enumerate_from 0 model.now.sets))) }
+    ensures { OnOk result (members_view members.new.entries ≡ put_all (members_view members.old.entries) (set_members model.now state.now)) }
 {
     let sets = model.sets.as_slice();
     for (i, set) in sets.iter().enumerate() {
@@ -119,7 +118,7 @@ fn put_assocs(
     state: &EntityState,
 ) -> Result<(), Memory>
     requires { length state.now.links ≡ length model.now.assocs }
-    ensures { OnOk result (members_view members.new.entries ≡ put_all (members_view members.old.entries) (map (assoc_member state.now) (filter (λ entry. is_independent entry.1) (enumerate_from 0 model.now.assocs)))) }
+    ensures { OnOk result (members_view members.new.entries ≡ put_all (members_view members.old.entries) (assoc_members model.now state.now)) }
 {
     let assocs = model.assocs.as_slice();
     for (i, assoc) in assocs.iter().enumerate() {
