@@ -1,3 +1,4 @@
 mod Texts
 pub mod Lists
 pub mod Loops
+pub mod Mapped

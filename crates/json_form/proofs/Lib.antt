@@ -1,3 +1,4 @@
 pub mod Views
 pub mod Objects
 pub mod PlaceOrder
+pub mod Members
