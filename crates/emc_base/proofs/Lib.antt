@@ -2,3 +2,4 @@ mod Texts
 pub mod Lists
 pub mod Loops
 pub mod Mapped
+pub mod Orders

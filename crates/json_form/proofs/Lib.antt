@@ -1,4 +1,5 @@
 pub mod Views
 pub mod Objects
-pub mod PlaceOrder
 pub mod Members
+pub mod MemberByName
+pub mod Depths

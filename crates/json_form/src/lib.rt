@@ -4,6 +4,7 @@
 mod doc;
 mod node;
 mod pointer;
+mod step_order;
 #[cfg(test)]
 mod tests;
 mod tree;

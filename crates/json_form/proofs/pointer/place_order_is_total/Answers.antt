@@ -1,4 +1,4 @@
-use Rattle.json_form.proofs.PlaceOrder.{steps_cmp_apart, steps_cmp_total}
+use Rattle.json_form.specs.PlaceOrder.{steps_cmp_apart, steps_cmp_total}
 use Rattle.json_form.proofs.pointer.place_order_is_total.Goals as goal
 
 pub returns-clause-places : goal.returns-clause-places
