@@ -1,4 +1,5 @@
--- The types that definitions on models, states and tables name, passed on from one place. Declares nothing.
+-- The types that the definitions of this crate name, passed on to them from one place. Declares nothing. Those that it declares
+-- itself reach no crate above: `round_trip` names them in its own `Types`.
 pub use Rattle.emc_base.specs.declared.ids.SetId.{SetId}
 pub use Rattle.emc_base.specs.declared.ids.TypeId.{TypeId}
 pub use Rattle.emc_base.specs.declared.ids.PropId.{PropId}
@@ -15,36 +16,17 @@ pub use Rattle.emc_base.specs.declared.value.Kind.{Kind}
 pub use Rattle.emc_base.specs.declared.place.Place.{Place}
 pub use Rattle.edm_types.specs.declared.model.EntityModel.{EntityModel}
 pub use Rattle.edm_types.specs.declared.model.EntityType.{EntityType}
-pub use Rattle.edm_types.specs.declared.model.Prop.{Prop}
-pub use Rattle.edm_types.specs.declared.model.TypeNode.{TypeNode}
-pub use Rattle.edm_types.specs.declared.model.Nav.{Nav}
-pub use Rattle.edm_types.specs.declared.model.EntitySet.{EntitySet}
 pub use Rattle.edm_types.specs.declared.model.Assoc.{Assoc}
-pub use Rattle.edm_types.specs.declared.model.End.{End}
-pub use Rattle.edm_types.specs.declared.model.Mult.{Mult}
-pub use Rattle.edm_types.specs.declared.model.Constraint.{Constraint}
 pub use Rattle.edm_types.specs.declared.store.StoreModel.{StoreModel}
 pub use Rattle.edm_types.specs.declared.store.Table.{Table}
-pub use Rattle.edm_types.specs.declared.store.Column.{Column}
-pub use Rattle.edm_types.specs.declared.store.ForeignKey.{ForeignKey}
-pub use Rattle.edm_types.specs.declared.mapping.Mapping.{Mapping}
 pub use Rattle.edm_types.specs.declared.mapping.Fragment.{Fragment}
 pub use Rattle.edm_types.specs.declared.mapping.Pick.{Pick}
-pub use Rattle.edm_types.specs.declared.mapping.Pair.{Pair}
 pub use Rattle.edm_types.specs.declared.mapping.LinkFragment.{LinkFragment}
-pub use Rattle.edm_types.specs.declared.mapping.Cond.{Cond}
 pub use Rattle.edm_types.specs.declared.mapping.CondOn.{CondOn}
 pub use Rattle.edm_types.specs.declared.mapping.Test.{Test}
-pub use Rattle.edm_types.specs.declared.schema.Schema.{Schema}
 pub use Rattle.edm_types.specs.declared.data.Entity.{Entity}
 pub use Rattle.edm_types.specs.declared.data.Link.{Link}
-pub use Rattle.edm_types.specs.declared.data.Hosted.{Hosted}
 pub use Rattle.edm_types.specs.declared.data.Row.{Row}
-pub use Rattle.edm_types.specs.declared.faults.VocabFile.{VocabFile}
-pub use Rattle.edm_types.specs.declared.faults.RuleFault.{RuleFault}
-pub use Rattle.edm_types.specs.declared.faults.Breach.{Breach}
-pub use Rattle.edm_types.specs.declared.faults.LimitFault.{LimitFault}
-pub use Rattle.edm_types.specs.declared.faults.LimitKind.{LimitKind}
 pub use Rattle.emc_base.specs.Places.{place_at}
 pub use Rattle.emc_base.specs.Lists.{At, AtMostOne}
 pub use Rattle.emc_base.specs.Domain.{InDomain}

@@ -1,3 +1,5 @@
 mod Texts
 pub mod Lists
 pub mod Loops
+pub mod Mapped
+pub mod Orders

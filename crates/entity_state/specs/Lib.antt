@@ -1,1 +1,2 @@
 pub mod StateTree
+pub mod Tells

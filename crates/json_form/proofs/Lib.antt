@@ -1,4 +1,5 @@
 pub mod Views
-pub mod Members
-pub mod Depths
 pub mod Objects
+pub mod Members
+pub mod MemberByName
+pub mod Depths

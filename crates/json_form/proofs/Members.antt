@@ -1,73 +1,70 @@
--- The member of a name, as it is found, and as it stands in the list of members.
-use Rattle.std.proofs.Common.{◌≡◌, ℕ, zero, suc, List, [], ◌∷◌, Option, Some, None, Ordering, Less, Equal, Greater, refl, sym, ◌∙◌, ap}
-use Rattle.std.specs.Ordering.{match_ordering, nat_cmp}
-use Rattle.std.specs.Cmp.{tied_itself}
-use Rattle.std.specs.Cmp.Lexicographic.{nat_list_cmp_total, slice_cmp}
-use Rattle.std.specs.FinMap.{nat_cmp-IsAntisymmetric, slice_cmp-IsAntisymmetric}
-use Rattle.serde_json.specs.Data.{Data, null, boolean, number, string, array, object, Members, no_members, member}
-use Rattle.serde_json.specs.Find.{get, get_member}
-use Rattle.emc_base.specs.Lists.{At}
-use Rattle.json_form.specs.Members.{HasMember}
-use Rattle.json_form.specs.TreeParts.{list_of_members, members_in}
+-- Objects made member by member: loops over the items that pass a test, and what stands in such an object.
+use Rattle.std.proofs.Common.{◌≡◌, ◌≢◌, ◌⊎◌, ⊎_elim, ◌+◌, ℕ, zero, suc, List, [], ◌∷◌, ◌++◌, map, take, filter, cond, Bool, true, false, true≢false, Some, IsSome, slice_get, All, AllPairs, Contains, inl, inr, refl, sym, ap, subst, ◌∙◌, arith}
+use Rattle.std.proofs.lemmas.List.{map-append, append-nil}
+use Rattle.std.proofs.lemmas.List.Elements.{All-tail, Contains-append_right, filter_more}
+use Rattle.std.proofs.lemmas.Option.{slice_get_within, get_or_from_slice_get}
+use Rattle.std.proofs.lemmas.Slice.Eq.{bytes_eq-Decides}
+use Rattle.std.specs.Str.{bytes_eq}
+use Rattle.serde_json.specs.Data.{Data, Members, put}
+use Rattle.serde_json.specs.Find.{get_member}
+use Rattle.serde_json.proofs.Views.{get_member-put, get_member-put_other}
+use Rattle.json_form.specs.Trees.{put_all}
+use Rattle.json_form.proofs.Objects.{put_all-append}
 
--- a member that stands in the list
-Stands : Members → List ℕ → Data → Type 0
-Stands ms name part = (place : ℕ) × At (list_of_members ms) place (name, part)
+-- members put in two runs
+pub put_all-both : (start : Members) (first second : List (List ℕ × Data)) → put_all start (first ++ second) ≡ put_all (put_all start first) second
+put_all-both start [] second = refl
+put_all-both start (entry ∷ first) second = put_all-both (put entry.0 entry.1 start) first second
 
-found_in : (ms : Members) (name : List ℕ) (part : Data) → get_member name ms ≡ Some part → Stands ms name part
-unfolding Stands
-found_in no_members name part is = absurd cc
-found_in (member other e ms) name part is = by (slice_cmp nat_cmp name other) refl is (found_in ms name part)
-  where
-    later : Stands ms name part → Stands (member other e ms) name part
-    later stands = (suc stands.0, stands.1)
+module _ {X : Type 0} (start : Members) (f : X → List ℕ × Data) (p : X → Bool) (xs : List X) (i : ℕ) (x : X) (here : slice_get xs i ≡ Some x) where
+  kept_or_left : filter p (take (i + 1) xs) ≡ filter p (take i xs) ++ cond (p x) (x ∷ []) []
+  kept_or_left = filter_more p xs i x (slice_get_within xs i x here)
+      ∙ ap (λ y. filter p (take i xs) ++ cond (p y) (y ∷ []) []) (get_or_from_slice_get xs i x x here)
 
-    by : (order : Ordering) → slice_cmp nat_cmp name other ≡ order → match_ordering order (get_member name ms) (Some e) (get_member name ms) ≡ Some part
-        → (get_member name ms ≡ Some part → Stands ms name part) → Stands (member other e ms) name part
-    by Less same at more = later (more at)
-    by Greater same at more = later (more at)
-    by Equal same at more =
-        let named : name ≡ other = slice_cmp-IsAntisymmetric nat_cmp-IsAntisymmetric name other same in
-        let is : e ≡ part = cc in
-        (0, λ i. Some (sym named i, is i))
+  -- one more turn of a loop that puts a member for each item that passes the test, at one that does
+  pub put_all-kept : p x ≡ true → put_all start (map f (filter p (take (i + 1) xs))) ≡ put (f x).0 (f x).1 (put_all start (map f (filter p (take i xs))))
+  put_all-kept passes =
+      ap (λ kept. put_all start (map f kept)) (kept_or_left ∙ ap (λ b. filter p (take i xs) ++ cond b (x ∷ []) []) passes)
+      ∙ ap (put_all start) (map-append f (filter p (take i xs)) (x ∷ [])) ∙ put_all-append start (map f (filter p (take i xs))) (f x)
 
--- the rest of the members has none of this name either
-missing_later : (order : Ordering) (ms : Members) (name : List ℕ) (e : Data) → match_ordering order (get_member name ms) (Some e) (get_member name ms) ≡ None → get_member name ms ≡ None
-missing_later Less ms name e is = is
-missing_later Greater ms name e is = is
-missing_later Equal ms name e is = absurd cc
+  -- and at one that doesn't
+  pub put_all-left : p x ≡ false → put_all start (map f (filter p (take (i + 1) xs))) ≡ put_all start (map f (filter p (take i xs)))
+  put_all-left fails =
+      ap (λ kept. put_all start (map f kept))
+      (kept_or_left ∙ (ap (λ b. filter p (take i xs) ++ cond b (x ∷ []) []) fails ∙ append-nil (filter p (take i xs))))
 
-missing_in : (ms : Members) (name : List ℕ) → get_member name ms ≡ None → (part : Data) (place : ℕ) → ¬ At (list_of_members ms) place (name, part)
-missing_in no_members name is part place here = absurd cc
-missing_in (member other e ms) name is part zero here =
-    let pair : (other, e) ≡ (name, part) = cc in
-    let named : other ≡ name = ap (λ (p : List ℕ × Data). p.0) pair in
-    let same : slice_cmp nat_cmp name other ≡ Equal = ap (slice_cmp nat_cmp name) named ∙ tied_itself nat_list_cmp_total name in
-    let found : Some e ≡ None = sym (ap (λ order. match_ordering order (get_member name ms) (Some e) (get_member name ms)) same) ∙ is in
-    absurd (nothing found)
-  where
-    nothing : Some e ≡ None → ⊥
-    nothing is = absurd cc
-missing_in (member other e ms) name is part (suc place) there = missing_in ms name (missing_later (slice_cmp nat_cmp name other) ms name e is) part place there
+-- a name that none of them has keeps its value
+pub get_member-put_all_other : (name : List ℕ) (start : Members) (entries : List (List ℕ × Data)) → All (λ other. name ≢ other) (map (λ entry. entry.0) entries)
+    → get_member name (put_all start entries) ≡ get_member name start
+get_member-put_all_other name start [] apart = refl
+get_member-put_all_other name start (entry ∷ entries) apart =
+    get_member-put_all_other name (put entry.0 entry.1 start) entries (All-tail (λ other. name ≢ other) entry.0 (map (λ e. e.0) entries) apart)
+    ∙ get_member-put_other name entry.0 entry.1 start (apart 0 name (omega arith))
 
--- a member that is found stands in the object
-pub member_found : (d : Data) (name : List ℕ) (part : Data) → get name d ≡ Some part → HasMember d name part
-unfolding Stands
-member_found (object ms) name part is = found_in ms name part is
-member_found null name part is = absurd cc
-member_found (boolean b) name part is = absurd cc
-member_found (number n) name part is = absurd cc
-member_found (string s) name part is = absurd cc
-member_found (array ds) name part is = absurd cc
+-- where the names are apart, each stands with its value
+pub get_member-put_all : (start : Members) (entries : List (List ℕ × Data)) (entry : List ℕ × Data)
+    → AllPairs (λ one other. one ≢ other) (map (λ e. e.0) entries) → Contains entries entry
+    → get_member entry.0 (put_all start entries) ≡ Some entry.1
+get_member-put_all start [] entry apart (k, within, is) = absurd (omega arith)
+get_member-put_all start (first ∷ entries) entry apart (zero, within, is) =
+    let P : List ℕ × Data → Type 0 = λ e. get_member e.0 (put_all start (first ∷ entries)) ≡ Some e.1 in
+    subst P is
+    (get_member-put_all_other first.0 (put first.0 first.1 start) entries (λ k d inside. apart 0 (suc k) d (omega arith) (omega arith))
+    ∙ get_member-put first.0 first.1 start)
+get_member-put_all start (first ∷ entries) entry apart (suc k, within, is) =
+    get_member-put_all (put first.0 first.1 start) entries entry (λ i j d below inside. apart (suc i) (suc j) d (omega arith) (omega arith)) (k, omega arith, is)
 
--- one that isn't found doesn't
-pub member_missing : (d : Data) (name : List ℕ) → get name d ≡ None → (part : Data) → ¬ HasMember d name part
-member_missing (object ms) name is part stands = missing_in ms name is part stands.0 stands.1
-member_missing null name is part stands = absurd (none stands.0 stands.1)
-  where
-    none : (place : ℕ) → ¬ At {X = List ℕ × Data} [] place (name, part)
-    none place here = absurd cc
-member_missing (boolean b) name is part stands = absurd (let here = stands.1 in cc)
-member_missing (number n) name is part stands = absurd (let here = stands.1 in cc)
-member_missing (string s) name is part stands = absurd (let here = stands.1 in cc)
-member_missing (array ds) name is part stands = absurd (let here = stands.1 in cc)
+put_or_before : (name other : List ℕ) (d : Data) (start : Members) (others : List (List ℕ)) (b : Bool) → bytes_eq name other ≡ b
+    → IsSome (get_member name (put other d start)) → IsSome (get_member name start) ⊎ Contains (other ∷ others) name
+put_or_before name other d start others true same some = inr (0, omega arith, sym ((bytes_eq-Decides name other).0 same))
+put_or_before name other d start others false apart some =
+    inl (subst IsSome (get_member-put_other name other d start (λ same. absurd (true≢false (sym ((bytes_eq-Decides name other).1 same) ∙ apart)))) some)
+
+-- no other name stands there than before
+pub names-put_all : (name : List ℕ) (start : Members) (entries : List (List ℕ × Data)) → IsSome (get_member name (put_all start entries))
+    → IsSome (get_member name start) ⊎ Contains (map (λ entry. entry.0) entries) name
+names-put_all name start [] some = inl some
+names-put_all name start (entry ∷ entries) some =
+    ⊎_elim (put_or_before name entry.0 entry.1 start (map (λ e. e.0) entries) (bytes_eq name entry.0) refl)
+    (λ has. inr (Contains-append_right (entry.0 ∷ []) (map (λ e. e.0) entries) name has))
+    (names-put_all name (put entry.0 entry.1 start) entries some)

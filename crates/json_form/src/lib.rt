@@ -11,6 +11,5 @@ mod tree;
 
 pub use doc::{Doc, DocFault};
 pub use node::Node;
-pub use pointer::{Step, pointer_of};
-pub use step_order::place_order_is_total;
+pub use pointer::{Step, place_order_is_total, pointer_of};
 pub use tree::{array_tree, key_tree, object_tree, place_text, quoted, text_tree, value_tree};

@@ -1,6 +1,8 @@
 ghost use Rattle.std.specs.Prelude.{◌≡◌, ◌++◌, IfOk, OnOk, flat_map, string_bytes};
+ghost use Rattle.std.specs.Cmp.{IsTotalOrder};
+ghost use Rattle.std.specs.FinMap.{IsAntisymmetric};
 ghost use Rattle.std.specs.Str.{chars};
-ghost use Rattle.json_form.specs.Pointers.{escaped, pointer_of, step_text};
+ghost use Rattle.json_form.specs.Pointers.{escaped, pointer_of, step_text, steps_cmp};
 
 use emc_base::{Memory, Txt};
 use std::alloc::Global;
@@ -13,6 +15,12 @@ pub enum Step {
     /// To the item at this place, counted from 0.
     Item(u32),
 }
+
+/// The law of the order of places: it is total, and tells different ones apart.
+pub fn place_order_is_total()
+    ensures places { IsTotalOrder steps_cmp }
+    ensures places_apart { IsAntisymmetric steps_cmp }
+{}
 
 /// The JSON pointer (RFC 6901) of a place. `Memory` comes where there is none for it.
 pub fn pointer_of(alloc: Global, steps: &[Step]) -> Result<Txt, Memory>

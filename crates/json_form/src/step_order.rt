@@ -1,19 +1,11 @@
 ghost use Rattle.std.specs.Prelude.{◌≡◌, refl};
-ghost use Rattle.std.specs.Cmp.{IsTotalOrder, eq_by_cmp_equiv, partial_equiv_from_equiv, partial_order_from_total};
-ghost use Rattle.std.specs.FinMap.{IsAntisymmetric};
+ghost use Rattle.std.specs.Cmp.{eq_by_cmp_equiv, partial_equiv_from_equiv, partial_order_from_total};
 ghost use Rattle.std.specs.Ordering.{as_partial_cmp, eq_by_cmp};
-ghost use Rattle.json_form.specs.PlaceOrder.{step_cmp_total, steps_cmp_apart, steps_cmp_total};
-ghost use Rattle.json_form.specs.Pointers.{step_cmp, steps_cmp};
+ghost use Rattle.json_form.specs.PlaceOrder.{step_cmp_total};
+ghost use Rattle.json_form.specs.Pointers.{step_cmp};
 
 use crate::pointer::Step;
 use std::cmp::Ordering;
-
-/// The law of the order of places: it is total, and tells different ones apart.
-#[tactic(auto, using(crate::specs::PlaceOrder::steps_cmp_total, crate::specs::PlaceOrder::steps_cmp_apart))]
-pub fn place_order_is_total()
-    ensures total { IsTotalOrder steps_cmp }
-    ensures apart { IsAntisymmetric steps_cmp }
-{}
 
 // Members before items, members by the bytes of their names, items by their numbers.
 fn compare(one: &Step, other: &Step) -> Ordering

@@ -5,7 +5,7 @@ use Rattle.std.specs.Bool.{IsTrue}
 use Rattle.serde_json.specs.Data.{Data}
 use Rattle.serde_json.specs.Find.{get}
 use Rattle.json_form.specs.Members.{HasMember}
-use Rattle.json_form.proofs.Members.{member_found, member_missing}
+use Rattle.json_form.proofs.MemberByName.{member_found, member_missing}
 
 -- whether no member of a name is found, and whether there is none
 pub none_told : {X : Type 0} (part_of : X → Data) (b : Bool) (found : Option X) (d : Data) (name : List ℕ) → is_some found ≡ not b → option_map part_of found ≡ get name d

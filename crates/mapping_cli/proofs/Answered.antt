@@ -5,16 +5,15 @@ use Rattle.std.proofs.lemmas.Bool.{and_parts}
 use Rattle.std.proofs.lemmas.Bool.Decides.{nat_tests}
 use Rattle.emc_base.specs.declared.memory.Memory.{Memory}
 use Rattle.emc_files.specs.Files.{FileMap}
-use Rattle.mapping_cli.specs.declared.answer.Halt.TheVariants as halt
 use Rattle.mapping_cli.specs.declared.answer.Answer.{Answer}
 use Rattle.mapping_cli.specs.declared.status.Status.{Status}
-use Rattle.mapping_cli.specs.declared.status.Status.TheVariants.{FileFault, Usage}
+use Rattle.mapping_cli.specs.declared.status.Status.TheVariants.{Usage}
 use Rattle.mapping_cli.specs.declared.words.Command.{Command}
 use Rattle.mapping_cli.specs.declared.words.Command.TheVariants.{Check}
 use Rattle.mapping_cli.specs.Commands.{command_of, inputs_of}
-use Rattle.mapping_cli.specs.Inputs.{AreInputs, FailsToRead}
+use Rattle.mapping_cli.specs.Inputs.{AreInputs}
 use Rattle.mapping_cli.specs.Gives.{GivesInputs, GivesOn, Says}
-use Rattle.mapping_cli.specs.Reading.{ReadsInputs}
+use Rattle.mapping_cli.specs.RunSteps.{AnswersOn, EndsWith}
 use Rattle.mapping_cli.specs.Runs.{Ends}
 use Rattle.mapping_cli.specs.Texts.{usage_text}
 use Rattle.mapping_cli.proofs.FilesRead.{as_many}
@@ -35,14 +34,6 @@ three_contents held words contents command is all =
     let many = as_many held (inputs_of command words) contents all in let three = three_inputs words command is in omega arith
 
 module _ (may_fail : List ℕ → Type 0) (words : List (List ℕ)) (held : Option FileMap) (before now : ℕ) (text : List ℕ) (status : Status) where
-  -- the words are no command
-  pub ends_usage : now ≡ before → command_of words ≡ None → text ≡ usage_text → status ≡ Usage → Ends may_fail words held before now text status held
-  ends_usage same none text_is status_is = inl (
-    same,
-    let P : Option Command → Type 0 = λ command. MatchOption command (Says held text status held usage_text Usage) (λ c. GivesInputs held text status held c (inputs_of c words)) in
-        subst P (sym none) (text_is, status_is, refl),
-  )
-
   module _ (command : Command) (is : command_of words ≡ Some command) where
     gives : GivesInputs held text status held command (inputs_of command words) → now ≡ before → Ends may_fail words held before now text status held
     gives given same = inl (
@@ -59,19 +50,7 @@ module _ (may_fail : List ℕ → Type 0) (words : List (List ℕ)) (held : Opti
 -- all input files were read, and this is what the command answers on them, unless memory ran out
 pub ends_result : (may_fail : List ℕ → Type 0) (words : List (List ℕ)) (held : Option FileMap) (before now : ℕ) (command : Command) (contents : List (List ℕ)) (result : Result Answer Memory)
     → command_of words ≡ Some command → now ≡ before → AreInputs held (inputs_of command words) contents
-    → ((files : Option FileMap) → IfOk result (λ answer. GivesOn files answer.text answer.status files command contents))
-    → IfOk result (λ answer. Ends may_fail words held before now answer.text answer.status held)
+    → IfOk result (AnswersOn command contents) → IfOk result (EndsWith may_fail words held before now)
 ends_result may_fail words held before now command contents (Ok answer) is same all given =
     ends_on may_fail words held before now answer.text answer.status command is contents same all (given held)
 ends_result may_fail words held before now command contents (Err memory) is same all given = cc
-
--- an input file wasn't read
-pub ends_stopped : (may_fail : List ℕ → Type 0) (words : List (List ℕ)) (held : Option FileMap) (before now : ℕ) (command : Command) (answer : Answer) → command_of words ≡ Some command
-    → ReadsInputs may_fail held before now (inputs_of command words) (Err (halt.Tells answer)) → Ends may_fail words held before now answer.text answer.status held
-ends_stopped may_fail words held before now command answer is (status_is, inl lacking) =
-    gives may_fail words held before now answer.text answer.status command is (inl (answer.text, lacking.1, (refl, status_is, refl))) lacking.0
-ends_stopped may_fail words held before now command answer is (status_is, inr failed) = inr (
-  failed.0,
-  let P : Option Command → Type 0 = λ found. MatchOption found ⊥ (λ c. (told : List ℕ) × FailsToRead may_fail held (inputs_of c words) told × Says held answer.text answer.status held told FileFault) in
-      subst P (sym is) (answer.text, failed.1, (refl, status_is, refl)),
-)

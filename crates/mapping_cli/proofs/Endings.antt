@@ -1,9 +1,8 @@
 -- What was answered and what was written make a run.
-use Rattle.std.proofs.Common.{◌≡◌, ℕ, List, [], ◌∷◌, ◌++◌, take, Option, Some, None, MatchOption, option_map, inl, inr, refl, sym, ap, ◌∙◌, subst, ◌==◌, length, true, false, arith}
+use Rattle.std.proofs.Common.{◌≡◌, ℕ, List, [], ◌∷◌, ◌++◌, Option, Some, None, MatchOption, option_map, inl, inr, refl, sym, ap, ◌∙◌, subst, ◌==◌, length, true, arith}
 use Rattle.std.proofs.lemmas.Bool.Decides.{nat_tests}
 use Rattle.std.specs.Bool.{⊤}
 use Rattle.std.proofs.lemmas.List.{append-nil}
-use Rattle.emc_base.specs.Faults.{RoseOrStands}
 use Rattle.emc_files.specs.Files.{FileMap}
 use Rattle.mapping_core.specs.Words.{Schema}
 use Rattle.mapping_cli.specs.declared.status.Status.{Status}
@@ -79,11 +78,6 @@ is_nothing : (text : List ℕ) → true ≡ (length text == 0) → text ≡ []
 is_nothing [] empty = refl
 is_nothing (byte ∷ rest) empty = let no : ⊥ = grind (arith, nat_tests) in absurd no
 
--- and one of some bytes isn't
-is_something : (text : List ℕ) → false ≡ (length text == 0) → text ≡ [] → ⊥
-is_something [] filled empty = cc
-is_something (byte ∷ rest) filled empty = cc
-
 module _ (may_fail : List ℕ → Type 0) (words : List (List ℕ)) (before after : World) (text printed : List ℕ) (status : Status)
     (answered : Ends may_fail words before.held before.file_faults after.file_faults text status before.held)
     (printed_is : printed ≡ text) (held : after.held ≡ before.held) where
@@ -108,16 +102,3 @@ module _ (may_fail : List ℕ → Type 0) (words : List (List ℕ)) (before afte
     written = same ∙ nothing_more before.written text (sym printed_is ∙ is_nothing printed empty);
     quiet = quiet;
   })
-
-  -- some of a text that isn't empty was written, and then the sink failed
-  pub some_written : (count : ℕ) → false ≡ (length printed == 0) → RoseOrStands before.sink_faults after.sink_faults
-      → after.written ≡ option_map (λ bytes. bytes ++ take count printed) before.written → Runs may_fail words before after SinkFault
-  some_written count filled cause written = record {
-    text = text;
-    status = status;
-    count = count;
-    not_empty = λ empty. is_something printed filled (printed_is ∙ empty);
-    ends = ends;
-    written = written ∙ ap (λ more. option_map (λ bytes. bytes ++ take count more) before.written) printed_is;
-    cause = cause;
-  }

@@ -8,7 +8,7 @@ use Rattle.emc_base.proofs.Loops.{take_item}
 use Rattle.mapping_cli.specs.declared.answer.Halt.{Halt}
 use Rattle.mapping_cli.specs.declared.answer.Halt.TheVariants as halt
 use Rattle.mapping_cli.specs.Inputs.{AreInputs, IsFirstUnread, IsInput, StandsAt, largest_file}
-use Rattle.mapping_cli.specs.Reading.{ReadsInput, ReadsInputs, TellsFault}
+use Rattle.mapping_cli.specs.RunSteps.{ReadsInput, ReadsInputs, TellsReadFault}
 
 -- a list that is longer than that
 longer : (n : ℕ) → (bytes : List ℕ) × (n < length bytes)
@@ -39,7 +39,7 @@ input_of (Some files) name bytes tells fits = record { stands = tells; fits = fi
 module _ (may_fail : List ℕ → Type 0) (held : Option FileMap) (before now : ℕ) where
   -- what is told of a read that didn't succeed
   pub reads_fault : (name : List ℕ) (why : ReadFault) (told : Halt) → Tells held name largest_file (Err why) → CountsRead before now (Err why)
-      → (why ≡ fault.Failed → may_fail name) → TellsFault name why told → ReadsInput may_fail held before now name (Err told)
+      → (why ≡ fault.Failed → may_fail name) → TellsReadFault name why told → ReadsInput may_fail held before now name (Err told)
   reads_fault name fault.Missing (halt.Tells answer) tells counts fails says = (says.1, inl (counts, inl (missing_at held name tells, says.0)))
   reads_fault name fault.Missing halt.Memory tells counts fails says = cc
   reads_fault name fault.TooLarge (halt.Tells answer) tells counts fails says =

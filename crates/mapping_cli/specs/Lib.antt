@@ -5,4 +5,4 @@ pub mod Inputs
 pub mod Gives
 pub mod World
 pub mod Runs
-pub mod Reading
+pub mod RunSteps

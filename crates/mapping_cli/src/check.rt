@@ -1,9 +1,6 @@
-ghost use Rattle.std.specs.Prelude.{◌≡◌, ◌≤◌, IfOk, length, Option};
-ghost use Rattle.emc_files.specs.Files.{FileMap};
+ghost use Rattle.std.specs.Prelude.{◌≤◌, IfOk, length};
 ghost use Rattle.mapping_core.specs.Words.{IsMeant};
-ghost use Rattle.mapping_cli.specs.Gives.{GivesOn, GivesVerdict, Says};
-ghost use Rattle.mapping_cli.specs.Texts.{accepted_text};
-ghost use Rattle.mapping_cli.specs.declared.status.Status.TheVariants.{Done};
+ghost use Rattle.mapping_cli.specs.RunSteps.{AnswersOn, AnswersVerdict, RefusesBy};
 ghost use Rattle.mapping_cli.specs.declared.words.Command.TheVariants.{Check};
 
 use crate::answer::Answer;
@@ -16,11 +13,11 @@ use std::alloc::Global;
 /// The verdict on the documents that are the first three of these contents.
 pub(crate) fn check(alloc: Global, contents: &Seq<Bin>) -> Result<Answer, Memory>
     requires { 3 ≤ length contents.now }
-    ensures { (held : Option FileMap) → IfOk result (λ answer. GivesOn held answer.text answer.status held Check contents.now) }
+    ensures { IfOk result (AnswersOn Check contents.now) }
 {
     match read(alloc, contents.at(0), contents.at(1), contents.at(2)) {
         Ok(schema) => verdict_on(alloc, schema),
-        Err(VocabFault::Rule(fault)) => refused(rule_text(alloc, &fault)),
+        Err(VocabFault::Rule(fault)) => Ok(refused(rule_text(alloc, &fault)?)),
         Err(VocabFault::Memory) => Err(Memory),
     }
 }
@@ -28,7 +25,7 @@ pub(crate) fn check(alloc: Global, contents: &Seq<Bin>) -> Result<Answer, Memory
 // The verdict on what documents mean that break no rule.
 fn verdict_on(alloc: Global, schema: Schema) -> Result<Answer, Memory>
     requires { IsMeant schema }
-    ensures { (held : Option FileMap) → IfOk result (λ answer. GivesVerdict held answer.text answer.status held (λ schema. Says held answer.text answer.status held accepted_text Done) schema) }
+    ensures { IfOk result (AnswersVerdict schema) }
 {
     match decide(alloc, schema) {
         Ok(_compiled) => {
@@ -36,19 +33,16 @@ fn verdict_on(alloc: Global, schema: Schema) -> Result<Answer, Memory>
             let status = Status::Done;
             Ok(Answer { text, status })
         }
-        Err(Refusal::Limit(_schema, fault)) => refused(limit_text(alloc, &fault)),
-        Err(Refusal::Fails(schema, failure)) => refused(fail_text(alloc, &schema, &failure)),
+        Err(Refusal::Limit(_schema, fault)) => Ok(refused(limit_text(alloc, &fault)?)),
+        Err(Refusal::Fails(schema, failure)) => Ok(refused(fail_text(alloc, &schema, &failure)?)),
         Err(Refusal::Memory) => Err(Memory),
     }
 }
 
 // A mapping that isn't accepted, for the reason that the text tells.
-fn refused(text: Result<Txt, Memory>) -> Result<Answer, Memory>
-    ensures { IfOk result (λ answer. (text ≡ Ok answer.text) × (answer.status ≡ Status.MappingRefused)) }
+fn refused(text: Txt) -> Answer
+    ensures { RefusesBy text result }
 {
     let status = Status::MappingRefused;
-    Ok(Answer {
-        text: text?,
-        status,
-    })
+    Answer { text, status }
 }

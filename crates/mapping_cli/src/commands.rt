@@ -1,10 +1,9 @@
-ghost use Rattle.std.specs.Prelude.{◌≡◌, ◌≤◌, IfOk, length, Option};
-ghost use Rattle.emc_base.specs.contracts.files.Files as F;
-ghost use Rattle.emc_base.specs.contracts.sink.Sink as W;
-ghost use Rattle.emc_files.specs.Files.{FileMap};
+ghost use Rattle.std.specs.Prelude.{◌≡◌, ◌≤◌, IfOk, length};
+ghost use Rattle.emc_files.specs.contracts.files.Files as F;
+ghost use Rattle.emc_files.specs.contracts.sink.Sink as W;
 ghost use Rattle.mapping_cli.specs.declared.status.Status.TheVariants.{Usage};
-ghost use Rattle.mapping_cli.specs.Gives.{GivesOn};
-ghost use Rattle.mapping_cli.specs.Runs.{Ends, Runs};
+ghost use Rattle.mapping_cli.specs.Runs.{Runs};
+ghost use Rattle.mapping_cli.specs.RunSteps.{AnswersOn, EndsWith};
 ghost use Rattle.mapping_cli.specs.Texts.{usage_text};
 ghost use Rattle.mapping_cli.specs.World.{world};
 
@@ -41,7 +40,7 @@ pub fn run<F: Files, W: Sink>(alloc: Global, words: &[Txt], files: &mut F, out: 
 // What the words ask for, and how that ends where it is written.
 fn answer_of<F: Files>(alloc: Global, words: &[Txt], files: &mut F) -> Result<Answer, Memory>
     ensures same { F.held files.new ≡ F.held files.old }
-    ensures ends { IfOk result (λ answer. Ends F.may_fail words.now (F.held files.old) (F.fault_count files.old) (F.fault_count files.new) answer.text answer.status (F.held files.old)) }
+    ensures ends { IfOk result (EndsWith F.may_fail words.now (F.held files.old) (F.fault_count files.old) (F.fault_count files.new)) }
 {
     let Some(command) = command_of(words) else {
         return usage(alloc);
@@ -56,7 +55,7 @@ fn answer_of<F: Files>(alloc: Global, words: &[Txt], files: &mut F) -> Result<An
 // What a command answers on the contents of its input files.
 fn answer_on(alloc: Global, command: Command, contents: &Seq<Bin>) -> Result<Answer, Memory>
     requires { 3 ≤ length contents.now }
-    ensures { (held : Option FileMap) → IfOk result (λ answer. GivesOn held answer.text answer.status held command contents.now) }
+    ensures { IfOk result (AnswersOn command contents.now) }
 {
     match command {
         Command::Check => check(alloc, contents),

@@ -1,6 +1,6 @@
 ghost use Rattle.std.specs.Prelude.{◌≡◌};
-ghost use Rattle.emc_base.specs.contracts.files.Files as F;
-ghost use Rattle.mapping_cli.specs.Reading.{IsTold, ReadsInput, ReadsInputs, TellsFault};
+ghost use Rattle.emc_files.specs.contracts.files.Files as F;
+ghost use Rattle.mapping_cli.specs.RunSteps.{IsTold, ReadsInput, ReadsInputs, TellsReadFault};
 ghost use Rattle.mapping_cli.specs.Texts.{file_text};
 
 use crate::answer::{Answer, Halt};
@@ -42,7 +42,7 @@ fn read_input<F: Files>(alloc: Global, files: &mut F, name: &Txt) -> Result<Bin,
 
 // What is told of a file that isn't read.
 fn told_of(alloc: Global, name: &str, fault: ReadFault) -> Halt
-    ensures { TellsFault name.now fault result }
+    ensures { TellsReadFault name.now fault result }
 {
     match fault {
         ReadFault::Missing => told(alloc, "missing", name),

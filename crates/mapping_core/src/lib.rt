@@ -15,7 +15,7 @@ pub use edm_types::{EntityModel, LimitFault, LimitKind, RuleFault, Schema, Vocab
 pub use entity_state::{EntityState, state_text};
 pub use first_form::{PEOPLE_CSDL, PEOPLE_MSL, PEOPLE_SSDL};
 pub use json_form::{Doc, DocFault, place_text, quoted};
-pub use reading::read;
+pub use reading::{one_rule, read};
 pub use round_trip::FailKind;
 pub use verdict::{Refusal, Verdict};
 pub use witness_state::Failure;

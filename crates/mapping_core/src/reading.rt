@@ -1,6 +1,8 @@
+ghost use Rattle.std.specs.Prelude.{◌≡◌, ℕ, List};
 ghost use Rattle.json_form.specs.TreeParts.{tree_at};
 ghost use Rattle.mapping_core.specs.Compiles.{ReadsSchema};
 ghost use Rattle.mapping_core.specs.Reading.{IsFaultOrMemory, ReadsAs, fault_at_root};
+ghost use Rattle.mapping_core.specs.Rules.{IsToldRule};
 
 use edm_types::{RuleFault, Schema, VocabFault, VocabFile};
 use emc_base::{Bin, Memory};
@@ -13,6 +15,11 @@ const NOT_JSON: u8 = 1;
 
 /// The number of the rule that the documents are of the form that is built so far.
 const UNBUILT: u8 = 99;
+
+/// The law that no two different rules are told of three documents.
+pub fn one_rule()
+    ensures { (csdl ssdl msl : List ℕ) (one two : RuleFault) → IsToldRule csdl ssdl msl one → IsToldRule csdl ssdl msl two → one ≡ two }
+{}
 
 /// Reads the three documents of a mapping: `Ok` with what they mean together where they break no rule, else `Rule` with the broken rule
 /// that is told: that of the first document that breaks one, the least of that document, at its first place. `Memory` comes where

@@ -2,7 +2,8 @@
 use Rattle.std.proofs.Common.{◌≡◌, ◌≢◌, ◌⊎◌, inl, inr, ⊎_elim, ℕ, zero, suc, ◌+◌, List, [], ◌∷◌, map, length, Some, true, false, ◌==◌, AllPairs, Contains, refl, sym, ap, subst, ◌∙◌, unwrap_or, arith}
 use Rattle.std.proofs.lemmas.Bool.Decides.{Decides-eqb, eqb_tells}
 use Rattle.round_trip.specs.Words.{PropId, ColId, Value, Null, Column, Pair, Row, At, cell_of, cells_of, written_to}
-use Rattle.one_table.proofs.Lists.{member_of_map, contains_map, apart_from_head, apart_in_rest}
+use Rattle.emc_base.proofs.Mapped.{contains_map}
+use Rattle.one_table.proofs.Lists.{member_of_map, apart_from_head, apart_in_rest}
 use Rattle.one_table.proofs.Permutations.{contains_cases, contains_head, contains_tail}
 
 -- columns of one number are one

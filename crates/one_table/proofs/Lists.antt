@@ -75,10 +75,6 @@ module _ {X Y : Type 0} (f : X → Y) where
   pub apart_in_rest : (x : X) (xs : List X) → AllPairs (λ a b. f a ≢ f b) (x ∷ xs) → AllPairs (λ a b. f a ≢ f b) xs
   apart_in_rest x xs apart i j d below within = apart (suc i) (suc j) d (omega arith) (omega arith)
 
-  -- a member's image is a member of the images
-  pub contains_map : (xs : List X) (x : X) → Contains xs x → Contains (map f xs) (f x)
-  contains_map xs x has = (has.0, subst (λ n. has.0 < n) (sym (length-map xs f)) has.1, get_or-map f xs has.0 x (f x) has.1 ∙ ap f has.2)
-
   -- a member of the images is some member's image
   pub member_of_map : (xs : List X) (y : Y) → Contains (map f xs) y → (x : X) × Contains xs x × (y ≡ f x)
   member_of_map [] y has = absurd (omega arith)

@@ -7,7 +7,7 @@ use Rattle.round_trip.specs.Words.{PropId, Value, Null, Whole, EntitySet, Fragme
 use Rattle.round_trip.specs.declared.FailKind.TheVariants.{Same}
 use Rattle.round_trip.specs.FailsAt.{HasEntityOnly}
 use Rattle.one_table.specs.OneTable.{IsOneTable, IsFittingPair, first_set, first_type}
-use Rattle.one_table.specs.Lost.{entity_by, state_by, lost_values, IsAllowed, AreLost, IsLost, IsNullable}
+use Rattle.one_table.specs.LostValues.{entity_by, state_by, lost_values, IsAllowed, AreLost, IsLost, IsNullable}
 use Rattle.emc_base.proofs.Lists.{only_place, only_member, only_stands, all_from_members}
 use Rattle.one_table.proofs.Cells.{row_with, same_cells, same_number, other_number}
 use Rattle.one_table.proofs.Entities.{first_props, first_key, only_key}

@@ -7,7 +7,7 @@ use Rattle.round_trip.specs.Words.{SetId, PropId, Value, Null, Kind, EntityModel
 use Rattle.emc_base.specs.declared.value.Kind.TheVariants as kind
 use Rattle.edm_types.specs.IsA.{same as itself}
 use Rattle.one_table.specs.OneTable.{IsOneType, first_set, first_type}
-use Rattle.one_table.specs.Lost.{entity_by, state_by, IsAllowed}
+use Rattle.one_table.specs.LostValues.{entity_by, state_by, IsAllowed}
 use Rattle.emc_base.proofs.Lists.{only_place, at_once}
 use Rattle.one_table.proofs.Lists.{only_at, nil_at_none, all_of_one}
 use Rattle.one_table.proofs.Permutations.{contains_cases}

@@ -4,7 +4,8 @@ use Rattle.std.proofs.lemmas.List.Elements.{All-contains, All-map}
 use Rattle.round_trip.specs.Words.{TableId, ColId, Value, Null, Table, Column, Pair, Schema, Entity, Row, At, value_of, key_of, State, entities_in, Tables, rows_in, cell_of, cells_of, row_key, AreTables, IsLegal, entity_cells, DemandsRow, DemandsCell, HasDemandedCells, AreDemandedRows, TablesAre, HasGoodTables}
 use Rattle.one_table.specs.OneTable.{IsOneTable, IsFittingPair, first_set, first_table}
 use Rattle.emc_base.proofs.Lists.{all_from_members}
-use Rattle.one_table.proofs.Lists.{any_from_member, contains_map, apart_map}
+use Rattle.emc_base.proofs.Mapped.{contains_map}
+use Rattle.one_table.proofs.Lists.{any_from_member, apart_map}
 use Rattle.one_table.proofs.Cells.{row_with, length-row_with, cell-row_with, written_once, written_cases}
 use Rattle.one_table.proofs.Entities.{member_in, first_key, legal_set}
 use Rattle.one_table.proofs.Demands.{key_pair, same_demand, demanded_row, row_demanded, demanded_cell, cell_demanded, one_entity, no_clash}

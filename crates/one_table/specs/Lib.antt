@@ -1,4 +1,4 @@
 pub mod OneTable
-pub mod Lost
+pub mod LostValues
 pub mod Unwritten
 pub mod Samples

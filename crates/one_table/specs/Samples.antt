@@ -4,7 +4,7 @@ use Rattle.round_trip.specs.Words.{PropId, Value, Kind, EntityModel, Prop, At, I
 use Rattle.emc_base.specs.declared.value.Value.TheVariants as value
 use Rattle.emc_base.specs.declared.value.Kind.TheVariants as kind
 use Rattle.one_table.specs.OneTable.{first_type}
-use Rattle.one_table.specs.Lost.{shown_key}
+use Rattle.one_table.specs.LostValues.{shown_key}
 
 -- a small value of a kind of the first form
 abbrev pub sample_of : Kind → Value

@@ -4,11 +4,11 @@
 
 mod unwritten;
 
-ghost use Rattle.std.specs.Prelude.{◌≡◌, List, [], ◌∷◌};
-ghost use Rattle.round_trip.specs.Words.{PropId, Value, Null, Place, EntitySet, Schema, State, IsLegal, place_at, FailsAt, HasGoodTables, Keeps};
+ghost use Rattle.std.specs.Prelude.{◌≡◌};
+ghost use Rattle.round_trip.specs.Words.{Place, Schema, State, IsLegal, FailsAt, HasGoodTables, Keeps};
 ghost use Rattle.round_trip.specs.declared.FailKind.{FailKind};
 ghost use Rattle.round_trip.specs.declared.FailKind.TheVariants.{Same};
-ghost use Rattle.one_table.specs.Lost.{AreLost, IsLost, lost_values, shown_key, state_by};
+ghost use Rattle.one_table.specs.LostValues.{ChoicesFail, ValuesFail};
 ghost use Rattle.one_table.specs.OneTable.{IsOneTable, WritesEveryProperty};
 
 pub use unwritten::unwritten_property;
@@ -28,6 +28,6 @@ pub fn accepts()
 /// The law that refuses: two choices of values that differ in a property that no pair writes give states with the same tables;
 /// so does null against a value, where every other property but the key may be null.
 pub fn refuses()
-    ensures choices { (schema : Schema) → IsOneTable schema → (set : EntitySet) (key : PropId) (ones twos : PropId → Value) → AreLost schema set key ones twos → FailsAt schema Same (place_at set.name (ones key ∷ []) []) (state_by schema.model ones) (state_by schema.model twos) }
-    ensures value { (schema : Schema) → IsOneTable schema → (set : EntitySet) (key lost : PropId) (value : Value) → IsLost schema set key lost value → FailsAt schema Same (place_at set.name (shown_key ∷ []) []) (state_by schema.model (lost_values key lost Null)) (state_by schema.model (lost_values key lost value)) }
+    ensures choices { (schema : Schema) → IsOneTable schema → ChoicesFail schema }
+    ensures value { (schema : Schema) → IsOneTable schema → ValuesFail schema }
 {}

@@ -1,6 +1,7 @@
 -- What stands in a list that belongs to an item of another list is one, by its two numbers.
 use Rattle.std.proofs.Common.{◌≡◌, ℕ, List, ◌∷◌, refl, sym, ap, ◌∙◌}
-use Rattle.round_trip.specs.Types.{At}
+use Rattle.round_trip.specs.Types.{At, Place}
+use Rattle.round_trip.proofs.FirstBreach.{TellsOne}
 
 module _ {X Y : Type 0} (items : List X) (lists : ℕ → X → List Y) where
   -- a spot that begins with the number of an item and that of a member of its list
@@ -24,3 +25,11 @@ module _ {X Y : Type 0} (items : List X) (lists : ℕ → X → List Y) where
 
     pub told_once : (F : X → Y → Z) → StandAt spot x y → StandAt spot u v → one ≡ F x y → two ≡ F u v → one ≡ two
     told_once F first second is_one is_two = told_with (λ a b (nothing : Unit {0}). F a b) tt tt first second (λ same_x same_y. refl) is_one is_two
+
+  module _ (spot : List ℕ) (F : X → Y → Place) where
+    -- the place is that of what stands at the spot
+    abbrev pub IsPlaceOf : Place → Type 0
+    IsPlaceOf place = (x : X) × (y : Y) × StandAt spot x y × (place ≡ F x y)
+
+    pub told_at : (Told : Place → Type 0) → ((place : Place) → Told place → IsPlaceOf place) → TellsOne Told
+    told_at Told at one two first second = told_once F (at one first).2 (at two second).2 (at one first).3 (at two second).3

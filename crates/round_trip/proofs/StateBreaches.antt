@@ -1,11 +1,11 @@
 -- Each rule of states tells one place at a spot.
-use Rattle.std.proofs.Common.{◌≡◌, inl, inr, ℕ, List, [], ◌∷◌, ◌++◌, refl}
+use Rattle.std.proofs.Common.{◌≡◌, inl, inr, ℕ, List, [], ◌∷◌, ◌++◌, refl, false}
 use Rattle.std.specs.Prelude.{codes}
 use Rattle.round_trip.specs.Types.{Value, Place, place_at, EntityModel, Prop, EntitySet, Assoc, End, Mult, Entity, Link, key_of, State, entities_in, links_in}
 use Rattle.round_trip.specs.Legal.{dependent_end}
 use Rattle.round_trip.specs.Breaches.{StandsIn, LinksIn, StandsAtProp, HasWrongCount, BreaksType, BreaksNull, BreaksDomain, BreaksKey, BreaksEnd, BreaksOnce, BreaksCount, BreaksPrincipal, BreaksRule}
-use Rattle.round_trip.proofs.FirstBreach.{TellsOne, TellsOneFrom, last_rule, before_rules}
-use Rattle.round_trip.proofs.AtPlaces.{StandAt, told_once, told_with}
+use Rattle.round_trip.proofs.FirstBreach.{TellsOne, StandsSome, null_told, domain_told, TellsOneFrom, last_rule, before_rules}
+use Rattle.round_trip.proofs.AtPlaces.{StandAt, told_once, told_with, told_at}
 
 module _ (model : EntityModel) (state : State) where
   abbrev entities : ℕ → EntitySet → List Entity
@@ -25,26 +25,17 @@ module _ (model : EntityModel) (state : State) where
 
   module _ (spot : List ℕ) where
     type_told : TellsOne (BreaksType model state spot)
-    type_told x y one two =
-        told_once model.sets entities (λ set entity. place_at set.name (key_of model entity) (codes "$type"))
-        (entity_at one.stands one.spot_is) (entity_at two.stands two.spot_is) one.place_is two.place_is
+    type_told = told_at model.sets entities spot (λ set entity. place_at set.name (key_of model entity) (codes "$type")) (BreaksType model state spot)
+        (λ place breaks. (breaks.set, breaks.entity, entity_at breaks.stands breaks.spot_is, breaks.place_is))
 
-    prop_told : (x y : Place) (value other : Value) (declared other_declared : Prop) → StandsAtProp model state spot x value declared
-        → StandsAtProp model state spot y other other_declared → x ≡ y
-    prop_told x y value other declared other_declared one two =
-        told_with model.sets entities (λ set entity (prop : Prop). place_at set.name (key_of model entity) prop.name) declared other_declared
-        (entity_at one.stands one.spot_is) (entity_at two.stands two.spot_is) (λ same_set same_entity. cc) one.place_is two.place_is
-
-    null_told : TellsOne (BreaksNull model state spot)
-    null_told x y one two = prop_told x y _ _ one.0 two.0 one.1 two.1
-
-    domain_told : TellsOne (BreaksDomain model state spot)
-    domain_told x y one two = prop_told x y one.0 two.0 one.1 two.1 one.2 two.2
+    prop_told : TellsOne (StandsSome (StandsAtProp model state spot))
+    prop_told x y one two =
+        told_with model.sets entities (λ set entity (prop : Prop). place_at set.name (key_of model entity) prop.name) one.1 two.1
+        (entity_at one.2.stands one.2.spot_is) (entity_at two.2.stands two.2.spot_is) (λ same_set same_entity. cc) one.2.place_is two.2.place_is
 
     key_told : TellsOne (BreaksKey model state spot)
-    key_told x y one two =
-        told_once model.sets entities (λ set entity. place_at set.name (key_of model entity) [])
-        (entity_at one.stands one.spot_is) (entity_at two.stands two.spot_is) one.place_is two.place_is
+    key_told = told_at model.sets entities spot (λ set entity. place_at set.name (key_of model entity) []) (BreaksKey model state spot)
+        (λ place breaks. (breaks.set, breaks.entity, entity_at breaks.stands breaks.spot_is, breaks.place_is))
 
     end_told : TellsOne (BreaksEnd model state spot)
     end_told x y one two = elim one.broken [
@@ -85,9 +76,8 @@ module _ (model : EntityModel) (state : State) where
     ]
 
     once_told : TellsOne (BreaksOnce model state spot)
-    once_told x y one two =
-        told_once model.assocs links (λ assoc link. place_at assoc.set_name (link.first ++ link.second) [])
-        (link_at one.stands one.spot_is) (link_at two.stands two.spot_is) one.place_is two.place_is
+    once_told = told_at model.assocs links spot (λ assoc link. place_at assoc.set_name (link.first ++ link.second) []) (BreaksOnce model state spot)
+        (λ place breaks. (breaks.assoc, breaks.link, link_at breaks.stands breaks.spot_is, breaks.place_is))
 
     principal_told : TellsOne (BreaksPrincipal model state spot)
     principal_told x y one two =
@@ -103,8 +93,8 @@ module _ (model : EntityModel) (state : State) where
     rules : TellsOneFrom 1 (λ rule. BreaksRule model state rule spot)
     rules =
         before_rules 1 (BreaksType model state spot) type_told _
-        (before_rules 2 (BreaksNull model state spot) null_told _
-        (before_rules 3 (BreaksDomain model state spot) domain_told _
+        (before_rules 2 (BreaksNull model state spot) (null_told (StandsAtProp model state spot) prop_told (λ prop. prop.nullable ≡ false)) _
+        (before_rules 3 (BreaksDomain model state spot) (domain_told (StandsAtProp model state spot) prop_told (λ prop. prop.kind)) _
         (before_rules 4 (BreaksKey model state spot) key_told _
         (before_rules 5 (BreaksEnd model state spot) end_told _
         (before_rules 6 (BreaksOnce model state spot) once_told _

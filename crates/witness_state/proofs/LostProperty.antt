@@ -11,7 +11,7 @@ use Rattle.round_trip.specs.declared.FailKind.{FailKind}
 use Rattle.emc_base.specs.declared.value.Value.TheVariants as value
 use Rattle.round_trip.specs.declared.FailKind.TheVariants.{Same}
 use Rattle.one_table.specs.OneTable.{IsOneTable, first_type}
-use Rattle.one_table.specs.Lost.{IsLost, IsNullable, lost_values}
+use Rattle.one_table.specs.LostValues.{IsLost, IsNullable, lost_values}
 use Rattle.emc_base.proofs.Lists.{all_from_members, only_place, only_member, only_stands}
 use Rattle.one_table.proofs.Fails.{fails_by_same}
 use Rattle.one_table.proofs.LostValues.{value_fails}

@@ -3,7 +3,7 @@ use Rattle.std.specs.Prelude.{◌≡◌, List, [], ◌∷◌, map, Some}
 use Rattle.round_trip.specs.Words.{PropId, Value, Kind, place_at, EntityType, EntitySet, State}
 use Rattle.emc_base.specs.declared.value.Value.TheVariants as value
 use Rattle.one_table.specs.Samples.{sample_of}
-use Rattle.one_table.specs.Lost.{lost_values, shown_key}
+use Rattle.one_table.specs.LostValues.{lost_values, shown_key}
 use Rattle.round_trip.specs.declared.FailKind.TheVariants.{Same}
 use Rattle.witness_state.specs.declared.failure.Failure.{Failure}
 

@@ -5,8 +5,12 @@ use round_trip::FailKind;
 /// A legal state that fails: how, where, and the state whole; for the kind `Same` the other state with the same tables.
 #[derive(Drop)]
 pub struct Failure {
+    /// How the state fails.
     pub kind: FailKind,
+    /// Where it fails: the table or set, the key of the row or entity, and the column or property.
     pub place: Place,
+    /// The state that fails.
     pub state: EntityState,
+    /// Another state with the same tables; given for the kind `Same` alone.
     pub other: Option<EntityState>,
 }

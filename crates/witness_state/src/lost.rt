@@ -1,6 +1,6 @@
 ghost use Rattle.std.specs.Prelude.{◌≡◌, [], ◌∷◌, IfOk, map};
 ghost use Rattle.round_trip.specs.Words.{place_at};
-ghost use Rattle.one_table.specs.Lost.{lost_values, shown_key};
+ghost use Rattle.one_table.specs.LostValues.{lost_values, shown_key};
 ghost use Rattle.one_table.specs.OneTable.{IsOneTable};
 ghost use Rattle.one_table.specs.Samples.{AllowsSamples, sample_of};
 ghost use Rattle.one_table.specs.Unwritten.{IsUnwritten};

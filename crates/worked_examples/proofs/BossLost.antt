@@ -5,14 +5,13 @@ use Rattle.std.proofs.lemmas.List.Elements.{All-nil}
 use Rattle.std.proofs.lemmas.List.Sorted.{IsPermutation-refl, Contains-permutation}
 use Rattle.round_trip.specs.Words.{Null, EntityModel, LinkFragment, Link, Row, Tables, rows_in, MetByEntity, Selects, IsLegal, Writing, TablesAre}
 use Rattle.edm_types.specs.declared.model.Mult.TheVariants.{Many}
-use Rattle.edm_types.specs.IsA.{same}
 use Rattle.worked_examples.specs.Ids.{type_id, assoc_id, just}
 use Rattle.worked_examples.specs.People.{people_table, person_row, only_rows}
 use Rattle.worked_examples.specs.Bosses.{bosses, bossed_model, boss_of, with_bosses, all_people}
 use Rattle.worked_examples.specs.BossLost.{unlinked, own_boss, no_boss, BossIsLost}
 use Rattle.worked_examples.proofs.Writings.{entity_writing, each_writing, row_made}
 use Rattle.worked_examples.proofs.States.{one_row_stored}
-use Rattle.worked_examples.proofs.Bosses.{unnamed, unnamed_stands, is_link, legal_bossed}
+use Rattle.worked_examples.proofs.Bosses.{unnamed, unnamed_stands, is_link, has_ends, legal_bossed}
 
 abbrev model : EntityModel
 model = bossed_model Many
@@ -25,7 +24,7 @@ own_boss_legal = legal_bossed Many (unnamed 1 ∷ []) (own_link ∷ []) (record 
   stand = (unnamed_stands Many 1 (omega arith), tt);
   own_keys = (tt, tt);
   shapes = (is_link Many 1 1, tt);
-  ends = (((0, unnamed 1, omega arith, refl, (same (type_id 0), refl)), (0, unnamed 1, omega arith, refl, (same (type_id 0), refl))), tt);
+  ends = (has_ends Many (unnamed 1 ∷ []) (own_link ∷ []) (0, omega arith, refl) (0, omega arith, refl), tt);
   once = (tt, tt);
   partners = (tt, tt);
 })

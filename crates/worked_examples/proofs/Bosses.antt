@@ -1,9 +1,11 @@
 -- States of people and their bosses: which are legal, and what their links are.
 use Rattle.std.proofs.Common.{◌≡◌, ◌≢◌, ℕ, ◌≤◌, List, [], ◌∷◌, refl, ap, arith}
-use Rattle.std.specs.Prelude.{pos}
+use Rattle.std.specs.Prelude.{Contains, pos}
 use Rattle.std.specs.List.{AllByRecursion}
 use Rattle.std.proofs.lemmas.List.Elements.{All-from_recursion, All-weaker}
-use Rattle.round_trip.specs.Words.{Null, Whole, Mult, Entity, Link, IsA, key_of, IsLink, HasEntityAt, HasCount, AreLegalLinks, IsLegal}
+use Rattle.round_trip.specs.Words.{Value, Null, Whole, Mult, Entity, Link, IsA, key_of, IsLink, HasEntityAt, HasCount, AreLegalLinks, IsLegal}
+use Rattle.edm_types.specs.IsA.{same}
+use Rattle.worked_examples.specs.Ids.{type_id}
 use Rattle.worked_examples.specs.People.{people_set, person}
 use Rattle.worked_examples.specs.Bosses.{bosses, bossed_model, boss_of, with_bosses}
 use Rattle.worked_examples.proofs.Small.{PairsByRecursion, all_pairs}
@@ -55,6 +57,11 @@ module _ (mult : Mult) where
     abbrev pub HasEnds : Link → Type 0
     HasEnds link = HasEntityAt (bossed_model mult) (with_bosses people links) (bosses mult).first link.first
         × HasEntityAt (bossed_model mult) (with_bosses people links) (bosses mult).second link.second
+
+    -- a link stands between two of the people
+    pub has_ends : {id boss_id : ℕ} {name boss_name : Value} → Contains people (person (pos id) name) → Contains people (person (pos boss_id) boss_name)
+        → HasEnds (boss_of (pos id) (pos boss_id))
+    has_ends one other = ((one.0, _, one.1, one.2, (same (type_id 0), refl)), (other.0, _, other.1, other.2, (same (type_id 0), refl)))
 
     -- a person has as many bosses as the multiplicity allows
     abbrev pub HasItsBosses : Entity → Type 0

@@ -1,10 +1,11 @@
 -- Facts on the entities of a model, by its properties and types.
-use Rattle.std.proofs.Common.{◌≡◌, ◌≢◌, ◌≤◌, List, subst, arith}
+use Rattle.std.proofs.Common.{◌≡◌, ◌≢◌, ℕ, ◌≤◌, List, [], ◌∷◌, None, refl, subst, arith}
 use Rattle.std.specs.Prelude.{All}
 use Rattle.std.specs.List.{AllByRecursion}
 use Rattle.std.proofs.lemmas.List.Elements.{All-from_recursion, All-weaker}
-use Rattle.round_trip.specs.Words.{TypeId, PropId, EntityModel, Prop, EntitySet, Entity, At, HasBase, IsA, props_of, value_of, key_of, IsEntity, HasProp, HasFittingType, HasAllowedNulls, HasValuesInDomain, IsLegalSet}
+use Rattle.round_trip.specs.Words.{TypeId, PropId, Value, EntityModel, EntityType, Prop, TypeNode, EntitySet, Assoc, Entity, At, HasBase, IsA, props_of, value_of, key_of, IsEntity, HasProp, HasFittingType, HasAllowedNulls, HasValuesInDomain, IsLegalSet}
 use Rattle.edm_types.specs.IsA.{same, base, chain}
+use Rattle.worked_examples.specs.Ids.{type_id, prop_id, set_of, entity_of, concrete_type, model_of}
 use Rattle.worked_examples.proofs.Small.{each_of, PairsByRecursion, all_pairs}
 use Rattle.worked_examples.proofs.Values.{FitsIn}
 
@@ -40,6 +41,18 @@ pub record MayStand (model : EntityModel) (set : EntitySet) (entity : Entity) : 
   pub shape : IsEntity model entity
   pub type : HasFittingType model set entity
   pub fits : AllByRecursion (FitsAt model entity) (props_of model entity.ty)
+
+-- an entity of a model's first type, which has no base type and just these two properties
+module _ {name set_name : List ℕ} {key : List PropId} {types : List EntityType} {one two : Prop} {props : List Prop} {forest : List TypeNode}
+    {sets : List EntitySet} {assocs : List Assoc} where
+  pub two_values_stand : (first second : Value) → FitsIn one.kind one.nullable first → FitsIn two.kind two.nullable second
+      → MayStand (model_of (concrete_type name None key (prop_id 0 ∷ prop_id 1 ∷ []) ∷ types) (one ∷ two ∷ props) forest sets assocs)
+      (set_of set_name (type_id 0)) (entity_of (type_id 0) (first ∷ second ∷ []))
+  two_values_stand first second first_fits second_fits = record {
+    shape = (_, refl, refl);
+    type = record { concrete = (_, refl, refl); under = same (type_id 0) };
+    fits = (record { declared = one; is_declared = refl; fits = first_fits }, (record { declared = two; is_declared = refl; fits = second_fits }, tt));
+  }
 
 -- entities of different keys
 abbrev pub HaveOwnKeys : EntityModel → Entity → Entity → Type 0

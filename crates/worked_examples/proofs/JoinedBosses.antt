@@ -4,7 +4,6 @@ use Rattle.std.specs.Prelude.{Any, Contains, pos, false}
 use Rattle.std.proofs.lemmas.List.Elements.{All-nil, All-from_recursion}
 use Rattle.round_trip.specs.Words.{TableId, Value, Null, Whole, EntityModel, Assoc, Entity, Link, Row, key_of, cell_of, row_key, MetByEntity, Selects, ShowsLink, Refers, FindsRow, KeepsForeignKey, Writing, Writes, WritesRow, AreDemandedRows}
 use Rattle.edm_types.specs.declared.model.Mult.TheVariants.{Many}
-use Rattle.edm_types.specs.IsA.{same}
 use Rattle.worked_examples.specs.Ids.{type_id, table_id, just, row_of}
 use Rattle.worked_examples.specs.People.{people_table, person_row}
 use Rattle.worked_examples.specs.Bosses.{bosses, bossed_model, boss_of, all_people}
@@ -18,7 +17,7 @@ use Rattle.worked_examples.proofs.LegalRows.{FitsTable, HaveOwnRowKeys, legal_ro
 use Rattle.worked_examples.proofs.KeyedRows.{IsInItsRow, IsDemandedRow, HasItsRow, no_clash_by_keys, keyed_rows}
 use Rattle.worked_examples.proofs.Agreement.{meets_none, Agrees, LinksAgree, agrees, links_agree, satisfied_by_parts}
 use Rattle.worked_examples.proofs.People.{no_name}
-use Rattle.worked_examples.proofs.Bosses.{links_differ, is_link, unnamed, three_unnamed, three_stand, three_own_keys, legal_bossed}
+use Rattle.worked_examples.proofs.Bosses.{links_differ, is_link, unnamed, three_unnamed, three_stand, three_own_keys, has_ends, legal_bossed}
 
 abbrev model : EntityModel
 model = bossed_model Many
@@ -50,10 +49,10 @@ legal = legal_bossed Many three_unnamed links (record {
   own_keys = three_own_keys Many;
   shapes = (is_link Many 1 2, (is_link Many 1 3, (is_link Many 2 3, tt)));
   ends = (
-    ((0, unnamed 1, omega arith, refl, (same (type_id 0), refl)), (1, unnamed 2, omega arith, refl, (same (type_id 0), refl))),
+    has_ends Many three_unnamed links (0, omega arith, refl) (1, omega arith, refl),
     (
-      ((0, unnamed 1, omega arith, refl, (same (type_id 0), refl)), (2, unnamed 3, omega arith, refl, (same (type_id 0), refl))),
-      (((1, unnamed 2, omega arith, refl, (same (type_id 0), refl)), (2, unnamed 3, omega arith, refl, (same (type_id 0), refl))), tt),
+      has_ends Many three_unnamed links (0, omega arith, refl) (2, omega arith, refl),
+      (has_ends Many three_unnamed links (1, omega arith, refl) (2, omega arith, refl), tt),
     ),
   );
   once = (

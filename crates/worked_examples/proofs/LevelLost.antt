@@ -5,14 +5,12 @@ use Rattle.std.specs.List.{AllByRecursion}
 use Rattle.std.proofs.lemmas.List.Elements.{All-nil}
 use Rattle.std.proofs.lemmas.List.Sorted.{IsPermutation-refl, Contains-permutation}
 use Rattle.round_trip.specs.Words.{Null, Whole, Entity, Row, State, Tables, rows_in, Selects, IsLegal, Writing, Writes, TablesAre}
-use Rattle.edm_types.specs.IsA.{same}
-use Rattle.worked_examples.specs.Ids.{type_id, set_id, table_id}
-use Rattle.worked_examples.specs.People.{id_prop}
-use Rattle.worked_examples.specs.LevelLost.{items, item_model, item_type, items_set, level_prop, item, only_items}
+use Rattle.worked_examples.specs.Ids.{set_id, table_id}
+use Rattle.worked_examples.specs.LevelLost.{items, item_model, items_set, item, only_items}
 use Rattle.worked_examples.specs.LevelLost.{level_is, of_level, level_one_table, level_two_table, LevelIsLost}
 use Rattle.worked_examples.proofs.Small.{PairsByRecursion}
 use Rattle.worked_examples.proofs.Values.{whole_fits}
-use Rattle.worked_examples.proofs.Entities.{MayStand, HaveOwnKeys}
+use Rattle.worked_examples.proofs.Entities.{MayStand, two_values_stand, HaveOwnKeys}
 use Rattle.worked_examples.proofs.Writings.{each_writing, no_row}
 use Rattle.worked_examples.proofs.States.{legal_set_alone, stored_by_tables}
 
@@ -23,14 +21,7 @@ abbrev no_rows : Tables
 no_rows = [] ∷ [] ∷ []
 
 stands : MayStand item_model items_set third
-stands = record {
-  shape = (item_type, refl, refl);
-  type = record { concrete = (item_type, refl, refl); under = same (type_id 0) };
-  fits = (
-    record { declared = id_prop; is_declared = refl; fits = whole_fits false 1 (omega arith) },
-    (record { declared = level_prop; is_declared = refl; fits = whole_fits false 3 (omega arith) }, tt),
-  );
-}
+stands = two_values_stand (Whole (pos 1)) (Whole (pos 3)) (whole_fits false 1 (omega arith)) (whole_fits false 3 (omega arith))
 
 legal : (entities : List Entity) → AllByRecursion (MayStand item_model items_set) entities → PairsByRecursion (HaveOwnKeys item_model) entities
     → IsLegal item_model (only_items entities)

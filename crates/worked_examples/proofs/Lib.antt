@@ -10,7 +10,7 @@ mod People
 mod OneRow
 mod Stored
 mod LongName
-mod Unwritten
+mod NameUnwritten
 mod LevelLost
 mod Staff
 mod Salary

@@ -4,7 +4,6 @@ use Rattle.std.specs.Prelude.{Contains, pos}
 use Rattle.std.proofs.lemmas.List.Elements.{All-nil}
 use Rattle.round_trip.specs.Words.{TableId, Value, Null, Whole, Assoc, Link, Row, AtMostOne, Tables, cell_of, MetByEntity, Selects, IsLegal, Writing, Writes, WritesRow, TablesAre, IsShownLinkTuple}
 use Rattle.edm_types.specs.declared.model.Mult.TheVariants.{ZeroOrOne}
-use Rattle.edm_types.specs.IsA.{same}
 use Rattle.worked_examples.specs.Ids.{type_id, table_id, col_id, just, row_of}
 use Rattle.worked_examples.specs.People.{only_rows}
 use Rattle.worked_examples.specs.Bosses.{bosses, bossed_model, bossed_table, boss_of, all_people}
@@ -13,7 +12,7 @@ use Rattle.worked_examples.specs.LinkHidden.{named_links, bossed_if_named, unnam
 use Rattle.worked_examples.proofs.Small.{each_of, at_most_one}
 use Rattle.worked_examples.proofs.Writings.{entity_writing, link_writing, each_writing, each_given, nothing_given, of_links}
 use Rattle.worked_examples.proofs.KeyedRows.{IsInItsRow, HasItsRow, all_rows_stored}
-use Rattle.worked_examples.proofs.Bosses.{unnamed, two_unnamed, two_stand, two_own_keys, is_link, legal_bossed}
+use Rattle.worked_examples.proofs.Bosses.{unnamed, two_unnamed, two_stand, two_own_keys, is_link, has_ends, legal_bossed}
 
 abbrev boss : Assoc
 boss = bosses ZeroOrOne
@@ -26,7 +25,7 @@ legal = legal_bossed ZeroOrOne two_unnamed (the_link ∷ []) (record {
   stand = two_stand ZeroOrOne;
   own_keys = two_own_keys ZeroOrOne;
   shapes = (is_link ZeroOrOne 1 2, tt);
-  ends = (((0, unnamed 1, omega arith, refl, (same (type_id 0), refl)), (1, unnamed 2, omega arith, refl, (same (type_id 0), refl))), tt);
+  ends = (has_ends ZeroOrOne two_unnamed (the_link ∷ []) (0, omega arith, refl) (1, omega arith, refl), tt);
   once = (tt, tt);
   partners = (at_most (Whole (pos 1) ∷ []), (at_most (Whole (pos 2) ∷ []), tt));
 })

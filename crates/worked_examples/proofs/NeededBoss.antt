@@ -8,7 +8,7 @@ use Rattle.worked_examples.specs.Ids.{type_id, assoc_id}
 use Rattle.worked_examples.specs.Bosses.{bosses, bossed_model, boss_of}
 use Rattle.worked_examples.specs.NeededBoss.{pair_with, EachOthersBossIsLegal, MissingBossIsNot}
 use Rattle.worked_examples.proofs.Small.{any_one, at_most_one}
-use Rattle.worked_examples.proofs.Bosses.{unnamed, two_unnamed, two_stand, two_own_keys, links_differ, is_link, legal_bossed}
+use Rattle.worked_examples.proofs.Bosses.{unnamed, two_unnamed, two_stand, two_own_keys, links_differ, is_link, has_ends, legal_bossed}
 
 abbrev links : List Link
 links = boss_of (pos 1) (pos 2) ∷ boss_of (pos 2) (pos 1) ∷ []
@@ -30,8 +30,8 @@ each_others_boss_is_legal = legal_bossed One two_unnamed links (record {
   own_keys = two_own_keys One;
   shapes = (is_link One 1 2, (is_link One 2 1, tt));
   ends = (
-    ((0, unnamed 1, omega arith, refl, (same (type_id 0), refl)), (1, unnamed 2, omega arith, refl, (same (type_id 0), refl))),
-    (((1, unnamed 2, omega arith, refl, (same (type_id 0), refl)), (0, unnamed 1, omega arith, refl, (same (type_id 0), refl))), tt),
+    has_ends One two_unnamed links (0, omega arith, refl) (1, omega arith, refl),
+    (has_ends One two_unnamed links (1, omega arith, refl) (0, omega arith, refl), tt),
   );
   once = ((links_differ 1 2 2 1 (λ equal. absurd (omega (arith, equal))), tt), (tt, tt));
   partners = (

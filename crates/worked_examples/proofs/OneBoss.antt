@@ -6,7 +6,6 @@ use Rattle.std.proofs.lemmas.List.Elements.{All-nil, All-from_recursion}
 use Rattle.round_trip.specs.Words.{TableId, Value, Null, Whole, Text, EntityModel, Assoc, Schema, Entity, Link, Row, AtMostOne, cell_of, MetByEntity, Selects, ShowsLink, Refers, FindsRow, KeepsForeignKey, Writing, Writes, WritesRow}
 use Rattle.emc_base.specs.declared.value.Kind.TheVariants as kind
 use Rattle.edm_types.specs.declared.model.Mult.TheVariants.{ZeroOrOne}
-use Rattle.edm_types.specs.IsA.{same}
 use Rattle.worked_examples.specs.Ids.{type_id, table_id, col_id, just, pair_of, row_of}
 use Rattle.worked_examples.specs.People.{people_set, person}
 use Rattle.worked_examples.specs.Bosses.{bosses, bossed, bossed_model, bossed_table, bossed_store, boss_key, boss_links, boss_of, all_people}
@@ -19,7 +18,7 @@ use Rattle.worked_examples.proofs.LegalRows.{FitsTable, HaveOwnRowKeys, legal_ro
 use Rattle.worked_examples.proofs.KeyedRows.{IsInItsRow, IsDemandedRow, HasItsRow, all_rows_stored}
 use Rattle.worked_examples.proofs.Agreement.{meets_none, Agrees, LinksAgree, agrees, links_agree, satisfied_by_parts}
 use Rattle.worked_examples.proofs.People.{may_stand_with, a_name, ids_differ}
-use Rattle.worked_examples.proofs.Bosses.{links_differ, is_link, legal_bossed}
+use Rattle.worked_examples.proofs.Bosses.{links_differ, is_link, has_ends, legal_bossed}
 
 abbrev schema : Schema
 schema = bossed ZeroOrOne
@@ -39,15 +38,18 @@ three = named 1 (codes "a") ∷ named 2 (codes "b") ∷ named 3 (codes "c") ∷ 
 abbrev links : List Link
 links = boss_of (pos 2) (pos 1) ∷ boss_of (pos 3) (pos 1) ∷ []
 
--- the row of the boss, and those of the others
+-- the row of the boss, and those of the ones led
 abbrev boss_row : Row
 boss_row = crew_row (pos 1) (codes "a") Null
 
+abbrev led_row : ℕ → List ℕ → Row
+led_row id name = crew_row (pos id) name (Whole (pos 1))
+
 abbrev second_row : Row
-second_row = crew_row (pos 2) (codes "b") (Whole (pos 1))
+second_row = led_row 2 (codes "b")
 
 abbrev third_row : Row
-third_row = crew_row (pos 3) (codes "c") (Whole (pos 1))
+third_row = led_row 3 (codes "c")
 
 abbrev rows : List Row
 rows = boss_row ∷ second_row ∷ third_row ∷ []
@@ -83,8 +85,8 @@ legal = legal_bossed ZeroOrOne three links (record {
   own_keys = own_keys;
   shapes = (is_link ZeroOrOne 2 1, (is_link ZeroOrOne 3 1, tt));
   ends = (
-    ((1, named 2 (codes "b"), omega arith, refl, (same (type_id 0), refl)), (0, named 1 (codes "a"), omega arith, refl, (same (type_id 0), refl))),
-    (((2, named 3 (codes "c"), omega arith, refl, (same (type_id 0), refl)), (0, named 1 (codes "a"), omega arith, refl, (same (type_id 0), refl))), tt),
+    has_ends ZeroOrOne three links (1, omega arith, refl) (0, omega arith, refl),
+    (has_ends ZeroOrOne three links (2, omega arith, refl) (0, omega arith, refl), tt),
   );
   once = ((links_differ 2 1 3 1 (λ equal. absurd (omega (arith, equal))), tt), (tt, tt));
   partners = (one_at_most (Whole (pos 1) ∷ []), (one_at_most (Whole (pos 2) ∷ []), (one_at_most (Whole (pos 3) ∷ []), tt)));
@@ -165,7 +167,6 @@ third_link = link_writes 3 (1, omega arith, refl)
 abbrev IsOneOf : Row → Type 0
 IsOneOf row = IsDemandedRow schema crew row_for in_rows (table_id 0) bossed_table row
 
--- id and name come of the person, and the boss of the link
 boss_demanded : IsOneOf boss_row
 boss_demanded = record {
   demanded = (of_person 1 (codes "a"), first);
@@ -173,23 +174,14 @@ boss_demanded = record {
   cells = (inr (of_person 1 (codes "a"), first, inl (0, omega arith, refl)), (inr (of_person 1 (codes "a"), first, inl (1, omega arith, refl)), (inl refl, tt)));
 }
 
-second_demanded : IsOneOf second_row
-second_demanded = record {
-  demanded = (of_person 2 (codes "b"), second);
-  for_key = refl;
+-- id and name come of the person, and the boss of the link
+led_demanded : (id : ℕ) (name : List ℕ) → row_at id ≡ led_row id name → WritesKey id (of_person id name) → WritesKey id (of_link id) → IsOneOf (led_row id name)
+led_demanded id name is_row person link = record {
+  demanded = (of_person id name, person);
+  for_key = is_row;
   cells = (
-    inr (of_person 2 (codes "b"), second, inl (0, omega arith, refl)),
-    (inr (of_person 2 (codes "b"), second, inl (1, omega arith, refl)), (inr (of_link 2, second_link, inl (1, omega arith, refl)), tt)),
-  );
-}
-
-third_demanded : IsOneOf third_row
-third_demanded = record {
-  demanded = (of_person 3 (codes "c"), third);
-  for_key = refl;
-  cells = (
-    inr (of_person 3 (codes "c"), third, inl (0, omega arith, refl)),
-    (inr (of_person 3 (codes "c"), third, inl (1, omega arith, refl)), (inr (of_link 3, third_link, inl (1, omega arith, refl)), tt)),
+    inr (of_person id name, person, inl (0, omega arith, refl)),
+    (inr (of_person id name, person, inl (1, omega arith, refl)), (inr (of_link id, link, inl (1, omega arith, refl)), tt)),
   );
 }
 
@@ -217,8 +209,13 @@ own_row_keys = (
 )
 
 pub stored : CrewIsStored
-stored = all_rows_stored schema crew row_for in_rows bossed_table rows
-    (record { is_table = refl; made = (boss_demanded, (second_demanded, (third_demanded, tt))); found = found; own = own_row_keys; count = (refl, (refl, (refl, tt))) })
+stored = all_rows_stored schema crew row_for in_rows bossed_table rows (record {
+  is_table = refl;
+  made = (boss_demanded, (led_demanded 2 (codes "b") refl second second_link, (led_demanded 3 (codes "c") refl third third_link, tt)));
+  found = found;
+  own = own_row_keys;
+  count = (refl, (refl, (refl, tt)));
+})
 
 -- the boss of a row is found in the first
 abbrev FindsBoss : Row → Type 0

@@ -5,11 +5,11 @@ use Rattle.std.proofs.lemmas.List.Elements.{All-nil, All-from_recursion}
 use Rattle.round_trip.specs.Words.{TypeId, TableId, ColId, Value, Null, Whole, EntityType, Entity, Row, HasBase, IsA, values_of, IsLink, Tables, MetByEntity, IsPicked, Selects, HasPrincipal, HavePrincipals, IsLegal, Writing, Writes, written_to, Fills, TablesAre}
 use Rattle.edm_types.specs.IsA.{same}
 use Rattle.worked_examples.specs.Ids.{type_id, prop_id, table_id, just, with_below, row_of}
-use Rattle.worked_examples.specs.People.{id_prop, name_prop, person_type, people_set, people_table, person, person_row}
+use Rattle.worked_examples.specs.People.{people_set, people_table, person, person_row}
 use Rattle.worked_examples.specs.Owners.{employee_type, employees_table, order_id_prop, owner_id_prop, order_type, orders_set, owner, owner_constraint, owner_key}
 use Rattle.worked_examples.specs.Owners.{shop_model, orders_table, all_people, all_employees, orders, shop, order, owned_by_a_person, OwnerDangles}
 use Rattle.worked_examples.proofs.Small.{each_at, any_one}
-use Rattle.worked_examples.proofs.Entities.{IsA-after, MayStand, shaped_set, legal_set}
+use Rattle.worked_examples.proofs.Entities.{IsA-after, MayStand, two_values_stand, shaped_set, legal_set}
 use Rattle.worked_examples.proofs.Values.{whole_fits}
 use Rattle.worked_examples.proofs.Writings.{entity_writing, each_writing, each_given, IsOnlyWriting, IsRowOf, AreApart, no_clash, one_row, no_row, row_made}
 use Rattle.worked_examples.proofs.States.{legal_by_parts, stored_by_tables}
@@ -22,11 +22,7 @@ abbrev ordered : Entity
 ordered = order (pos 5) (pos 9)
 
 may_stand : MayStand shop_model people_set someone
-may_stand = record {
-  shape = (person_type, refl, refl);
-  type = record { concrete = (person_type, refl, refl); under = same (type_id 0) };
-  fits = (record { declared = id_prop; is_declared = refl; fits = whole_fits false 9 (omega arith) }, (record { declared = name_prop; is_declared = refl; fits = no_name }, tt));
-}
+may_stand = two_values_stand (Whole (pos 9)) Null (whole_fits false 9 (omega arith)) no_name
 
 may_be_ordered : MayStand shop_model orders_set ordered
 may_be_ordered = record {

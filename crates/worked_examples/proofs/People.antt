@@ -2,15 +2,14 @@
 use Rattle.std.proofs.Common.{◌≢◌, inl, inr, ℕ, ◌≤◌, List, [], ◌∷◌, refl, arith, Some}
 use Rattle.std.specs.Prelude.{pos, true, false}
 use Rattle.std.specs.List.{AllByRecursion}
-use Rattle.round_trip.specs.Words.{Value, Null, Text, Assoc, Entity, HasProp, IsLegalSet, IsLegal}
+use Rattle.round_trip.specs.Words.{Value, Null, Whole, Text, Assoc, Entity, HasProp, IsLegalSet, IsLegal}
 use Rattle.emc_base.specs.declared.value.Kind.TheVariants as kind
 use Rattle.emc_base.specs.Domain.{IsText}
-use Rattle.edm_types.specs.IsA.{same}
-use Rattle.worked_examples.specs.Ids.{type_id, set_id, prop_id}
-use Rattle.worked_examples.specs.People.{TwentyOneCharactersAreNot, people_with, accented, people_model, people_set, person_type, id_prop, name_prop, person, only_people}
+use Rattle.worked_examples.specs.Ids.{set_id, prop_id}
+use Rattle.worked_examples.specs.People.{TwentyOneCharactersAreNot, people_with, accented, people_model, people_set, name_prop, person, only_people}
 use Rattle.worked_examples.proofs.Small.{PairsByRecursion}
 use Rattle.worked_examples.proofs.Values.{FitsIn, null_fits, whole_fits, text_fits, no_text_21}
-use Rattle.worked_examples.proofs.Entities.{MayStand, HaveOwnKeys}
+use Rattle.worked_examples.proofs.Entities.{MayStand, two_values_stand, HaveOwnKeys}
 use Rattle.worked_examples.proofs.States.{legal_set_alone}
 
 -- the value may be a name
@@ -20,11 +19,7 @@ FitsName value = FitsIn (kind.Text (Some 20)) true value
 -- a person of a small id, with any name that fits
 pub may_stand_with : (assocs : List Assoc) (id : ℕ) (name : Value) → id ≤ 2147483647 → FitsName name
     → MayStand (people_with assocs) people_set (person (pos id) name)
-may_stand_with assocs id name below fits = record {
-  shape = (person_type, refl, refl);
-  type = record { concrete = (person_type, refl, refl); under = same (type_id 0) };
-  fits = (record { declared = id_prop; is_declared = refl; fits = whole_fits false id below }, (record { declared = name_prop; is_declared = refl; fits = fits }, tt));
-}
+may_stand_with assocs id name below fits = two_values_stand (Whole (pos id)) name (whole_fits false id below) fits
 
 pub may_stand : (id : ℕ) (name : Value) → id ≤ 2147483647 → FitsName name → MayStand people_model people_set (person (pos id) name)
 may_stand id name below fits = may_stand_with [] id name below fits

@@ -4,12 +4,11 @@ use Rattle.std.specs.Prelude.{Contains, pos, false}
 use Rattle.std.specs.List.{AllByRecursion}
 use Rattle.std.proofs.lemmas.List.Elements.{All-nil}
 use Rattle.round_trip.specs.Words.{TableId, Value, Whole, Entity, Row, cell_of, MetByEntity, Selects, Writing, Writes, WritesRow}
-use Rattle.edm_types.specs.IsA.{same}
 use Rattle.worked_examples.specs.Ids.{type_id, table_id, just, row_of}
-use Rattle.worked_examples.specs.Seats.{seats, seats_model, seats_set, seats_store, seats_table, seat_type, row_prop, number_prop, all_seats, seat, seat_row, two_seats, seat_rows, SeatsAreLegal, SeatsAreKeyed, SeatsAreStored, SeatRowsAreLegal, SeatRowsSatisfy}
+use Rattle.worked_examples.specs.Seats.{seats, seats_model, seats_set, seats_store, seats_table, all_seats, seat, seat_row, two_seats, seat_rows, SeatsAreLegal, SeatsAreKeyed, SeatsAreStored, SeatRowsAreLegal, SeatRowsSatisfy}
 use Rattle.worked_examples.proofs.Small.{PairsByRecursion}
 use Rattle.worked_examples.proofs.Values.{whole_fits}
-use Rattle.worked_examples.proofs.Entities.{MayStand}
+use Rattle.worked_examples.proofs.Entities.{MayStand, two_values_stand}
 use Rattle.worked_examples.proofs.Writings.{entity_writing, each_writing, each_given}
 use Rattle.worked_examples.proofs.States.{legal_set_alone}
 use Rattle.worked_examples.proofs.LegalRows.{FitsTable, HaveOwnRowKeys, legal_rows, legal_tables}
@@ -33,14 +32,7 @@ abbrev rows : List Row
 rows = row 2 ∷ row 3 ∷ []
 
 stands : (number : ℕ) → number ≤ 2147483647 → MayStand seats_model seats_set (numbered number)
-stands number below = record {
-  shape = (seat_type, refl, refl);
-  type = record { concrete = (seat_type, refl, refl); under = same (type_id 0) };
-  fits = (
-    record { declared = row_prop; is_declared = refl; fits = whole_fits false 1 (omega arith) },
-    (record { declared = number_prop; is_declared = refl; fits = whole_fits false number below }, tt),
-  );
-}
+stands number below = two_values_stand (Whole (pos 1)) (Whole (pos number)) (whole_fits false 1 (omega arith)) (whole_fits false number below)
 
 both_stand : AllByRecursion (MayStand seats_model seats_set) both_seats
 both_stand = (stands 2 (omega arith), (stands 3 (omega arith), tt))

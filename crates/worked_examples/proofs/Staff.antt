@@ -3,15 +3,15 @@ use Rattle.std.proofs.Common.{◌≡◌, ◌≢◌, ℕ, ◌≤◌, List, [], �
 use Rattle.std.specs.Prelude.{pos, false}
 use Rattle.std.specs.List.{AllByRecursion}
 use Rattle.std.proofs.lemmas.List.Elements.{All-from_recursion}
-use Rattle.round_trip.specs.Words.{TypeId, Null, Pair, Entity, MetByEntity, IsPicked, Selects, IsLegal}
-use Rattle.edm_types.specs.IsA.{same, base}
+use Rattle.round_trip.specs.Words.{TypeId, Null, Whole, Pair, Entity, MetByEntity, IsPicked, Selects, IsLegal}
+use Rattle.edm_types.specs.IsA.{base}
 use Rattle.worked_examples.specs.Ids.{type_id, just}
-use Rattle.worked_examples.specs.People.{id_prop, name_prop, person_type, people_set, person, only_people}
+use Rattle.worked_examples.specs.People.{id_prop, name_prop, people_set, person, only_people}
 use Rattle.worked_examples.specs.Salary.{staff_model, employee_type, salary_prop, persons, employees, of_kind, kind_is}
 use Rattle.worked_examples.specs.ByKind.{employee}
 use Rattle.worked_examples.proofs.Small.{PairsByRecursion, any_one}
 use Rattle.worked_examples.proofs.Values.{whole_fits}
-use Rattle.worked_examples.proofs.Entities.{MayStand, HaveOwnKeys}
+use Rattle.worked_examples.proofs.Entities.{MayStand, two_values_stand, HaveOwnKeys}
 use Rattle.worked_examples.proofs.States.{legal_set_alone}
 use Rattle.worked_examples.proofs.People.{no_name}
 
@@ -31,11 +31,7 @@ module _ (id : ℕ) where
   someone = person (pos id) Null
 
   pub person_stands : id ≤ 2147483647 → MayStand staff_model people_set someone
-  person_stands below = record {
-    shape = (person_type, refl, refl);
-    type = record { concrete = (person_type, refl, refl); under = same (type_id 0) };
-    fits = (record { declared = id_prop; is_declared = refl; fits = whole_fits false id below }, (record { declared = name_prop; is_declared = refl; fits = no_name }, tt));
-  }
+  person_stands below = two_values_stand (Whole (pos id)) Null (whole_fits false id below) no_name
 
   pub person_selected : Selects staff_model persons someone
   person_selected = kind_selects _ _ _ _ someone refl

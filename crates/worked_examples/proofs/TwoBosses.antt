@@ -3,12 +3,11 @@ use Rattle.std.proofs.Common.{inl, inr, ℕ, List, [], ◌∷◌, refl, arith}
 use Rattle.std.specs.Prelude.{Contains, pos}
 use Rattle.round_trip.specs.Words.{Whole, Link, IsLegal, DemandsCell}
 use Rattle.edm_types.specs.declared.model.Mult.TheVariants.{Many}
-use Rattle.edm_types.specs.IsA.{same}
-use Rattle.worked_examples.specs.Ids.{type_id, table_id, col_id}
+use Rattle.worked_examples.specs.Ids.{table_id, col_id}
 use Rattle.worked_examples.specs.Bosses.{bosses, bossed, bossed_model, bossed_table, boss_column, boss_links, boss_of}
 use Rattle.worked_examples.specs.TwoBosses.{two_bosses, TwoBossesClash}
 use Rattle.worked_examples.proofs.Writings.{link_writing}
-use Rattle.worked_examples.proofs.Bosses.{links_differ, is_link, unnamed, three_unnamed, three_stand, three_own_keys, legal_bossed}
+use Rattle.worked_examples.proofs.Bosses.{links_differ, is_link, three_unnamed, three_stand, three_own_keys, has_ends, legal_bossed}
 
 abbrev links : List Link
 links = boss_of (pos 1) (pos 2) ∷ boss_of (pos 1) (pos 3) ∷ []
@@ -19,8 +18,8 @@ legal = legal_bossed Many three_unnamed links (record {
   own_keys = three_own_keys Many;
   shapes = (is_link Many 1 2, (is_link Many 1 3, tt));
   ends = (
-    ((0, unnamed 1, omega arith, refl, (same (type_id 0), refl)), (1, unnamed 2, omega arith, refl, (same (type_id 0), refl))),
-    (((0, unnamed 1, omega arith, refl, (same (type_id 0), refl)), (2, unnamed 3, omega arith, refl, (same (type_id 0), refl))), tt),
+    has_ends Many three_unnamed links (0, omega arith, refl) (1, omega arith, refl),
+    (has_ends Many three_unnamed links (0, omega arith, refl) (2, omega arith, refl), tt),
   );
   once = ((links_differ 1 2 1 3 (λ one. omega arith), tt), (tt, tt));
   partners = (tt, (tt, (tt, tt)));

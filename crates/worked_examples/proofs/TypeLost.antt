@@ -6,12 +6,12 @@ use Rattle.std.proofs.lemmas.List.Sorted.{IsPermutation-refl, Contains-permutati
 use Rattle.round_trip.specs.Words.{TypeId, Null, Whole, Entity, Row, IsA, Tables, rows_in, MetByEntity, Selects, IsLegal, Writing, Writes, TablesAre}
 use Rattle.edm_types.specs.IsA.{same, base}
 use Rattle.worked_examples.specs.Ids.{type_id, set_id, with_below}
-use Rattle.worked_examples.specs.People.{id_prop, name_prop, person_type, people_set, people_table, person, person_row, only_people, only_rows}
+use Rattle.worked_examples.specs.People.{id_prop, name_prop, people_set, people_table, person, person_row, only_people, only_rows}
 use Rattle.worked_examples.specs.Owners.{employee_type, all_people}
 use Rattle.worked_examples.specs.TypeLost.{untold, untold_model, employee, TypeIsLost}
 use Rattle.worked_examples.proofs.Small.{each_of}
 use Rattle.worked_examples.proofs.Values.{whole_fits}
-use Rattle.worked_examples.proofs.Entities.{MayStand}
+use Rattle.worked_examples.proofs.Entities.{MayStand, two_values_stand}
 use Rattle.worked_examples.proofs.Writings.{entity_writing, each_writing, row_made}
 use Rattle.worked_examples.proofs.States.{legal_set_alone, one_row_stored}
 use Rattle.worked_examples.proofs.People.{no_name}
@@ -32,11 +32,7 @@ employee_is_person : IsA untold_model (type_id 1) (type_id 0)
 employee_is_person = base (type_id 1) (type_id 0) (employee_type, refl, refl)
 
 person_stands : MayStand untold_model people_set a_person
-person_stands = record {
-  shape = (person_type, refl, refl);
-  type = record { concrete = (person_type, refl, refl); under = same (type_id 0) };
-  fits = (record { declared = id_prop; is_declared = refl; fits = whole_fits false 7 (omega arith) }, (record { declared = name_prop; is_declared = refl; fits = no_name }, tt));
-}
+person_stands = two_values_stand (Whole (pos 7)) Null (whole_fits false 7 (omega arith)) no_name
 
 employee_stands : MayStand untold_model people_set an_employee
 employee_stands = record {

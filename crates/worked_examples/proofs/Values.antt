@@ -1,7 +1,8 @@
 -- Which values may stand in a property or a column, by its kind and whether it may be null.
-use Rattle.std.proofs.Common.{◌≡◌, ◌⊎◌, inl, inr, ℕ, ◌≤◌, List, Option, Some, Bool, refl, sym, ap, ◌∙◌, arith, IsTrue}
+use Rattle.std.proofs.Common.{◌≡◌, ◌⊎◌, inl, inr, ℕ, ◌<◌, ◌≤◌, List, [], ◌∷◌, ◌++◌, ◌&&◌, Option, Some, Bool, refl, sym, ap, ◌∙◌, arith, IsTrue}
 use Rattle.std.proofs.lemmas.Int.{ints}
-use Rattle.std.proofs.lemmas.Str.{chars-encodes}
+use Rattle.std.proofs.lemmas.Str.{chars-encodes, encode_ascii}
+use lib.Utf8.{low_scalar}
 use Rattle.std.specs.Prelude.{pos, true, codes, length, replicate}
 use Rattle.std.specs.Str.{chars}
 use Rattle.round_trip.specs.Words.{Value, Null, Whole, Text, Kind, InDomain}
@@ -24,17 +25,31 @@ whole_fits nullable n below = record { null = λ none. absurd (cc); domain = inr
 pub text_fits : (nullable : Bool) (bound : Option ℕ) (bytes : List ℕ) → IsText bound bytes → FitsIn (kind.Text bound) nullable (Text bytes)
 text_fits nullable bound bytes text = record { null = λ none. absurd (cc); domain = inr text }
 
+-- one ASCII character is a text of any bound but zero
+pub one_character : (most c : ℕ) → c < 128 → 1 ≤ most → IsText (Some most) (c ∷ [])
+one_character most c ascii fits = record {
+  characters = c ∷ [];
+  scalar = ap (λ is. is && true) (low_scalar c (omega (arith, ascii)));
+  spelled = ap (λ bytes. bytes ++ []) (encode_ascii c ascii);
+  within = fits;
+}
+
+-- a letter may be a name
 pub text_a : IsText (Some 20) (codes "a")
-unfolding lib.Utf8.encode
-text_a = record { characters = codes "a"; scalar = refl; spelled = refl; within = omega arith }
+text_a = one_character 20 97 (omega arith) (omega arith)
 
 pub text_b : IsText (Some 20) (codes "b")
-unfolding lib.Utf8.encode
-text_b = record { characters = codes "b"; scalar = refl; spelled = refl; within = omega arith }
+text_b = one_character 20 98 (omega arith) (omega arith)
 
 pub text_c : IsText (Some 20) (codes "c")
-unfolding lib.Utf8.encode
-text_c = record { characters = codes "c"; scalar = refl; spelled = refl; within = omega arith }
+text_c = one_character 20 99 (omega arith) (omega arith)
+
+-- the letters of kinds
+pub text_p : IsText (Some 1) (codes "P")
+text_p = one_character 1 80 (omega arith) (omega arith)
+
+pub text_e : IsText (Some 1) (codes "E")
+text_e = one_character 1 69 (omega arith) (omega arith)
 
 pub text_20 : IsText (Some 20) (accented 20)
 unfolding lib.Utf8.encode
@@ -47,12 +62,3 @@ no_text_21 text =
     let count : length (chars (accented 21)) ≡ length text.characters = ap length spells in
     let within : length text.characters ≤ 20 = text.within in
     absurd (omega arith)
-
--- the letters of kinds
-pub text_p : IsText (Some 1) (codes "P")
-unfolding lib.Utf8.encode
-text_p = record { characters = codes "P"; scalar = refl; spelled = refl; within = omega arith }
-
-pub text_e : IsText (Some 1) (codes "E")
-unfolding lib.Utf8.encode
-text_e = record { characters = codes "E"; scalar = refl; spelled = refl; within = omega arith }

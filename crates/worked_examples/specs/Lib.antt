@@ -1,7 +1,7 @@
 pub mod Ids
 pub mod People
 pub mod LongName
-pub mod Unwritten
+pub mod NameUnwritten
 pub mod LevelLost
 pub mod Salary
 pub mod ByKind

@@ -18,6 +18,7 @@ ghost use Rattle.worked_examples.specs.LevelLost.{LevelIsLost};
 ghost use Rattle.worked_examples.specs.LinkHidden.{BossIsHidden};
 ghost use Rattle.worked_examples.specs.LongName.{LongNameIsTold};
 ghost use Rattle.worked_examples.specs.NameShown.{NullNameIsHidden};
+ghost use Rattle.worked_examples.specs.NameUnwritten.{NameIsLost};
 ghost use Rattle.worked_examples.specs.NeededBoss.{EachOthersBossIsLegal, MissingBossIsNot};
 ghost use Rattle.worked_examples.specs.NoBoss.{
   BosslessIsStored,
@@ -51,7 +52,6 @@ ghost use Rattle.worked_examples.specs.Seats.{
 };
 ghost use Rattle.worked_examples.specs.TwoBosses.{TwoBossesClash};
 ghost use Rattle.worked_examples.specs.TypeLost.{TypeIsLost};
-ghost use Rattle.worked_examples.specs.Unwritten.{NameIsLost};
 
 /// One person with a name: the state is legal, its tables have the one row, and they are legal and agree with the fragment.
 pub fn stores_one_person()

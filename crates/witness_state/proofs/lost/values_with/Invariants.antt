@@ -1,5 +1,5 @@
 use Rattle.std.proofs.Common.{◌≡◌, map, take}
-use Rattle.one_table.specs.Lost.{lost_values}
+use Rattle.one_table.specs.LostValues.{lost_values}
 use Rattle.witness_state.proofs.lost.values_with.Given as goal
 
 abbrev pub invariant-loop-prop : goal.invariant-loop-prop

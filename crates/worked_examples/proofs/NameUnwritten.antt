@@ -6,7 +6,7 @@ use Rattle.std.proofs.lemmas.List.Sorted.{IsPermutation-refl, Contains-permutati
 use Rattle.round_trip.specs.Words.{Value, Null, Whole, Text, Pair, Entity, Tables, rows_in, MetByEntity, TablesAre}
 use Rattle.worked_examples.specs.Ids.{pair_of, set_id}
 use Rattle.worked_examples.specs.People.{people_model, people_set, people_table, person, person_row, only_people, only_rows}
-use Rattle.worked_examples.specs.Unwritten.{people_without_names, NameIsLost}
+use Rattle.worked_examples.specs.NameUnwritten.{people_without_names, NameIsLost}
 use Rattle.worked_examples.proofs.Small.{each_of}
 use Rattle.worked_examples.proofs.Writings.{IsRowOf, row_made}
 use Rattle.worked_examples.proofs.OneRow.{IsMet, the_writing, one_row_demanded}

@@ -1,4 +1,4 @@
--- Unwritten: people whose names are written nowhere. Two people of one id with different names have the same tables.
+-- NameUnwritten: people whose names are written nowhere. Two people of one id with different names have the same tables.
 use Rattle.std.specs.Prelude.{pos, [], ◌∷◌, codes}
 use Rattle.round_trip.specs.Words.{Null, Whole, Text, Schema, place_at, FailsAt}
 use Rattle.round_trip.specs.declared.FailKind.TheVariants as kind

@@ -1,7 +1,8 @@
 -- Two states of one entity each that differ in values which no pair writes: what a program shows where it refuses a mapping of the
 -- first form.
 use Rattle.std.specs.Prelude.{◌≡◌, ◌≢◌, ◌⊎◌, ◌==◌, [], ◌∷◌, map, All, Contains, IsTrue, pos, if◌then◌else◌}
-use Rattle.round_trip.specs.Words.{PropId, Value, Null, Whole, EntityModel, Prop, EntitySet, Schema, Entity, At, InDomain, props_of, key_props, State}
+use Rattle.round_trip.specs.Words.{PropId, Value, Null, Whole, EntityModel, Prop, EntitySet, Schema, Entity, At, InDomain, props_of, key_props, State, place_at, FailsAt}
+use Rattle.round_trip.specs.declared.FailKind.TheVariants.{Same}
 use Rattle.one_table.specs.OneTable.{first_type}
 
 -- the entity of the first type that has these values
@@ -52,3 +53,16 @@ pub record IsLost (schema : Schema) (set : EntitySet) (key lost : PropId) (value
   pub holds : InDomain value declared.kind
   pub unwritten : All (λ fragment. All (λ pair. pair.prop ≢ lost) fragment.pairs) schema.mapping.fragments
   pub nullable : All (λ prop. (prop ≡ key) ⊎ IsNullable schema.model prop) (props_of schema.model first_type)
+
+-- the state of the first choice fails by the one of the second, at its key
+abbrev pub FailsByChoice : Schema → EntitySet → Value → (ones twos : PropId → Value) → Type 0
+FailsByChoice schema set key ones twos = FailsAt schema Same (place_at set.name (key ∷ []) []) (state_by schema.model ones) (state_by schema.model twos)
+
+-- any two choices of values that differ in what isn't written fail
+abbrev pub ChoicesFail : Schema → Type 0
+ChoicesFail schema = (set : EntitySet) (key : PropId) (ones twos : PropId → Value) → AreLost schema set key ones twos → FailsByChoice schema set (ones key) ones twos
+
+-- null fails by any value that a property which isn't written may hold
+abbrev pub ValuesFail : Schema → Type 0
+ValuesFail schema = (set : EntitySet) (key lost : PropId) (value : Value) → IsLost schema set key lost value
+    → FailsByChoice schema set shown_key (lost_values key lost Null) (lost_values key lost value)
