@@ -1,8 +1,55 @@
 -- The order of faults is total, and tells different ones apart.
+use Rattle.std.specs.Prelude.{◌≡◌, ℕ, [], ◌∷◌, get_or}
+use mathlib.Core.Path.{refl, sym, ap, ◌∙◌}
+use Rattle.std.specs.declared.cmp.Ordering.{Ordering}
+use Rattle.std.specs.declared.cmp.Ordering.TheVariants.{Less, Equal, Greater}
 use Rattle.std.specs.Cmp.{IsTotalOrder, nat_cmp_total, on_total, then_total}
-use Rattle.json_form.specs.PlaceOrder.{steps_cmp_total}
+use Rattle.std.specs.FinMap.{IsAntisymmetric, nat_cmp-IsAntisymmetric}
+use Rattle.std.specs.Ordering.{nat_cmp, ordering_then}
+use Rattle.json_form.specs.PlaceOrder.{steps_cmp_apart, steps_cmp_total}
+use Rattle.json_form.specs.Pointers.{steps_cmp}
+use Rattle.layouts.specs.declared.fault.Fault.{Fault}
+use Rattle.layouts.specs.declared.rule.Rule.{Rule}
+use Rattle.layouts.specs.declared.rule.Rule.TheVariants.{IsJson, HasForm, HasMembers, IsKnown, IsSupported, NamedOnce, Resolves, Ancestors, TypeKey, KeyProperty, InheritedName, PropertyType, Bound, IsBuilt}
 use Rattle.layouts.specs.Faults.{fault_cmp}
 use Rattle.layouts.specs.Rules.{rule_number}
 
 pub fault_cmp_total : IsTotalOrder fault_cmp
 fault_cmp_total = then_total (on_total (λ fault. rule_number fault.rule) nat_cmp_total) (on_total (λ fault. fault.place) steps_cmp_total)
+
+-- the rule of a number
+rule_of : ℕ → Rule
+rule_of number = get_or (IsJson ∷ IsJson ∷ HasForm ∷ HasMembers ∷ IsKnown ∷ IsSupported ∷ NamedOnce ∷ Resolves ∷ Ancestors ∷ TypeKey ∷ KeyProperty ∷ InheritedName ∷ PropertyType ∷ Bound ∷ []) number IsBuilt
+
+numbered : (rule : Rule) → rule_of (rule_number rule) ≡ rule
+unfolding rule_of
+numbered IsJson = refl
+numbered HasForm = refl
+numbered HasMembers = refl
+numbered IsKnown = refl
+numbered IsSupported = refl
+numbered NamedOnce = refl
+numbered Resolves = refl
+numbered Ancestors = refl
+numbered TypeKey = refl
+numbered KeyProperty = refl
+numbered InheritedName = refl
+numbered PropertyType = refl
+numbered Bound = refl
+numbered IsBuilt = refl
+
+-- rules of one number are one
+pub rules_apart : (one two : Rule) → rule_number one ≡ rule_number two → one ≡ two
+rules_apart one two same = sym (numbered one) ∙ ap rule_of same ∙ numbered two
+
+both_alike : (one other : Ordering) → ordering_then one other ≡ Equal → (one ≡ Equal) × (other ≡ Equal)
+both_alike Less other is = absurd cc
+both_alike Equal other is = (refl, is)
+both_alike Greater other is = absurd cc
+
+pub fault_cmp_apart : IsAntisymmetric fault_cmp
+fault_cmp_apart one two same =
+    let parts = both_alike (nat_cmp (rule_number one.rule) (rule_number two.rule)) (steps_cmp one.place two.place) same in
+    let rule : one.rule ≡ two.rule = rules_apart one.rule two.rule (nat_cmp-IsAntisymmetric (rule_number one.rule) (rule_number two.rule) parts.0) in
+    let place : one.place ≡ two.place = steps_cmp_apart one.place two.place parts.1 in
+    λ i. record { rule = rule i; place = place i }

@@ -1,7 +1,7 @@
 -- The numbers of the rules.
 use Rattle.std.specs.Prelude.{ℕ}
 use Rattle.layouts.specs.declared.rule.Rule.{Rule}
-use Rattle.layouts.specs.declared.rule.Rule.TheVariants.{IsJson, HasForm, HasMembers, IsKnown, IsSupported, NamedOnce, Resolves, Ancestors, TypeKey, KeyProperty, InheritedName, PropertyType, Bound}
+use Rattle.layouts.specs.declared.rule.Rule.TheVariants.{IsJson, HasForm, HasMembers, IsKnown, IsSupported, NamedOnce, Resolves, Ancestors, TypeKey, KeyProperty, InheritedName, PropertyType, Bound, IsBuilt}
 
 -- the number that is printed, and by which rules are ordered
 abbrev pub rule_number : Rule → ℕ
@@ -18,3 +18,4 @@ rule_number KeyProperty = 10
 rule_number InheritedName = 11
 rule_number PropertyType = 12
 rule_number Bound = 13
+rule_number IsBuilt = 99

@@ -31,6 +31,8 @@ pub enum Rule {
     PropertyType,
     /// 13: a bound stands at a text or a byte list alone, and is a number from 1 to 1,048,576.
     Bound,
+    /// 99: the documents are of the form that is built so far.
+    IsBuilt,
 }
 
 impl Rule {
@@ -52,6 +54,7 @@ impl Rule {
             Rule::InheritedName => 11,
             Rule::PropertyType => 12,
             Rule::Bound => 13,
+            Rule::IsBuilt => 99,
         }
     }
 }
