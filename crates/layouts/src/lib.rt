@@ -2,6 +2,8 @@
 //! layout, at its first place.
 #![tactic(auto)]
 
+#[cfg(test)]
+mod documents;
 mod fault;
 mod form;
 mod leaf;
@@ -12,6 +14,8 @@ mod names;
 mod path;
 mod rule;
 mod store_layout;
+#[cfg(test)]
+mod tests;
 mod walk;
 
 pub use fault::Fault;
