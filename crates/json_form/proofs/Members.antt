@@ -1,5 +1,5 @@
 -- The member of a name, as it is found, and as it stands in the list of members.
-use Rattle.std.proofs.Common.{◌≡◌, ℕ, zero, suc, List, [], ◌∷◌, Option, Some, None, Ordering, Less, Equal, Greater, refl, sym, ◌∙◌, ap}
+use Rattle.std.proofs.Common.{◌≡◌, ℕ, zero, suc, List, [], Some, None, Ordering, Less, Equal, Greater, refl, sym, ◌∙◌, ap}
 use Rattle.std.specs.Ordering.{match_ordering, nat_cmp}
 use Rattle.std.specs.Cmp.{tied_itself}
 use Rattle.std.specs.Cmp.Lexicographic.{nat_list_cmp_total, slice_cmp}
@@ -8,7 +8,7 @@ use Rattle.serde_json.specs.Data.{Data, null, boolean, number, string, array, ob
 use Rattle.serde_json.specs.Find.{get, get_member}
 use Rattle.emc_base.specs.Lists.{At}
 use Rattle.json_form.specs.Members.{HasMember}
-use Rattle.json_form.specs.TreeParts.{list_of_members, members_in}
+use Rattle.json_form.specs.TreeParts.{list_of_members}
 
 -- a member that stands in the list
 Stands : Members → List ℕ → Data → Type 0
