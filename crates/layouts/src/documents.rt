@@ -18,7 +18,7 @@ const TABLE_TYPE: Form = Form::Object(Shape::TableType);
 
 /// Faultless documents, with each member that a layout names and with no member that may be missing; then nodes of other kinds and
 /// forms; then members that are missing, unknown, left out and passed over.
-pub(crate) const CASES: [Case; 65] = [
+pub(crate) const CASES: [Case; 66] = [
     (
         "a model with every member",
         MODEL,
@@ -144,6 +144,12 @@ pub(crate) const CASES: [Case; 65] = [
         "a number past 64 bits",
         Form::Object(Shape::EnumMember),
         r#"{"Name":"M","Value":9223372036854775808}"#,
+        Some((2, "/Value")),
+    ),
+    (
+        "minus zero",
+        Form::Object(Shape::EnumMember),
+        r#"{"Name":"M","Value":-0}"#,
         Some((2, "/Value")),
     ),
     (
