@@ -8,6 +8,8 @@ mod fault;
 mod form;
 mod leaf;
 mod mapping_layout;
+#[cfg(test)]
+mod member_documents;
 mod missing;
 mod model_layout;
 mod names;

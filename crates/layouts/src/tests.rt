@@ -1,4 +1,5 @@
-use crate::documents::{CASES, Case, LEFT_OUT};
+use crate::documents::{Case, FORMS};
+use crate::member_documents::{LEFT_OUT, MEMBERS};
 use crate::{Form, Leaf, Shape, first_fault};
 use emc_base::{Bin, Txt};
 use json_form::{Doc, pointer_of};
@@ -22,8 +23,15 @@ fn tells(rt: &impl Abort, alloc: Global, (name, form, text, want): Case) {
 }
 
 #[test]
-fn tells_the_first_fault(rt: HostRuntime) {
-    for case in CASES {
+fn tells_other_forms(rt: HostRuntime) {
+    for case in FORMS {
+        tells(&rt, rt.alloc(), case);
+    }
+}
+
+#[test]
+fn tells_members(rt: HostRuntime) {
+    for case in MEMBERS {
         tells(&rt, rt.alloc(), case);
     }
 }
