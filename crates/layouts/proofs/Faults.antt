@@ -35,7 +35,8 @@ after_cmp step one other =
     (tied_itself step_cmp_total step)
 
 -- the least fault behind a step is the least that is seen from there
-pub least_under : (step : Step) (P : Fault → Type 0) (found : Option Fault) → IsLeast fault_cmp P found → IsLeast fault_cmp (Under step P) (option_map (after step) found)
+pub least_under : (step : Step) (P : Fault → Type 0) (found : Option Fault) → IsLeast fault_cmp P found
+    → IsLeast fault_cmp (Under step P) (option_map (after step) found)
 least_under step P None none = λ fault some. none (record { rule = fault.rule; place = some.rest }) some.holds
 least_under step P (Some found) is = (record { rest = found.place; reached = refl; holds = is.0 }, before)
   where

@@ -21,7 +21,8 @@ picked true row lent own same = refl
 picked false row lent own same = same
 
 -- the row that is found where the table is lent
-pub row_lent : (rows : List (Bor (List ℕ) × Entry)) (name : List ℕ) → option_map (λ row. row.1) (find (λ row. bytes_eq row.0.now name) rows) ≡ row_of (as_rows rows) name
+pub row_lent : (rows : List (Bor (List ℕ) × Entry)) (name : List ℕ)
+    → option_map (λ row. row.1) (find (λ row. bytes_eq row.0.now name) rows) ≡ row_of (as_rows rows) name
 row_lent [] name = refl
 row_lent (row ∷ rows) name = picked (bytes_eq row.0.now name) row _ _ (row_lent rows name)
 
@@ -37,7 +38,8 @@ found_row : (rows : List (Bor (List ℕ) × Entry)) (name : List ℕ) (entry : E
 found_row [] name entry is = absurd cc
 found_row (row ∷ rows) name entry is = by (bytes_eq row.0.now name) refl is (found_row rows name entry)
   where
-    by : (b : Bool) → bytes_eq row.0.now name ≡ b → option_map (λ found. found.1) (cond b (Some (row.0.now, row.1)) (find (λ other. bytes_eq other.0 name) (as_rows rows))) ≡ Some entry
+    by : (b : Bool) → bytes_eq row.0.now name ≡ b
+        → option_map (λ found. found.1) (cond b (Some (row.0.now, row.1)) (find (λ other. bytes_eq other.0 name) (as_rows rows))) ≡ Some entry
         → (row_of (as_rows rows) name ≡ Some entry → (i : ℕ) × (found : Bor (List ℕ) × Entry) × At rows i found × (found.0.now ≡ name))
         → (i : ℕ) × (found : Bor (List ℕ) × Entry) × At (row ∷ rows) i found × (found.0.now ≡ name)
     by true same here more = (0, row, refl, (bytes_eq-Decides row.0.now name).0 same)

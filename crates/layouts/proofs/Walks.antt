@@ -26,8 +26,12 @@ use Rattle.layouts.specs.Inside.{IsEntryFault, IsItemFault, IsLackFault, IsPartF
 use Rattle.layouts.specs.Layouts.{as_rows, rows_of}
 use Rattle.layouts.proofs.Rows.{required_row}
 
+-- the members of an object, as entries of the map
+abbrev pub Entries : Type 0
+Entries = List (String Global × Value)
+
 -- the entries are passed up to a place; these are left
-pub record Passed (shape : Shape) (entries left : List (String Global × Value)) (found : Option Fault) : Type 0 where
+pub record Passed (shape : Shape) (entries left : Entries) (found : Option Fault) : Type 0 where
   pub n : ℕ
   pub left_is : left ≡ drop n entries
   pub least : IsLeast fault_cmp (AmongFirst (IsEntryFault shape) entries n) found
@@ -43,12 +47,13 @@ all_dropped [] n is = omega arith
 all_dropped (y ∷ ys) zero is = absurd cc
 all_dropped (y ∷ ys) (suc n) is = let less : length ys ≤ n = all_dropped ys n is in omega arith
 
-pub passed_none : (shape : Shape) (entries left : List (String Global × Value)) → left ≡ entries → Passed shape entries left None
+pub passed_none : (shape : Shape) (entries left : Entries) → left ≡ entries → Passed shape entries left None
 passed_none shape entries left is = record { n = 0; left_is = is; least = least_start fault_cmp fault_cmp_total (IsEntryFault shape) entries }
 
 -- one entry more
-pub passed_more : (shape : Shape) (entries left : List (String Global × Value)) (found more : Option Fault) (entry : String Global × Value) (rest : List (String Global × Value))
-    → left ≡ entry ∷ rest → ((i : ℕ) → IsLeast fault_cmp (IsEntryFault shape i entry) more) → Passed shape entries left found → Passed shape entries rest (earlier fault_cmp found more)
+pub passed_more : (shape : Shape) (entries left : Entries) (found more : Option Fault) (entry : String Global × Value) (rest : Entries)
+    → left ≡ entry ∷ rest → ((i : ℕ) → IsLeast fault_cmp (IsEntryFault shape i entry) more) → Passed shape entries left found
+    → Passed shape entries rest (earlier fault_cmp found more)
 passed_more shape entries left found more entry rest is least passed =
     let at = dropped entries passed.n entry rest (sym passed.left_is ∙ is) in
     record {
@@ -58,23 +63,27 @@ passed_more shape entries left found more entry rest is least passed =
     }
 
 -- all of them
-pub passed_all : (shape : Shape) (entries left : List (String Global × Value)) (found : Option Fault) → left ≡ [] → Passed shape entries left found → IsLeast fault_cmp (Among (IsEntryFault shape) entries) found
+pub passed_all : (shape : Shape) (entries left : Entries) (found : Option Fault) → left ≡ [] → Passed shape entries left found
+    → IsLeast fault_cmp (Among (IsEntryFault shape) entries) found
 passed_all shape entries left found none passed =
     least_all fault_cmp fault_cmp_total (IsEntryFault shape) entries passed.n found (all_dropped entries passed.n (sym passed.left_is ∙ none)) passed.least
 
 -- the next of the entries that are left stands among them
-pub passed_next : (shape : Shape) (entries left : List (String Global × Value)) (found : Option Fault) (entry : String Global × Value) (rest : List (String Global × Value))
+pub passed_next : (shape : Shape) (entries left : Entries) (found : Option Fault) (entry : String Global × Value) (rest : Entries)
     → left ≡ entry ∷ rest → Passed shape entries left found → (i : ℕ) × At entries i entry
 passed_next shape entries left found entry rest is passed = (passed.n, (dropped entries passed.n entry rest (sym passed.left_is ∙ is)).0)
 
 -- What is least among the items is least in the array: inside it faults stand behind its items alone.
 module _ (form item : Form) (d : Data)
-    (in_item : (rule : Rule) (i : ℕ) (place : List Step) (part : Data) → At (items_in d) i part → Breaks rule item part place → Breaks rule form d (Item i ∷ place))
-    (of_item : (rule : Rule) (i : ℕ) (place : List Step) → Breaks rule form d (Item i ∷ place) → (part : Data) × At (items_in d) i part × Breaks rule item part place)
+    (in_item : (rule : Rule) (i : ℕ) (place : List Step) (part : Data) → At (items_in d) i part → Breaks rule item part place
+    → Breaks rule form d (Item i ∷ place))
+    (of_item : (rule : Rule) (i : ℕ) (place : List Step) → Breaks rule form d (Item i ∷ place)
+    → (part : Data) × At (items_in d) i part × Breaks rule item part place)
     (no_member : (rule : Rule) (name : List ℕ) (place : List Step) → ¬ Breaks rule form d (Member name ∷ place))
     (not_here : (rule : Rule) → ¬ Breaks rule form d []) where
   pub least_of_items : (found : Option Fault) → IsLeast fault_cmp (Among (IsItemFault item) (items_in d)) found → IsLeast fault_cmp (IsFaultOf form d) found
-  least_of_items found is = least_same fault_cmp (Among (IsItemFault item) (items_in d)) (IsFaultOf form d) found to (λ fault. back fault.rule fault.place) is
+  least_of_items found is =
+      least_same fault_cmp (Among (IsItemFault item) (items_in d)) (IsFaultOf form d) found to (λ fault. back fault.rule fault.place) is
     where
       to : (fault : Fault) → Among (IsItemFault item) (items_in d) fault → IsFaultOf form d fault
       to fault some =
@@ -89,21 +98,24 @@ module _ (form item : Form) (d : Data)
           record { i = i; item = some.0; here = some.1; holds = record { rest = place; reached = refl; holds = some.2 } }
 
 -- an array of objects
-pub array_least : (shape : Shape) (d : Data) (found : Option Fault) → Fits (Array shape) d → IsLeast fault_cmp (Among (IsItemFault (Object shape)) (items_in d)) found
-    → IsLeast fault_cmp (IsFaultOf (Array shape) d) found
-array_least shape d = λ found fits. least_of_items (Array shape) (Object shape) d (λ rule i place part at inside. (part, at, inside)) (λ rule i place broken. broken)
+pub array_least : (shape : Shape) (d : Data) (found : Option Fault) → Fits (Array shape) d
+    → IsLeast fault_cmp (Among (IsItemFault (Object shape)) (items_in d)) found → IsLeast fault_cmp (IsFaultOf (Array shape) d) found
+array_least shape d = λ found fits. least_of_items (Array shape) (Object shape) d
+    (λ rule i place part at inside. (part, at, inside)) (λ rule i place broken. broken)
     (λ rule name place broken. broken) (λ rule. ⊎_elim (λ misfit. misfit.1 fits) (λ set. set.1)) found
 
 -- two of them
-pub pair_least : (shape : Shape) (d : Data) (found : Option Fault) → Fits (Pair shape) d → IsLeast fault_cmp (Among (IsItemFault (Object shape)) (items_in d)) found
-    → IsLeast fault_cmp (IsFaultOf (Pair shape) d) found
-pair_least shape d = λ found fits. least_of_items (Pair shape) (Object shape) d (λ rule i place part at inside. (fits, part, at, inside)) (λ rule i place broken. (broken.1, broken.2, broken.3))
+pub pair_least : (shape : Shape) (d : Data) (found : Option Fault) → Fits (Pair shape) d
+    → IsLeast fault_cmp (Among (IsItemFault (Object shape)) (items_in d)) found → IsLeast fault_cmp (IsFaultOf (Pair shape) d) found
+pair_least shape d = λ found fits. least_of_items (Pair shape) (Object shape) d
+    (λ rule i place part at inside. (fits, part, at, inside)) (λ rule i place broken. (broken.1, broken.2, broken.3))
     (λ rule name place broken. broken) (λ rule. ⊎_elim (λ misfit. misfit.1 fits) (λ set. set.1)) found
 
 -- an array of nodes without parts
-pub list_least : (leaf : Leaf) (d : Data) (found : Option Fault) → Fits (ListOf leaf) d → IsLeast fault_cmp (Among (IsItemFault (One leaf)) (items_in d)) found
-    → IsLeast fault_cmp (IsFaultOf (ListOf leaf) d) found
-list_least leaf d = λ found fits. least_of_items (ListOf leaf) (One leaf) d (λ rule i place part at inside. (part, at, inside)) (λ rule i place broken. broken)
+pub list_least : (leaf : Leaf) (d : Data) (found : Option Fault) → Fits (ListOf leaf) d
+    → IsLeast fault_cmp (Among (IsItemFault (One leaf)) (items_in d)) found → IsLeast fault_cmp (IsFaultOf (ListOf leaf) d) found
+list_least leaf d = λ found fits. least_of_items (ListOf leaf) (One leaf) d
+    (λ rule i place part at inside. (part, at, inside)) (λ rule i place broken. broken)
     (λ rule name place broken. broken) (λ rule. ⊎_elim (λ misfit. misfit.1 fits) (λ set. set.1)) found
 
 -- what a map gives comes of something
@@ -113,8 +125,8 @@ mapped None member is = absurd cc
 mapped (Some found) member is = (found, refl, let same : shown found ≡ member = cc in same)
 
 -- An object, by the rows of its shape and by its members.
-module _ (shape : Shape) (d : Data) (rows : List (Bor (List ℕ) × Entry)) (entries : List (String Global × Value)) (rows_are : as_rows rows ≡ rows_of shape)
-    (members_are : members_in d ≡ map shown entries) where
+module _ (shape : Shape) (d : Data) (rows : List (Bor (List ℕ) × Entry)) (entries : Entries)
+    (rows_are : as_rows rows ≡ rows_of shape) (members_are : members_in d ≡ map shown entries) where
   -- a lacking member, or a fault at a member
   abbrev LackFault : Fault → Type 0
   LackFault = Among (λ i row. IsLackFault shape d row.0.now) rows
@@ -122,10 +134,11 @@ module _ (shape : Shape) (d : Data) (rows : List (Bor (List ℕ) × Entry)) (ent
   abbrev EntryFault : Fault → Type 0
   EntryFault = Among (IsEntryFault shape) entries
 
-  pub object_least : (missing inside : Option Fault) → Fits (Object shape) d → IsLeast fault_cmp LackFault missing → IsLeast fault_cmp EntryFault inside
-      → IsLeast fault_cmp (IsFaultOf (Object shape) d) (earlier fault_cmp missing inside)
+  pub object_least : (missing inside : Option Fault) → Fits (Object shape) d → IsLeast fault_cmp LackFault missing
+      → IsLeast fault_cmp EntryFault inside → IsLeast fault_cmp (IsFaultOf (Object shape) d) (earlier fault_cmp missing inside)
   object_least missing inside fits least_missing least_inside =
-      least_same fault_cmp (λ fault. LackFault fault ⊎ EntryFault fault) (IsFaultOf (Object shape) d) (earlier fault_cmp missing inside) to (λ fault. back fault.rule fault.place)
+      least_same fault_cmp (λ fault. LackFault fault ⊎ EntryFault fault) (IsFaultOf (Object shape) d) (earlier fault_cmp missing inside)
+      to (λ fault. back fault.rule fault.place)
       (least_of_both fault_cmp fault_cmp_total LackFault EntryFault missing inside least_missing least_inside)
     where
       is_broken : Fault → List Step → Type 0
@@ -143,7 +156,8 @@ module _ (shape : Shape) (d : Data) (rows : List (Bor (List ℕ) × Entry)) (ent
       to : (fault : Fault) → LackFault fault ⊎ EntryFault fault → IsFaultOf (Object shape) d fault
       to fault = ⊎_elim (of_lack fault) (of_entry fault)
 
-      back : (rule : Rule) (place : List Step) → Breaks rule (Object shape) d place → LackFault (record { rule = rule; place = place }) ⊎ EntryFault (record { rule = rule; place = place })
+      back : (rule : Rule) (place : List Step) → Breaks rule (Object shape) d place
+          → LackFault (record { rule = rule; place = place }) ⊎ EntryFault (record { rule = rule; place = place })
       back rule [] broken = absurd (⊎_elim (λ misfit. misfit.1 fits) (λ set. set.1) broken)
       back rule (Item i ∷ place) broken = absurd broken
       back rule (Member name ∷ place) (inl lack) =
@@ -181,9 +195,11 @@ leaf_faultless leaf d fits unset fault = by fault.rule fault.place
     by rule (Item i ∷ place) broken = broken
 
 -- the same of items before they are seen as data
-pub among_map : (form : Form) (items : List Value) (found : Option Fault) → IsLeast fault_cmp (Among (λ i item. IsItemFault form i (view item)) items) found
+pub among_map : (form : Form) (items : List Value) (found : Option Fault)
+    → IsLeast fault_cmp (Among (λ i item. IsItemFault form i (view item)) items) found
     → IsLeast fault_cmp (Among (IsItemFault form) (map view items)) found
-among_map form items found is = least_same fault_cmp (Among (λ i item. IsItemFault form i (view item)) items) (Among (IsItemFault form) (map view items)) found to back is
+among_map form items found is =
+    least_same fault_cmp (Among (λ i item. IsItemFault form i (view item)) items) (Among (IsItemFault form) (map view items)) found to back is
   where
     to : (fault : Fault) → Among (λ i item. IsItemFault form i (view item)) items fault → Among (IsItemFault form) (map view items) fault
     to fault some = record { i = some.i; item = view some.item; here = slice_get-map view items some.i ∙ ap (option_map view) some.here; holds = some.holds }

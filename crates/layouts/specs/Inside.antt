@@ -31,9 +31,13 @@ IsItemFault form i d = Under (Item i) (IsFaultOf form d)
 abbrev pub IsPartFault : Shape → List ℕ → Data → Fault → Type 0
 IsPartFault shape name e fault = BreaksMember (λ form inside. Breaks fault.rule form inside fault.place) fault.rule fault.place (entry_of shape name) e
 
--- a fault at a member that an object of this shape has, or inside it; the member as an entry of the map
+-- a fault at a member that an object of this shape has, or inside it
+abbrev pub IsMemberFault : Shape → List ℕ → Data → Fault → Type 0
+IsMemberFault shape name e = Under (Member name) (IsPartFault shape name e)
+
+-- the same of a member as an entry of the map, at whatever place it stands there
 abbrev pub IsEntryFault : Shape → ℕ → String Global × Value → Fault → Type 0
-IsEntryFault shape i entry = Under (Member (string_bytes entry.0)) (IsPartFault shape (string_bytes entry.0) (view entry.1))
+IsEntryFault shape i entry = IsMemberFault shape (string_bytes entry.0) (view entry.1)
 
 -- the object lacks a member of this name
 pub record IsLackFault (shape : Shape) (d : Data) (name : List ℕ) (fault : Fault) : Type 0 where

@@ -6,7 +6,7 @@ ghost use Rattle.json_form.specs.TreeParts.{items_in, members_in};
 ghost use Rattle.least_fault.specs.Least.{Among, IsLeast};
 ghost use Rattle.layouts.specs.Faults.{fault_cmp};
 ghost use Rattle.layouts.specs.Forms.{Fits, IsFaultOf, IsSetFlag};
-ghost use Rattle.layouts.specs.Inside.{IsEntryFault, IsItemFault, IsPartFault, Under};
+ghost use Rattle.layouts.specs.Inside.{IsEntryFault, IsItemFault, IsMemberFault, IsPartFault};
 
 use crate::fault::Fault;
 use crate::form::{Entry, Form, Leaf, Shape};
@@ -139,7 +139,7 @@ fn first_in_member(
     name: &str,
     node: Node<'_>,
 ) -> Result<Option<Fault>, Memory>
-    ensures { IfOk result (λ found. IsLeast fault_cmp (Under (Step.Member name.now) (IsPartFault shape name.now (part_of node.entry))) found) }
+    ensures { IfOk result (λ found. IsLeast fault_cmp (IsMemberFault shape name.now (part_of node.entry)) found) }
 {
     match first_in_part(alloc, shape, name, node)? {
         None => Ok(None),

@@ -2,7 +2,7 @@
 use Rattle.std.proofs.Common.{◌≡◌, ◌≢◌, ◌⊎◌, ⊎_elim, inl, inr, ℕ, ◌+◌, ◌<◌, ◌≤◌, List, length, Option, Some, None, Bool, true, false, cond, refl, sym, ap, subst, ◌∙◌, arith}
 use Rattle.std.specs.declared.cmp.Ordering.{Ordering}
 use Rattle.std.specs.declared.cmp.Ordering.TheVariants.{Less, Equal, Greater}
-use Rattle.std.specs.Ordering.{is_gt, is_lt, ord_min, ordering_reverse}
+use Rattle.std.specs.Ordering.{is_gt, is_lt, ordering_reverse}
 use Rattle.std.specs.Cmp.{IsTotalOrder, tied_itself, upto}
 use Rattle.std.proofs.lemmas.Bool.{cases_eq}
 use Rattle.std.proofs.lemmas.Option.{slice_get_within}
@@ -69,7 +69,8 @@ module _ {F : Type 0} (cmp : F → F → Ordering) (total : IsTotalOrder cmp) wh
     pub least_more : (n : ℕ) (item : X) (found more : Option F) → At items n item → IsLeast cmp (AmongFirst P items n) found → IsLeast cmp (P n item) more
         → IsLeast cmp (AmongFirst P items (n + 1)) (earlier cmp found more)
     least_more n item found more here one other =
-        least_same cmp (λ fault. AmongFirst P items n fault ⊎ P n item fault) (AmongFirst P items (n + 1)) (earlier cmp found more) to back (least_of_both (AmongFirst P items n) (P n item) found more one other)
+        least_same cmp (λ fault. AmongFirst P items n fault ⊎ P n item fault) (AmongFirst P items (n + 1)) (earlier cmp found more) to back
+        (least_of_both (AmongFirst P items n) (P n item) found more one other)
       where
         to : (fault : F) → AmongFirst P items n fault ⊎ P n item fault → AmongFirst P items (n + 1) fault
         to fault = ⊎_elim
@@ -95,5 +96,6 @@ module _ {F : Type 0} (cmp : F → F → Ordering) (total : IsTotalOrder cmp) wh
         back fault some = record { among = some; within = (let w : some.i < length items = slice_get_within items some.i some.item some.here in omega arith) }
 
 -- the one fault that there is
-pub least_only : {F : Type 0} (cmp : F → F → Ordering) → IsTotalOrder cmp → (P : F → Type 0) (found : F) → P found → ((fault : F) → P fault → fault ≡ found) → IsLeast cmp P (Some found)
+pub least_only : {F : Type 0} (cmp : F → F → Ordering) → IsTotalOrder cmp → (P : F → Type 0) (found : F) → P found
+    → ((fault : F) → P fault → fault ≡ found) → IsLeast cmp P (Some found)
 least_only cmp total P found is only = (is, λ fault holds. untested (cmp found fault) (ap is_gt (ap (cmp found) (only fault holds) ∙ tied_itself total found)))

@@ -3,6 +3,8 @@
 
 mod finder;
 mod least;
+#[cfg(test)]
+mod tests;
 
 pub use finder::{Finder, first_among};
 pub use least::earlier;

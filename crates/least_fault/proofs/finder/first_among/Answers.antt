@@ -6,9 +6,13 @@ use Rattle.least_fault.proofs.finder.first_among.Goals as goal
 
 pub loop-place-preserved : goal.loop-place-preserved
 loop-place-preserved g c =
-    let P : Option g.row.F.Denot → Type 0 = λ found. IsLeast g.F.Ord.cmp (AmongFirst (g.S.Finder.wrong c.args.search.now) c.args.items.now (c.loop-place.place + 1)) found in
-    subst P (sym c.earlier-found.ensures) (least_more g.F.Ord.cmp g.met.F.Ord.total (g.S.Finder.wrong c.args.search.now) c.args.items.now c.loop-place.place _ _ _
+    let P : Option g.row.F.Denot → Type 0 = λ found.
+    IsLeast g.F.Ord.cmp (AmongFirst (g.S.Finder.wrong c.args.search.now) c.args.items.now (c.loop-place.place + 1)) found in
+    subst P (sym c.earlier-found.ensures)
+    (least_more g.F.Ord.cmp g.met.F.Ord.total (g.S.Finder.wrong c.args.search.now) c.args.items.now c.loop-place.place _ _ _
     (slice_get_read _ _ c.loop-place.place _ refl c.loop-place-test.true c.index-items-place.is) c.loop-place.invariant c.in_ok-find.ensures)
 
 pub returns : goal.returns
-returns g c = least_all g.F.Ord.cmp g.met.F.Ord.total (g.S.Finder.wrong c.args.search.now) c.args.items.now c.loop-place.place _ c.loop-place-test.false c.loop-place.invariant
+returns g c =
+    least_all g.F.Ord.cmp g.met.F.Ord.total (g.S.Finder.wrong c.args.search.now) c.args.items.now c.loop-place.place _
+    c.loop-place-test.false c.loop-place.invariant

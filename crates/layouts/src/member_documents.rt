@@ -1,0 +1,220 @@
+//! Documents for tests whose members are missing, unknown, left out or passed over.
+use crate::documents::{Case, ENTITY_TYPE, MAPPING, MODEL, PROPERTY, STORE, TABLE_TYPE};
+use crate::form::{Form, Shape};
+
+/// Members that are missing, unknown, left out and passed over.
+pub(crate) const MEMBERS: [Case; 32] = [
+    (
+        "the first of the missing members",
+        MODEL,
+        "{}",
+        Some((3, "/EntityContainer")),
+    ),
+    (
+        "a missing member inside one that is there",
+        MODEL,
+        r#"{"EntityContainer":{"EntitySet":[]},"EntityType":[],"Namespace":"N"}"#,
+        Some((3, "/EntityContainer/Name")),
+    ),
+    (
+        "a missing member comes where it would stand",
+        MODEL,
+        r#"{"Association":[{"End":[{"Role":"a","Type":"","Multiplicity":"1"},{"Role":"b","Type":"","Multiplicity":"1"}]}],"Namespace":"N","EntityContainer":{"Name":"C","EntitySet":[]}}"#,
+        Some((3, "/Association/0/Name")),
+    ),
+    (
+        "a missing member before one inside a later member",
+        STORE,
+        r#"{"Namespace":"S","EntityType":[{}]}"#,
+        Some((3, "/EntityContainer")),
+    ),
+    (
+        "a missing member of the second item",
+        Form::Array(Shape::Property),
+        r#"[{"Name":"P","Type":""},{"Name":"Q"}]"#,
+        Some((3, "/1/Type")),
+    ),
+    (
+        "a table without a key",
+        TABLE_TYPE,
+        r#"{"Name":"T"}"#,
+        Some((3, "/Key")),
+    ),
+    (
+        "a foreign key without a constraint",
+        Form::Object(Shape::ForeignKey),
+        r#"{"Name":"F","End":[{"Role":"a","Type":"","Multiplicity":"1"},{"Role":"b","Type":"","Multiplicity":"1"}]}"#,
+        Some((3, "/ReferentialConstraint")),
+    ),
+    (
+        "an enumeration without members",
+        Form::Object(Shape::EnumType),
+        r#"{"Name":"E"}"#,
+        Some((3, "/Member")),
+    ),
+    (
+        "another form before a missing member",
+        ENTITY_TYPE,
+        r#"{"Abstract":0}"#,
+        Some((2, "/Abstract")),
+    ),
+    (
+        "another form after a missing member",
+        ENTITY_TYPE,
+        r#"{"Property":0}"#,
+        Some((2, "/Property")),
+    ),
+    (
+        "an unknown member",
+        MODEL,
+        r#"{"Namespace":"N","EntityContainer":{"Name":"C","EntitySet":[],"X":[0]},"EntityType":[]}"#,
+        Some((4, "/EntityContainer/X")),
+    ),
+    (
+        "an unknown member with signs of pointers",
+        Form::Object(Shape::Condition),
+        r#"{"a/b~c":0}"#,
+        Some((4, "/a~1b~0c")),
+    ),
+    (
+        "a name in other letters",
+        Form::Object(Shape::EnumMember),
+        r#"{"Name":"M","value":0}"#,
+        Some((4, "/value")),
+    ),
+    (
+        "a missing member before an unknown one",
+        ENTITY_TYPE,
+        r#"{"X":0}"#,
+        Some((3, "/Name")),
+    ),
+    (
+        "an unknown member before a missing one",
+        PROPERTY,
+        r#"{"A":0,"Name":"P"}"#,
+        Some((3, "/Type")),
+    ),
+    (
+        "a member of another object",
+        ENTITY_TYPE,
+        r#"{"Name":"A","Multiplicity":"1"}"#,
+        Some((4, "/Multiplicity")),
+    ),
+    (
+        "a base type in a store",
+        TABLE_TYPE,
+        r#"{"Name":"A","Key":[],"BaseType":"N.B"}"#,
+        Some((4, "/BaseType")),
+    ),
+    (
+        "a navigation property in a store",
+        TABLE_TYPE,
+        r#"{"Name":"A","Key":[],"NavigationProperty":[]}"#,
+        Some((4, "/NavigationProperty")),
+    ),
+    (
+        "an enumeration in a store",
+        STORE,
+        r#"{"Namespace":"S","EntityContainer":{"Name":"C","EntitySet":[]},"EntityType":[],"EnumType":[]}"#,
+        Some((4, "/EnumType")),
+    ),
+    (
+        "a schema of a set in a model",
+        Form::Object(Shape::EntitySet),
+        r#"{"Name":"A","EntityType":"","Schema":"dbo"}"#,
+        Some((4, "/Schema")),
+    ),
+    (
+        "OnDelete at a set's end",
+        Form::Object(Shape::AssociationSetEnd),
+        r#"{"Role":"a","EntitySet":"A","OnDelete":0}"#,
+        Some((4, "/OnDelete")),
+    ),
+    (
+        "an unknown member before one that is left out",
+        ENTITY_TYPE,
+        r#"{"Name":"A","OpenType":0,"X":0}"#,
+        Some((4, "/X")),
+    ),
+    (
+        "one that is left out before an unknown member",
+        ENTITY_TYPE,
+        r#"{"Name":"A","A":0,"OpenType":0}"#,
+        Some((4, "/A")),
+    ),
+    (
+        "members that are left out, the first of them",
+        MODEL,
+        r#"{"Namespace":"N","Using":0,"EntityContainer":{"Name":"C","EntitySet":[]},"EntityType":[{"Name":"A"},{"Name":"B","Property":[{"Name":"P","Type":"","Scale":0,"DefaultValue":{"X":0}}]}]}"#,
+        Some((5, "/EntityType/1/Property/0/DefaultValue")),
+    ),
+    (
+        "flags that are set",
+        Form::Object(Shape::EnumType),
+        r#"{"Name":"E","Member":[],"IsFlags":true}"#,
+        Some((5, "/IsFlags")),
+    ),
+    (
+        "a mapping of one table at a set",
+        Form::Object(Shape::EntitySetMapping),
+        r#"{"Name":"A","EntityTypeMapping":[],"StoreEntitySet":"T"}"#,
+        Some((5, "/StoreEntitySet")),
+    ),
+    (
+        "a mapping of one type at a set",
+        Form::Object(Shape::EntitySetMapping),
+        r#"{"Name":"A","EntityTypeMapping":[],"TypeName":"N.A"}"#,
+        Some((5, "/TypeName")),
+    ),
+    (
+        "a fragment at a set",
+        Form::Object(Shape::EntitySetMapping),
+        r#"{"Name":"A","EntityTypeMapping":[],"MappingFragment":[]}"#,
+        Some((5, "/MappingFragment")),
+    ),
+    (
+        "an Alias in a mapping",
+        MAPPING,
+        r#"{"EntityContainerMapping":{"StorageEntityContainer":"S","CdmEntityContainer":"C"},"Alias":[]}"#,
+        Some((5, "/Alias")),
+    ),
+    (
+        "passed over wherever they stand",
+        PROPERTY,
+        r#"{"Name":"P","Type":"","xmlns":0,"xmlns:a":0,":":0,"Documentation":0,"Unicode":0,"FixedLength":0,"StoreGeneratedPattern":0,"ConcurrencyMode":0,"Provider":0,"ProviderManifestToken":0,"Space":0}"#,
+        None,
+    ),
+    (
+        "nothing is looked at inside them",
+        PROPERTY,
+        r#"{"Name":"P","Type":"","a:b":{"X":0,"Scale":[0]},"Documentation":[{"Function":0}]}"#,
+        None,
+    ),
+    (
+        "deep inside, passed over",
+        MAPPING,
+        r#"{"EntityContainerMapping":{"StorageEntityContainer":"S","CdmEntityContainer":"C","EntitySetMapping":[{"Name":"A","EntityTypeMapping":[{"TypeName":"","MappingFragment":[{"StoreEntitySet":"T","ScalarProperty":[{"Name":"P","ColumnName":"c","a:Scale":{"Scale":0},"Documentation":0}]}]}]}]}}"#,
+        None,
+    ),
+];
+
+/// The names of members that are left out wherever they stand.
+pub(crate) const LEFT_OUT: [&str; 17] = [
+    "ComplexType",
+    "ComplexProperty",
+    "FunctionImport",
+    "FunctionImportMapping",
+    "Function",
+    "ModificationFunctionMapping",
+    "QueryView",
+    "DefiningQuery",
+    "OpenType",
+    "Using",
+    "ContainsTarget",
+    "DefaultValue",
+    "Collation",
+    "Precision",
+    "Scale",
+    "SRID",
+    "MakeColumnsDistinct",
+];
