@@ -18,7 +18,7 @@ pub type NamedFiles = RefCell<BTreeMap<String, Vec<u8>>>;
 pub enum FakeFault {
     /// Nothing.
     Nothing,
-    /// A read of the byte at this place.
+    /// The first read of the byte at this place.
     ReadAt(usize),
     /// A write to a file that has so many bytes.
     WriteAt(usize),
@@ -41,6 +41,7 @@ pub struct FakeFile<'d> {
     disk: FakeDisk<'d>,
     name: String,
     at: usize,
+    has_failed: bool,
 }
 
 // What a call answers that no test makes.
@@ -62,7 +63,11 @@ impl<'d> FakeDisk<'d> {
 
 impl<'d> Read for FakeFile<'d> {
     fn read(&mut self, buffer: &mut [u8]) -> io::Result<usize> {
-        self.disk.may(FakeFault::ReadAt(self.at))?;
+        if !self.has_failed {
+            let answer = self.disk.may(FakeFault::ReadAt(self.at));
+            self.has_failed = answer.is_err();
+            answer?;
+        }
         let Ok(files) = self.disk.files.try_borrow() else {
             return unsupported();
         };
@@ -142,6 +147,7 @@ impl<'d> Files for FakeDisk<'d> {
             disk: *self,
             name,
             at: 0,
+            has_failed: false,
         })
     }
 

@@ -145,6 +145,18 @@ fn faults_of_the_disk_are_told(rt: HostRuntime) -> Result<(), Fail> {
     Ok(())
 }
 
+#[test]
+fn an_interrupted_read_goes_on(rt: HostRuntime) -> Result<(), Fail> {
+    let files = one_file(rt.alloc(), &[0, 1, 2, 3])?;
+    let name = Txt::of(rt.alloc(), "M.json")?;
+    let fault = FakeFault::ReadAt(2);
+    let mut disk = disk_with(rt.alloc(), &files, fault, ErrorKind::Interrupted);
+    let bytes = disk.read(rt.alloc(), &name, 4)?;
+    assert_eq!(rt; bytes.as_slice(), [0u8, 1, 2, 3].as_slice());
+    assert_eq!(rt; disk.faults(), 0);
+    Ok(())
+}
+
 // Nothing past the limit and one byte is read: a fault there isn't met.
 #[test]
 fn disk_files_read_no_further(rt: HostRuntime) -> Result<(), Fail> {

@@ -7,7 +7,19 @@ const ACCEPTED: (&str, u8) = ("accepted\n", 0);
 
 const NOT_OF_THE_FORM: (&str, u8) = ("rule V99 msl \"\"\n", 1);
 
-const NO_JSON: (&str, u8) = ("rule V1 msl \"\"\n", 1);
+const NO_FLAG: (&str, u8) = (
+    "rule V2 csdl \"/EntityType/0/Property/0/Nullable\"\n",
+    1,
+);
+
+const NO_TYPE: (&str, u8) = ("rule V3 csdl \"/EntityType/0/Property/0/Type\"\n", 1);
+
+const UNKNOWN: (&str, u8) = ("rule V4 csdl \"/X\"\n", 1);
+
+const LEFT_OUT: (&str, u8) = (
+    "rule V5 csdl \"/EntityType/0/Property/0/DefaultValue\"\n",
+    1,
+);
 
 const LOST: (&str, u8) = (
     "fails same\nat {\"key\":[7],\"name\":\"People\",\"part\":\"\"}\nstate {\"People\":[{\"$type\":\"N.Person\",\"Id\":7,\"Name\":null}]}\nother {\"People\":[{\"$type\":\"N.Person\",\"Id\":7,\"Name\":\"a\"}]}\n",
@@ -20,7 +32,7 @@ const LOST_WITH_QUOTES: (&str, u8) = (
 );
 
 /// What the documents show, their edits, and what is told of them with which number.
-pub(crate) const FORMS: [(&str, &[Edit], (&str, u8)); 25] = [
+pub(crate) const FORMS: [(&str, &[Edit], (&str, u8)); 29] = [
     ("the first example", &[], ACCEPTED),
     (
         "a name that isn't written",
@@ -260,11 +272,35 @@ pub(crate) const FORMS: [(&str, &[Edit], (&str, u8)); 25] = [
         NOT_OF_THE_FORM,
     ),
     (
+        "a flag that is a text",
+        &[("M", r#""Nullable":false"#, r#""Nullable":"false""#)],
+        NO_FLAG,
+    ),
+    (
+        "a property without a type",
+        &[("M", r#""Type":"Int32","#, r#""#)],
+        NO_TYPE,
+    ),
+    (
+        "a default value",
+        &[(
+            "M",
+            r#""Nullable":false"#,
+            r#""Nullable":false,"DefaultValue":7"#,
+        )],
+        LEFT_OUT,
+    ),
+    (
+        "a member that is passed over",
+        &[("M", r#"20}]}]}"#, r#"20}]}],"Documentation":{"X":1}}"#)],
+        NOT_OF_THE_FORM,
+    ),
+    (
         "no JSON, and before it an unknown member",
         &[
             ("M", r#"20}]}]}"#, r#"20}]}],"X":1}"#),
             ("P", r#"{"EntityContainerMapping":"#, r#""#),
         ],
-        NO_JSON,
+        UNKNOWN,
     ),
 ];

@@ -301,44 +301,53 @@ fn refuses_prefixes(rt: &impl Abort, alloc: Global, name: &str, document: &[u8],
     }
 }
 
-/// Bytes from the outside, and whether they are JSON.
-const HOSTILE: [(&[u8], bool); 21] = [
+/// What is told of a model that is no JSON.
+const NO_JSON: &str = "rule V1 csdl \"\"\n";
+
+/// What is told of a model that is no object.
+const NO_OBJECT: &str = "rule V2 csdl \"\"\n";
+
+/// Bytes from the outside, and what is told of them as a model.
+const HOSTILE: [(&[u8], &str); 21] = [
     // a byte order mark
-    (b"\xef\xbb\xbf{}", false),
+    (b"\xef\xbb\xbf{}", NO_JSON),
     // half of a surrogate pair
-    (b"\"\\ud800\"", false),
-    (b"\"\\ud83d\\ude00\"", true),
+    (b"\"\\ud800\"", NO_JSON),
+    (b"\"\\ud83d\\ude00\"", NO_OBJECT),
     // an overlong, a truncated and a surrogate sequence
-    (b"\"\xc0\xaf\"", false),
-    (b"\"\xe2\x82\"", false),
-    (b"\"\xed\xa0\x80\"", false),
+    (b"\"\xc0\xaf\"", NO_JSON),
+    (b"\"\xe2\x82\"", NO_JSON),
+    (b"\"\xed\xa0\x80\"", NO_JSON),
     // numbers past the floats, at and past the ends of 64 bits, and below zero at zero
-    (b"1e999", false),
-    (b"-1e999", false),
-    (b"1e-999", true),
-    (b"-0", true),
-    (b"9223372036854775807", true),
-    (b"9223372036854775808", true),
-    (b"-9223372036854775808", true),
-    (b"-9223372036854775809", true),
-    (b"18446744073709551615", true),
-    (b"18446744073709551616", true),
-    (b"01", false),
+    (b"1e999", NO_JSON),
+    (b"-1e999", NO_JSON),
+    (b"1e-999", NO_OBJECT),
+    (b"-0", NO_OBJECT),
+    (b"9223372036854775807", NO_OBJECT),
+    (b"9223372036854775808", NO_OBJECT),
+    (b"-9223372036854775808", NO_OBJECT),
+    (b"-9223372036854775809", NO_OBJECT),
+    (b"18446744073709551615", NO_OBJECT),
+    (b"18446744073709551616", NO_OBJECT),
+    (b"01", NO_JSON),
     // members that stand twice
-    (b"{\"Namespace\":\"N\",\"Namespace\":\"N\"}", true),
+    (
+        b"{\"Namespace\":\"N\",\"Namespace\":\"N\"}",
+        "rule V3 csdl \"/EntityContainer\"\n",
+    ),
     // two documents, none, and a cut off word
-    (b"[1] [2]", false),
-    (b" ", false),
-    (b"nul", false),
+    (b"[1] [2]", NO_JSON),
+    (b" ", NO_JSON),
+    (b"nul", NO_JSON),
 ];
 
-// What reading a document and `check` tell of these bytes.
-fn is_read_as(rt: &impl Abort, alloc: Global, bytes: &[u8], is_json: bool) {
+// Whether reading a document finds JSON in these bytes, and what `check` tells of them as a model.
+fn is_read_as(rt: &impl Abort, alloc: Global, bytes: &[u8], text: &str) {
     let read = Doc::of_bytes(alloc, &Bin::of(alloc, bytes).expect(rt, "memory"));
-    let (fault, text) = if is_json {
-        (None, "rule V99 msl \"\"\n")
+    let fault = if text == NO_JSON {
+        Some(DocFault::NotJson)
     } else {
-        (Some(DocFault::NotJson), "rule V1 csdl \"\"\n")
+        None
     };
     assert_eq!(rt; read.err(), fault);
     tells_with(rt, alloc, ("M", bytes), (text, 1));
@@ -346,8 +355,8 @@ fn is_read_as(rt: &impl Abort, alloc: Global, bytes: &[u8], is_json: bool) {
 
 #[test]
 fn reads_hostile_documents(rt: HostRuntime) {
-    for (bytes, is_json) in HOSTILE {
-        is_read_as(&rt, rt.alloc(), bytes, is_json);
+    for (bytes, text) in HOSTILE {
+        is_read_as(&rt, rt.alloc(), bytes, text);
     }
 }
 
@@ -365,9 +374,9 @@ fn nested(rt: &impl Abort, alloc: Global, depth: usize, closed: bool) -> Vec<u8>
 #[test]
 fn refuses_deep_nesting(rt: HostRuntime) {
     let deepest = nested(&rt, rt.alloc(), 127, true);
-    is_read_as(&rt, rt.alloc(), deepest.as_slice(), true);
+    is_read_as(&rt, rt.alloc(), deepest.as_slice(), NO_OBJECT);
     let deeper = nested(&rt, rt.alloc(), 128, true);
-    is_read_as(&rt, rt.alloc(), deeper.as_slice(), false);
+    is_read_as(&rt, rt.alloc(), deeper.as_slice(), NO_JSON);
     let open = nested(&rt, rt.alloc(), 1_048_576, false);
-    is_read_as(&rt, rt.alloc(), open.as_slice(), false);
+    is_read_as(&rt, rt.alloc(), open.as_slice(), NO_JSON);
 }

@@ -7,7 +7,7 @@ use round_trip::FailKind;
 pub struct Failure {
     /// How the state fails.
     pub kind: FailKind,
-    /// Where it fails: the table or set, the key of the row or entity, and the column or property.
+    /// Where it fails: the fragment, table or set; the key of the row, entity or link; and the column or foreign key, as far as there are any.
     pub place: Place,
     /// The state that fails.
     pub state: EntityState,
