@@ -1,4 +1,4 @@
-mod Small
+pub mod Small
 mod Values
 mod Entities
 mod Writings

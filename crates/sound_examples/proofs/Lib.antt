@@ -1,0 +1,10 @@
+mod Lists
+mod Names
+mod Above
+mod Models
+mod People
+mod Staff
+mod Bosses
+mod Shop
+mod Lines
+mod BrokenModels

@@ -1,0 +1,5 @@
+use Rattle.sound_examples.proofs.Bosses.{sound}
+use Rattle.sound_examples.proofs.bosses_are_sound.Goals as goal
+
+pub returns : goal.returns
+returns c = record { model = sound }

@@ -1,0 +1,5 @@
+use Rattle.sound_examples.proofs.People.{sound}
+use Rattle.sound_examples.proofs.people_are_sound.Goals as goal
+
+pub returns : goal.returns
+returns c = record { model = sound }

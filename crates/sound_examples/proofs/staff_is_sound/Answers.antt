@@ -1,0 +1,5 @@
+use Rattle.sound_examples.proofs.Staff.{sound}
+use Rattle.sound_examples.proofs.staff_is_sound.Goals as goal
+
+pub returns : goal.returns
+returns c = record { model = sound }
