@@ -8,3 +8,6 @@ mod Bosses
 mod Shop
 mod Lines
 mod BrokenModels
+mod Stores
+mod SoundStores
+mod BrokenStores

@@ -1,5 +1,5 @@
 -- Facts on short lists, beside those of `worked_examples`.
-use Rattle.std.proofs.Common.{◌≢◌, List, [], ◌∷◌, refl}
+use Rattle.std.proofs.Common.{◌≡◌, ◌≢◌, List, [], ◌∷◌, refl}
 use Rattle.std.specs.Prelude.{All, Contains}
 use Rattle.std.specs.List.{AllByRecursion}
 use Rattle.std.proofs.lemmas.List.Elements.{All-from_recursion, All-cons, All-nil}
@@ -40,3 +40,6 @@ one_held x = record {
   all = All-from_recursion (Contains (x ∷ [])) (x ∷ []) (here x [], tt);
   only = All-from_recursion (Contains (x ∷ [])) (x ∷ []) (here x [], tt);
 }
+
+pub head_same : {X : Type 0} {x y : X} {xs ys : List X} → x ∷ xs ≡ y ∷ ys → x ≡ y
+head_same e = cc

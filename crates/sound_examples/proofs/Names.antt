@@ -60,7 +60,7 @@ each_two_named R name other_name [] ys each = tt
 each_two_named R name other_name (x ∷ xs) ys each = (each_named (R (name x)) other_name ys each.0, each_two_named R name other_name xs ys each.1)
 
 -- ids of different numbers differ
-other_number : (i j : ℕ) → (i == j) ≡ false → i ≢ j
+pub other_number : (i j : ℕ) → (i == j) ≡ false → i ≢ j
 other_number i j test same = let is : (i == j) ≡ true = (Decides-eqb i j).1 same in absurd (cc)
 
 pub other_prop : (p q : PropId) → (p.index == q.index) ≡ false → p ≢ q

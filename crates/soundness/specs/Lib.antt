@@ -6,3 +6,9 @@ pub mod ModelNames
 pub mod Inheritance
 pub mod Constraints
 pub mod Models
+pub mod Stores
+pub mod Fragments
+pub mod Conditions
+pub mod Owners
+pub mod Joined
+pub mod Mappings

@@ -1,16 +1,20 @@
 -- What stands at an id: the kind of a property or a column, whether it may be null, and the key of a set.
 -- Source: CSDL version 3, EntitySet, Key and Property; SSDL version 3, EntityType and Property.
-use Rattle.std.specs.Prelude.{◌≡◌, List, [], slice_get, Option, option_map, option_and_then, false}
+use Rattle.std.specs.Prelude.{◌≡◌, List, [], slice_get, Option, option_map, false}
 use Rattle.std.specs.Option.{option_map_or}
-use Rattle.round_trip.specs.Words.{SetId, PropId, TableId, ColId, Kind, EntityModel, Prop, EntitySet, StoreModel, At, HasBase, IsA, IsConcrete, TypeId, key_props}
+use Rattle.round_trip.specs.Words.{SetId, PropId, TableId, ColId, Kind, EntityModel, Prop, EntitySet, StoreModel, Column, At, HasBase, IsA, IsConcrete, TypeId, key_props}
 
 -- the kind of a property; None where the model has none at this id
 abbrev pub prop_kind : EntityModel → PropId → Option Kind
 prop_kind model prop = option_map (λ declared. declared.kind) (slice_get model.props prop.index)
 
--- the kind of a column
+-- the columns of a table
+abbrev pub columns_of : StoreModel → TableId → List Column
+columns_of store table = option_map_or (λ entry. entry.cols) (slice_get store.tables table.index) []
+
+-- the kind of a column; None where the store has none at this id
 abbrev pub column_kind : StoreModel → TableId → ColId → Option Kind
-column_kind store table col = option_map (λ column. column.kind) (option_and_then (λ entry. slice_get entry.cols col.index) (slice_get store.tables table.index))
+column_kind store table col = option_map (λ column. column.kind) (slice_get (columns_of store table) col.index)
 
 -- the property may not be null
 abbrev pub IsNeeded : EntityModel → PropId → Type 0

@@ -1,5 +1,6 @@
+use Rattle.sound_examples.proofs.SoundStores as stores
 use Rattle.sound_examples.proofs.Bosses.{sound}
 use Rattle.sound_examples.proofs.bosses_are_sound.Goals as goal
 
 pub returns : goal.returns
-returns c = record { model = sound }
+returns c = record { model = sound; hosted_store = stores.bossed; joined_store = stores.joined }
