@@ -11,3 +11,11 @@ mod BrokenModels
 mod Stores
 mod SoundStores
 mod BrokenStores
+mod Mappings
+mod FragmentFacts
+mod Schemas
+mod PeopleMapped
+mod BossesMapped
+mod ShopMapped
+mod BrokenMappings
+mod KindFacts

@@ -1,3 +1,5 @@
 pub mod Lines
 pub mod BrokenModels
 pub mod BrokenStores
+pub mod BrokenMappings
+pub mod Kinds

@@ -1,21 +1,22 @@
 -- Which properties and columns are joined, and which of them may have no Value condition.
 -- Source: the groups of properties and columns of this project's profile, over MSL version 3, ScalarProperty and Condition.
 use Rattle.std.specs.Prelude.{◌≡◌, ◌⊎◌, map, Contains, Some}
-use Rattle.round_trip.specs.Words.{PropId, TableId, ColId, Value, EntityModel, Prop, Assoc, Constraint, Fragment, Pair, LinkFragment, Cond, CondOn, Schema, At, key_props, key_columns}
+use Rattle.round_trip.specs.Words.{PropId, TableId, ColId, Value, EntityModel, Prop, Column, Assoc, Constraint, Fragment, Pair, LinkFragment, Cond, CondOn, Schema, At, key_props, key_columns}
 use Rattle.round_trip.specs.FailsAt.{IsHostedAt}
 use Rattle.edm_types.specs.declared.mapping.CondOn.TheVariants as on
 use Rattle.edm_types.specs.declared.mapping.Test.TheVariants.{Equals}
 use Rattle.soundness.specs.Kinds.{IsEnum}
+use Rattle.soundness.specs.Lookups.{columns_of}
 
 -- a property, or a column of a table
 pub data Member : Type 0 where
   prop : PropId → Member
   col : TableId → ColId → Member
 
--- a property that is no part of its type's key, or a column that is no part of its table's
+-- a property of the model that is no part of its type's key, or a column of the store that is no part of its table's
 abbrev pub IsNoKey : Schema → Member → Type 0
 IsNoKey schema (prop p) = (declared : Prop) × At schema.model.props p.index declared × ¬ Contains (key_props schema.model declared.owner) p
-IsNoKey schema (col t c) = ¬ Contains (key_columns schema.store t) c
+IsNoKey schema (col t c) = (column : Column) × At (columns_of schema.store t) c.index column × ¬ Contains (key_columns schema.store t) c
 
 -- the least equivalence over these that holds each property with the column that an entity fragment writes it to
 pub data Joined (schema : Schema) : Member → Member → Type 0 where

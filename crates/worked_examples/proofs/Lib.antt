@@ -1,5 +1,5 @@
 pub mod Small
-mod Values
+pub mod Values
 mod Entities
 mod Writings
 mod States
