@@ -13,8 +13,8 @@ use Rattle.soundness.specs.Lookups.{IsNeeded, HasConcrete}
 use Rattle.soundness.specs.Inheritance.{IsKeyProp, IsTypeNode, IsForest, top}
 use Rattle.soundness.specs.Constraints.{HasIndependentMults, HasArrow, arrow}
 use Rattle.soundness.specs.Models.{IsSoundModel}
-use Rattle.sound_examples.specs.BrokenModels.{optional_key, own_base, own_person, lost_employees, nobody, paired, paired_model, own_principal, own_principal_model}
-use Rattle.sound_examples.proofs.Lists.{all}
+use Rattle.sound_examples.specs.BrokenModels.{renamed_employee, inherited_name, unlisted_owner, unlisted_model, optional_key, own_base, own_person, lost_employees, nobody, paired, paired_model, own_principal, own_principal_model}
+use Rattle.sound_examples.proofs.Lists.{all, not_among}
 
 no_key : ¬ IsKeyProp optional_key (prop_id 0)
 no_key id = let is : optional (type_id 0) (codes "Id") kind.Int32 ≡ id.declared = cc (id.is_declared) in absurd (cc (is, id.needed))
@@ -61,3 +61,13 @@ leads_back = record {
 
 pub no_own_principal : ¬ IsSoundModel own_principal_model
 no_own_principal sound = sound.arrows (set_id 0) (arrow (set_id 0) (set_id 0) leads_back)
+
+pub no_inherited_name : ¬ IsSoundModel inherited_name
+no_inherited_name sound =
+    (sound.names.members (type_id 1) renamed_employee refl).inherited (type_id 0) person_type (type_id 0, (renamed_employee, refl, refl), same (type_id 0)) refl
+    0 (codes "Name") (omega arith) (1, omega arith, refl)
+
+pub no_unlisted : ¬ IsSoundModel unlisted_model
+no_unlisted sound =
+    let among : Contains [] (prop_id 0) = (sound.assocs 0 unlisted_owner (omega arith)).kind.lists.principal.all 0 (prop_id 0) (omega arith) in
+    not_among [] (prop_id 0) tt among

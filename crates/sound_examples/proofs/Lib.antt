@@ -19,3 +19,4 @@ mod BossesMapped
 mod ShopMapped
 mod BrokenMappings
 mod KindFacts
+mod SeatsMapped

@@ -4,9 +4,10 @@ use Rattle.round_trip.specs.Words.{EntityModel, EntityType, Assoc}
 use Rattle.emc_base.specs.declared.value.Kind.TheVariants as kind
 use Rattle.edm_types.specs.declared.model.Mult.TheVariants.{One, ZeroOrOne}
 use Rattle.edm_types.specs.declared.model.TypeNode.{TypeNode', end_of-TypeNode}
-use Rattle.worked_examples.specs.Ids.{type_id, prop_id, optional, leaf, concrete_type, model_of}
+use Rattle.worked_examples.specs.Ids.{type_id, prop_id, optional, leaf, stem, concrete_type, model_of}
 use Rattle.worked_examples.specs.People.{people_set, person_type, id_prop, name_prop}
 use Rattle.worked_examples.specs.Bosses.{people_as}
+use Rattle.worked_examples.specs.Owners.{owner, shop_model}
 use Rattle.worked_examples.specs.Salary.{employee_type, salary_prop}
 
 -- people whose id may be null
@@ -50,3 +51,24 @@ own_principal = record {
 
 abbrev pub own_principal_model : EntityModel
 own_principal_model = model_of (person_type ∷ []) (id_prop ∷ name_prop ∷ []) (leaf (type_id 0) ∷ []) (people_set ∷ []) (own_principal ∷ [])
+
+-- an employee has a name of their own, besides the one that they inherit
+abbrev pub renamed_employee : EntityType
+renamed_employee = concrete_type (codes "Employee") (Some (type_id 0)) (prop_id 0 ∷ []) (prop_id 0 ∷ prop_id 1 ∷ prop_id 2 ∷ [])
+
+abbrev pub inherited_name : EntityModel
+inherited_name = model_of (person_type ∷ renamed_employee ∷ []) (id_prop ∷ name_prop ∷ optional (type_id 1) (codes "Name") kind.Int32 ∷ []) (stem (type_id 0) (type_id 1) ∷ [])
+    (people_set ∷ []) []
+
+-- orders that refer to their owners by nothing
+abbrev pub unlisted_owner : Assoc
+unlisted_owner = record {
+  set_name = codes "Owner";
+  assoc_name = codes "Owner";
+  first = owner.first;
+  second = owner.second;
+  constraint = Some (record { dependent_first = false; principal = []; dependent = [] });
+}
+
+abbrev pub unlisted_model : EntityModel
+unlisted_model = model_of shop_model.types shop_model.props shop_model.forest shop_model.sets (unlisted_owner ∷ [])

@@ -3,3 +3,4 @@ pub mod BrokenModels
 pub mod BrokenStores
 pub mod BrokenMappings
 pub mod Kinds
+pub mod Seats

@@ -18,11 +18,13 @@ ghost use Rattle.sound_examples.specs.Kinds.{
   two_bytes,
 };
 ghost use Rattle.sound_examples.specs.Lines.{lines_model};
+ghost use Rattle.sound_examples.specs.Seats.{swapped};
 ghost use Rattle.worked_examples.specs.Bosses.{bossed, bossed_model, bossed_store};
 ghost use Rattle.worked_examples.specs.ByKind.{optional_salaries, told_staff};
 ghost use Rattle.worked_examples.specs.JoinedBosses.{joined, joined_store};
 ghost use Rattle.worked_examples.specs.Owners.{shop, shop_model, shop_store};
 ghost use Rattle.worked_examples.specs.People.{people, people_model, people_store};
+ghost use Rattle.worked_examples.specs.Seats.{seats};
 ghost use Rattle.worked_examples.specs.Salary.{staff_model, staff_store};
 
 /// People with an id and a name.
@@ -55,13 +57,19 @@ pub fn shop_is_sound()
     ensures schema { IsSoundSchema shop }
 {}
 
+/// Seats, whose key has two parts, which the table's key has in another order.
+pub fn seats_are_sound()
+    ensures schema { IsSoundSchema seats }
+{}
+
 /// Lines of orders, whose key holds the order's: an arrow of V19, and no circle.
 pub fn lines_are_sound()
     ensures model { IsSoundModel lines_model }
 {}
 
 /// Models that aren't sound: a key property that may be null, a type based on itself, a forest without a derived type, a set in
-/// which nothing can stand, an association of one and one, and an arrow that leads from a set to itself.
+/// which nothing can stand, an association of one and one, an arrow that leads from a set to itself, a property with the name of an
+/// inherited one, and a principal list that isn't the key.
 pub fn broken_models_are_not_sound()
     ensures key { ¬ IsSoundModel models.optional_key }
     ensures base { ¬ IsSoundModel models.own_base }
@@ -69,6 +77,8 @@ pub fn broken_models_are_not_sound()
     ensures concrete { ¬ IsSoundModel models.nobody }
     ensures mults { ¬ IsSoundModel models.paired_model }
     ensures arrows { ¬ IsSoundModel models.own_principal_model }
+    ensures names { ¬ IsSoundModel models.inherited_name }
+    ensures principal { ¬ IsSoundModel models.unlisted_model }
 {}
 
 /// Stores that aren't sound: a key column that may be null, two columns of one name, and foreign keys that point from a column to
@@ -83,7 +93,7 @@ pub fn broken_stores_are_not_sound()
 /// Mappings that aren't sound. A fragment: that doesn't write the key; that has a condition on the key; that compares a name with a
 /// number; that writes a name to a column that is too short; that writes a property that its type doesn't have; that stands twice;
 /// and one of a second set to the same table. A Value condition on the column that hosts a boss, and on a property that is written to
-/// it; an enumeration that is written to it. A link fragment of an association that has a constraint.
+/// it; an enumeration that is written to it. A link fragment of an association that has a constraint. Two fragments that pair the key differently.
 pub fn broken_mappings_are_not_sound()
     ensures key { ¬ IsSoundSchema mappings.keyless }
     ensures condition { ¬ IsSoundSchema mappings.one_id }
@@ -96,6 +106,7 @@ pub fn broken_mappings_are_not_sound()
     ensures joined { ¬ IsSoundSchema mappings.told_boss }
     ensures joined_enum { ¬ IsSoundSchema mappings.enum_boss }
     ensures constraint { ¬ IsSoundSchema mappings.mapped_owner }
+    ensures pairing { ¬ IsSoundSchema swapped }
 {}
 
 /// Enumerations, and bounds: the numbers of an enumeration rise within its underlying kind, and there are some; a bound is 1 to

@@ -8,6 +8,7 @@ use Rattle.soundness.specs.Lists.{AreApart, places_of}
 use Rattle.soundness.specs.Kinds.{IsKeyKind}
 use Rattle.soundness.specs.Lookups.{IsAncestor}
 
+-- the property and the type at a place
 abbrev pub prop_numbered : ℕ → PropId
 prop_numbered place = record { index = place }
 
@@ -64,12 +65,12 @@ pub data IsNodeOf (trees : List TypeNode) : TypeNode → Type 0 where
   top : (node : TypeNode) → Contains trees node → IsNodeOf trees node
   below : (node child : TypeNode) → IsNodeOf trees node → Contains (nodes_below node) child → IsNodeOf trees child
 
--- the node of a type: below it stand those of the types based on it
+-- the node of a type: it has the type's flag, and below it stand those of the types based on it, in their order
 pub record IsTypeNode (model : EntityModel) (node : TypeNode) : Type 0 where
   pub children : map node_type (nodes_below node) ≡ types_based_on model (node_type node)
   pub flag : (type : EntityType) → At model.types (node_type node).index type → (out-TypeNode node).is_abstract ≡ type.is_abstract
 
--- the forest of the base types: a tree for each type without a base
+-- the forest of the base types: a tree for each type without a base, in their order
 pub record IsForest (model : EntityModel) (trees : List TypeNode) : Type 0 where
   pub roots : map node_type trees ≡ root_types model
   pub nodes : (node : TypeNode) → IsNodeOf trees node → IsTypeNode model node

@@ -35,10 +35,12 @@ IsSoundKind (kind.Binary bound) = IsSoundBound bound
 IsSoundKind (kind.Enum enumeration) = IsSoundEnum enumeration
 IsSoundKind _ = ⊤
 
+-- an enumeration
 abbrev pub IsEnum : Kind → Type 0
 IsEnum (kind.Enum enumeration) = ⊤
 IsEnum _ = ⊥
 
+-- a list of bytes
 abbrev pub IsBinary : Kind → Type 0
 IsBinary (kind.Binary bound) = ⊤
 IsBinary _ = ⊥

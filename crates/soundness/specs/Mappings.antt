@@ -22,6 +22,7 @@ abbrev pub IsCondId : Schema → TableId → CondOn → Type 0
 IsCondId schema table (on.Prop prop) = IsPropId schema.model prop
 IsCondId schema table (on.Col col) = IsColId schema.store table col
 
+-- every id of a fragment is in range
 pub record HasFragmentIds (schema : Schema) (fragment : Fragment) : Type 0 where
   pub set : IsSetId schema.model fragment.set
   pub picks : All (λ pick. IsTypeId schema.model pick.ty) fragment.picks
@@ -29,13 +30,14 @@ pub record HasFragmentIds (schema : Schema) (fragment : Fragment) : Type 0 where
   pub pairs : All (HasPairIds schema fragment.table) fragment.pairs
   pub conds : All (λ cond. IsCondId schema fragment.table cond.on) fragment.conds
 
+-- every id of a link fragment is in range
 pub record HasLinkFragmentIds (schema : Schema) (fragment : LinkFragment) : Type 0 where
   pub assoc : fragment.assoc.index < length schema.model.assocs
   pub table : IsTableId schema.store fragment.table
   pub pairs : All (HasPairIds schema fragment.table) (fragment.first ++ fragment.second)
   pub conds : All (λ cond. IsCondId schema fragment.table cond.on) fragment.conds
 
--- a fragment of entities
+-- a fragment of entities is sound
 pub record IsSoundFragment (schema : Schema) (fragment : Fragment) : Type 0 where
   pub ids : HasFragmentIds schema fragment
   -- V27
@@ -57,7 +59,7 @@ pub record IsSoundFragment (schema : Schema) (fragment : Fragment) : Type 0 wher
   -- V39
   pub once : WritesOnce fragment.pairs
 
--- a fragment of links, of this association
+-- a fragment of links of this association is sound
 pub record IsSoundLinkFragment (schema : Schema) (fragment : LinkFragment) (assoc : Assoc) : Type 0 where
   -- V29
   pub kinds : All (WritesToFitting schema fragment.table) (fragment.first ++ fragment.second)
@@ -79,7 +81,7 @@ pub record IsSoundLinkFragment (schema : Schema) (fragment : LinkFragment) (asso
   -- V39
   pub once : WritesLinkOnce fragment
 
--- a mapping between the model and the store
+-- a mapping is sound between its model and its store
 pub record IsSoundMapping (schema : Schema) : Type 0 where
   pub fragments : All (IsSoundFragment schema) schema.mapping.fragments
   pub link_ids : All (HasLinkFragmentIds schema) schema.mapping.links
@@ -93,6 +95,7 @@ pub record IsSoundMapping (schema : Schema) : Type 0 where
   -- V32
   pub owners : HasOneOwner schema
 
+-- a model with a store and a mapping is sound
 pub record IsSoundSchema (schema : Schema) : Type 0 where
   pub model : IsSoundModel schema.model
   pub store : IsSoundStore schema.store

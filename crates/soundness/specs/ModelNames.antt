@@ -5,13 +5,13 @@ use Rattle.round_trip.specs.Words.{TypeId, EntityModel, EntityType, Assoc, End, 
 use Rattle.soundness.specs.Lists.{AreApart}
 use Rattle.soundness.specs.Lookups.{IsAncestor}
 
--- the same role, type and multiplicity; the sets may differ
+-- one end of one association: the same role, type and multiplicity. The sets may differ.
 pub record IsOneEnd (end other : End) : Type 0 where
   pub role : end.role ≡ other.role
   pub type : end.ty ≡ other.ty
   pub mult : end.mult ≡ other.mult
 
--- two association sets of one association
+-- two association sets are of one association
 pub record IsOneAssociation (assoc other : Assoc) : Type 0 where
   pub first : IsOneEnd assoc.first other.first
   pub second : IsOneEnd assoc.second other.second
@@ -27,8 +27,8 @@ pub record HasDistinctMembers (model : EntityModel) (t : TypeId) (type : EntityT
   pub inherited : (u : TypeId) (ancestor : EntityType) → IsAncestor model u t → At model.types u.index ancestor
       → All (λ name. ¬ Contains (own_names model u ancestor) name) (own_names model t type)
 
--- V6: types and associations together, sets and association sets together, and the roles of an association. An association
--- that several association sets name counts once.
+-- V6: types and associations together, sets and association sets together, and the roles of an association. An association that several
+-- association sets name counts once: what has its name is this association. V6 and V11: the members of each type.
 pub record HasDistinctNames (model : EntityModel) : Type 0 where
   pub types : AreApart (map (λ type. type.name) model.types)
   pub assocs : AllPairs (λ assoc other. assoc.assoc_name ≡ other.assoc_name → IsOneAssociation assoc other) model.assocs

@@ -9,13 +9,15 @@ use Rattle.soundness.specs.ModelNames.{HasDistinctNames}
 use Rattle.soundness.specs.Inheritance.{HasNoCircle, HasInheritedProps, HasInheritedKey, IsKeyProp, IsForest}
 use Rattle.soundness.specs.Constraints.{IsSoundAssoc, HasNoCircleOfArrows}
 
--- a type's properties and key: V9, V10
+-- a type's properties and key are those that its base type gives, and its own. V9, V10.
 pub record IsSoundType (model : EntityModel) (t : TypeId) (type : EntityType) : Type 0 where
   pub props : HasInheritedProps model t type
   pub key : HasInheritedKey model t type
   pub key_props : All (IsKeyProp model) type.key
 
+-- a model is sound
 pub record IsSoundModel (model : EntityModel) : Type 0 where
+  -- every id is in range
   pub ids : HasModelIds model
   -- V6, V11
   pub names : HasDistinctNames model
@@ -31,4 +33,5 @@ pub record IsSoundModel (model : EntityModel) : Type 0 where
   pub assocs : All (IsSoundAssoc model) model.assocs
   -- V19
   pub arrows : HasNoCircleOfArrows model
+  -- the forest is that of the base types
   pub forest : IsForest model model.forest

@@ -7,12 +7,15 @@ use Rattle.soundness.specs.Lists.{AreApart, HoldsEachOnce}
 use Rattle.soundness.specs.Kinds.{IsSoundKind, IsEnum, IsKeyKind, without_bound}
 use Rattle.soundness.specs.Lookups.{columns_of, column_kind}
 
+-- the id is that of a table
 abbrev pub IsTableId : StoreModel → TableId → Type 0
 IsTableId store table = table.index < length store.tables
 
+-- that of a column of this table
 abbrev pub IsColId : StoreModel → TableId → ColId → Type 0
 IsColId store table col = col.index < length (columns_of store table)
 
+-- the tables and columns of a foreign key
 pub record HasForeignIds (store : StoreModel) (key : ForeignKey) : Type 0 where
   pub from : IsTableId store key.from
   pub to : IsTableId store key.to
@@ -49,6 +52,7 @@ pub record HasPrimaryKey (table : Table) : Type 0 where
   pub once : AreApart table.key
   pub columns : All (IsKeyColumn table) table.key
 
+-- V13, V21 to V23
 pub record IsSoundTable (table : Table) : Type 0 where
   pub columns : All IsSoundColumn table.cols
   pub key : HasPrimaryKey table
@@ -69,7 +73,9 @@ pub record IsSoundForeignKey (store : StoreModel) (key : ForeignKey) : Type 0 wh
   pub columns : HasMatchedColumns store key
   pub elsewhere : PointsElsewhere key
 
+-- a store is sound
 pub record IsSoundStore (store : StoreModel) : Type 0 where
+  -- every id is in range
   pub ids : HasStoreIds store
   -- V6
   pub names : HasDistinctStoreNames store

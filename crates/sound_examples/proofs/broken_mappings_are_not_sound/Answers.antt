@@ -1,3 +1,4 @@
+use Rattle.sound_examples.proofs.SeatsMapped.{no_swapped}
 use Rattle.sound_examples.proofs.BrokenMappings as broken
 use Rattle.sound_examples.proofs.broken_mappings_are_not_sound.Goals as goal
 
@@ -14,4 +15,5 @@ returns c = record {
   joined = broken.no_told_boss;
   joined_enum = broken.no_enum_boss;
   constraint = broken.no_mapped_owner;
+  pairing = no_swapped;
 }

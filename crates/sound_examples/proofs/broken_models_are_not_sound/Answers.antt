@@ -9,4 +9,6 @@ returns c = record {
   concrete = broken.no_nobody;
   mults = broken.no_paired;
   arrows = broken.no_own_principal;
+  names = broken.no_inherited_name;
+  principal = broken.no_unlisted;
 }
