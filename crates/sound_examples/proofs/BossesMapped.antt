@@ -57,7 +57,8 @@ module _ (mult : Mult) where
     props_once = ((other_prop (prop_id 0) (prop_id 1) refl, tt), (tt, tt));
     cols_once = ((other_col (col_id 0) (col_id 1) refl, tt), (tt, tt));
     cond_ids = tt;
-    other_columns = tt;
+    shared_conds = tt;
+    outside = tt;
     constants = tt;
     barred = tt;
   })
@@ -70,9 +71,9 @@ module _ (mult : Mult) where
     );
     first = one_held (prop_id 0);
     second = one_held (prop_id 0);
-    no_prop = no_prop (bossed mult) (table_id 0) [] tt;
+    no_prop = no_prop [] tt;
     constants = all (ComparesInDomain (bossed mult) (table_id 0)) [] tt;
-    no_key_column = no_key_column (bossed mult) (table_id 0) [] tt;
+    no_key_column = no_key_column [] (bossed mult) (table_id 0) [] tt;
     placed = inl (hosted_at (bossed mult) (table_id 0) (pair_of 0 0 ∷ []) ((0, omega arith, refl), tt) ((0, omega arith, refl), tt));
     independent = refl;
     barred = all (ComparesNoBarred (bossed mult) (table_id 0)) [] tt;
@@ -138,7 +139,8 @@ joined_people = fragment_from joined all_people (record {
   props_once = ((other_prop (prop_id 0) (prop_id 1) refl, tt), (tt, tt));
   cols_once = ((other_col (col_id 0) (col_id 1) refl, tt), (tt, tt));
   cond_ids = tt;
-  other_columns = tt;
+  shared_conds = tt;
+  outside = tt;
   constants = tt;
   barred = tt;
 })
@@ -166,9 +168,9 @@ sound_joined_links = record {
   );
   first = one_held (prop_id 0);
   second = one_held (prop_id 0);
-  no_prop = no_prop joined (table_id 1) [] tt;
+  no_prop = no_prop [] tt;
   constants = all (ComparesInDomain joined (table_id 1)) [] tt;
-  no_key_column = no_key_column joined (table_id 1) [] tt;
+  no_key_column = no_key_column [] joined (table_id 1) [] tt;
   placed = inr (inr is_joined);
   independent = refl;
   barred = all (ComparesNoBarred joined (table_id 1)) [] tt;

@@ -1,8 +1,8 @@
 -- A sound fragment of entities, by facts on its lists.
-use Rattle.std.proofs.Common.{◌≡◌, ◌≢◌, List, [], ◌∷◌, map, refl, subst, sym}
-use Rattle.std.specs.Prelude.{Some, All, Any, Contains}
+use Rattle.std.proofs.Common.{◌≡◌, ◌≢◌, map, subst, sym}
+use Rattle.std.specs.Prelude.{Some, Any, Contains}
 use Rattle.std.specs.List.{AllByRecursion}
-use Rattle.round_trip.specs.Words.{Kind, Fragment, Pair, Schema, props_of, key_columns}
+use Rattle.round_trip.specs.Words.{Kind, Fragment, Pair, Schema, key_columns}
 use Rattle.worked_examples.proofs.Small.{PairsByRecursion}
 use Rattle.soundness.specs.Kinds.{IsEnum}
 use Rattle.soundness.specs.Lookups.{prop_kind, set_key, IsUnderElement}
@@ -13,7 +13,7 @@ use Rattle.soundness.specs.Conditions.{ComparesInDomain}
 use Rattle.soundness.specs.Joined.{Member, TellsOther, IsBarred, ComparesNoBarred, WritesNoBarredEnum}
 use Rattle.soundness.specs.Mappings.{HasPairIds, IsCondId, IsSoundFragment}
 use Rattle.sound_examples.proofs.Lists.{all, apart}
-use Rattle.sound_examples.proofs.Mappings.{IsOtherColumn, shared_props, no_key_prop, no_key_column}
+use Rattle.sound_examples.proofs.Mappings.{IsOutside, IfProp, IsShared, shared_props, no_key_prop, no_key_column}
 
 pub record FragmentFacts (schema : Schema) (fragment : Fragment) : Type 0 where
   pub set_id : IsSetId schema.model fragment.set
@@ -21,7 +21,7 @@ pub record FragmentFacts (schema : Schema) (fragment : Fragment) : Type 0 where
   pub pick_ids : AllByRecursion (λ pick. IsTypeId schema.model pick.ty) fragment.picks
   pub picks : AllByRecursion (λ pick. IsUnderElement schema.model fragment.set pick.ty) fragment.picks
   pub pair_ids : AllByRecursion (HasPairIds schema fragment.table) fragment.pairs
-  pub shared : AllByRecursion (λ pair. AllByRecursion (λ pick. Contains (props_of schema.model pick.ty) pair.prop) fragment.picks) fragment.pairs
+  pub shared : AllByRecursion (λ pair. IsShared schema fragment pair.prop) fragment.pairs
   pub fitting : AllByRecursion (WritesToFitting schema fragment.table) fragment.pairs
   pub enums : AllByRecursion (WritesNoBarredEnum schema) fragment.pairs
   pub key_props : AllByRecursion (λ p. Any (λ pair. (pair.prop ≡ p) × Contains (key_columns schema.store fragment.table) pair.col) fragment.pairs) (set_key schema.model fragment.set)
@@ -29,16 +29,12 @@ pub record FragmentFacts (schema : Schema) (fragment : Fragment) : Type 0 where
   pub props_once : PairsByRecursion (λ one other. one ≢ other) (map (λ pair. pair.prop) fragment.pairs)
   pub cols_once : PairsByRecursion (λ one other. one ≢ other) (map (λ pair. pair.col) fragment.pairs)
   pub cond_ids : AllByRecursion (λ cond. IsCondId schema fragment.table cond.on) fragment.conds
-  pub other_columns : AllByRecursion (λ cond. IsOtherColumn (key_columns schema.store fragment.table) cond.on) fragment.conds
+  pub shared_conds : AllByRecursion (λ cond. IfProp (IsShared schema fragment) cond.on) fragment.conds
+  pub outside : AllByRecursion (λ cond. IsOutside (set_key schema.model fragment.set) (key_columns schema.store fragment.table) cond.on) fragment.conds
   pub constants : AllByRecursion (ComparesInDomain schema fragment.table) fragment.conds
   pub barred : AllByRecursion (ComparesNoBarred schema fragment.table) fragment.conds
 
 module _ (schema : Schema) (fragment : Fragment) where
-  each_shared : (pairs : List Pair) → AllByRecursion (λ pair. AllByRecursion (λ pick. Contains (props_of schema.model pick.ty) pair.prop) fragment.picks) pairs
-      → AllByRecursion (λ pair. All (λ pick. Contains (props_of schema.model pick.ty) pair.prop) fragment.picks) pairs
-  each_shared [] each = tt
-  each_shared (pair ∷ pairs) each = (all (λ pick. Contains (props_of schema.model pick.ty) pair.prop) fragment.picks each.0, each_shared pairs each.1)
-
   pub fragment_from : FragmentFacts schema fragment → IsSoundFragment schema fragment
   fragment_from facts = record {
     ids = record {
@@ -49,15 +45,15 @@ module _ (schema : Schema) (fragment : Fragment) where
       conds = all (λ cond. IsCondId schema fragment.table cond.on) fragment.conds facts.cond_ids;
     };
     picks = all (λ pick. IsUnderElement schema.model fragment.set pick.ty) fragment.picks facts.picks;
-    props = shared_props schema fragment.table fragment.conds facts.other_columns fragment refl (each_shared fragment.pairs facts.shared);
+    props = shared_props schema fragment facts.shared facts.shared_conds;
     kinds = all (WritesToFitting schema fragment.table) fragment.pairs facts.fitting;
     key = record {
       props = all (λ p. Any (λ pair. (pair.prop ≡ p) × Contains (key_columns schema.store fragment.table) pair.col) fragment.pairs) (set_key schema.model fragment.set) facts.key_props;
       cols = all (λ c. Any (λ pair. (pair.col ≡ c) × Contains (set_key schema.model fragment.set) pair.prop) fragment.pairs) (key_columns schema.store fragment.table) facts.key_cols;
     };
     constants = all (ComparesInDomain schema fragment.table) fragment.conds facts.constants;
-    no_key_prop = no_key_prop schema fragment.table fragment.conds facts.other_columns (set_key schema.model fragment.set);
-    no_key_column = no_key_column schema fragment.table fragment.conds facts.other_columns;
+    no_key_prop = no_key_prop fragment.conds schema fragment.table (set_key schema.model fragment.set) facts.outside;
+    no_key_column = no_key_column fragment.conds schema fragment.table (set_key schema.model fragment.set) facts.outside;
     barred = all (ComparesNoBarred schema fragment.table) fragment.conds facts.barred;
     enums = all (WritesNoBarredEnum schema) fragment.pairs facts.enums;
     once = record {

@@ -20,3 +20,4 @@ mod ShopMapped
 mod BrokenMappings
 mod KindFacts
 mod SeatsMapped
+mod ItemsMapped

@@ -1,6 +1,6 @@
 -- Sound mappings, fragment by fragment.
 use Rattle.std.proofs.Common.{◌≡◌, ◌≢◌, inl, inr, List, sym, subst, ap, ◌∙◌}
-use Rattle.std.specs.Prelude.{Some, All, Contains}
+use Rattle.std.specs.Prelude.{Some, Contains, ⊤}
 use Rattle.std.specs.List.{AllByRecursion}
 use Rattle.round_trip.specs.Words.{SetId, PropId, TableId, ColId, Value, Kind, Assoc, Fragment, Pair, LinkFragment, Cond, CondOn, Schema, At, props_of, key_columns, InDomain}
 use Rattle.round_trip.specs.FailsAt.{IsHostedAt}
@@ -12,33 +12,46 @@ use Rattle.soundness.specs.Lookups.{prop_kind, column_kind}
 use Rattle.soundness.specs.Fragments.{NamesSharedProps, WritesToFitting}
 use Rattle.soundness.specs.Conditions.{AskOf, AskOfNoProp, AskOfNoKeyProp, AskOfNoKeyColumn, kind_of, ComparesInDomain}
 use Rattle.soundness.specs.Owners.{Owner, set, assoc, IsJoined, LinkMaps, Owns, PairsKeysAlike, IsOwner, HasOneOwner}
-use Rattle.sound_examples.proofs.Lists.{not_among}
+use Rattle.sound_examples.proofs.Lists.{all, not_among}
 
 -- what holds of the condition that is on something
 asked : (P : CondOn → Type 0) (conds : List Cond) (what : CondOn) → AllByRecursion (λ cond. P cond.on) conds → AskOf conds what → P what
 asked P conds what each some = subst P some.4 (each_of (λ (cond : Cond). P cond.on) conds some.1 each (some.0, some.2, some.3))
 
--- a column that isn't among these
-abbrev pub IsOtherColumn : List ColId → CondOn → Type 0
-IsOtherColumn cols (on.Prop p) = ⊥
-IsOtherColumn cols (on.Col c) = AllByRecursion (λ col. c ≢ col) cols
+-- a property or a column that isn't among these
+abbrev pub IsOutside : List PropId → List ColId → CondOn → Type 0
+IsOutside props cols (on.Prop p) = AllByRecursion (λ prop. p ≢ prop) props
+IsOutside props cols (on.Col c) = AllByRecursion (λ col. c ≢ col) cols
 
-module _ (schema : Schema) (table : TableId) (conds : List Cond) (columns : AllByRecursion (λ cond. IsOtherColumn (key_columns schema.store table) cond.on) conds) where
-  pub no_prop : AskOfNoProp conds
-  no_prop prop some = asked (IsOtherColumn (key_columns schema.store table)) conds (on.Prop prop) columns some
+-- if it is a property, P holds of it
+abbrev pub IfProp : (PropId → Type 0) → CondOn → Type 0
+IfProp P (on.Prop p) = P p
+IfProp P (on.Col c) = ⊤
 
-  pub no_key_prop : (key : List PropId) → AskOfNoKeyProp key conds
-  no_key_prop key prop some among = no_prop prop some
+module _ (conds : List Cond) where
+  pub no_prop : AllByRecursion (λ cond. IfProp (λ p. ⊥) cond.on) conds → AskOfNoProp conds
+  no_prop columns prop some = asked (IfProp (λ p. ⊥)) conds (on.Prop prop) columns some
 
-  pub no_key_column : AskOfNoKeyColumn schema.store table conds
-  no_key_column col some among = not_among (key_columns schema.store table) col (asked (IsOtherColumn (key_columns schema.store table)) conds (on.Col col) columns some) among
+  module _ (schema : Schema) (table : TableId) (key : List PropId) (outside : AllByRecursion (λ cond. IsOutside key (key_columns schema.store table) cond.on) conds) where
+    pub no_key_prop : AskOfNoKeyProp key conds
+    no_key_prop prop some among = not_among key prop (asked (IsOutside key (key_columns schema.store table)) conds (on.Prop prop) outside some) among
 
-  pub shared_props : (fragment : Fragment) → fragment.conds ≡ conds
-      → AllByRecursion (λ pair. All (λ pick. Contains (props_of schema.model pick.ty) pair.prop) fragment.picks) fragment.pairs → NamesSharedProps schema fragment
-  shared_props fragment same each prop (inl some) =
-      let P : PropId → Type 0 = λ p. All (λ pick. Contains (props_of schema.model pick.ty) p) fragment.picks in
-      subst P some.4 (each_of (λ pair. P pair.prop) fragment.pairs some.1 each (some.0, some.2, some.3))
-  shared_props fragment same each prop (inr some) = absurd (no_prop prop (subst (λ cs. AskOf cs (on.Prop prop)) same some))
+    pub no_key_column : AskOfNoKeyColumn schema.store table conds
+    no_key_column col some among = not_among (key_columns schema.store table) col (asked (IsOutside key (key_columns schema.store table)) conds (on.Col col) outside some) among
+
+module _ (schema : Schema) (fragment : Fragment) where
+  -- each picked type has the property
+  abbrev pub IsShared : PropId → Type 0
+  IsShared p = AllByRecursion (λ pick. Contains (props_of schema.model pick.ty) p) fragment.picks
+
+  pub shared_props : AllByRecursion (λ pair. IsShared pair.prop) fragment.pairs → AllByRecursion (λ cond. IfProp IsShared cond.on) fragment.conds
+      → NamesSharedProps schema fragment
+  shared_props each each_cond prop (inl some) =
+      let is : IsShared prop = subst IsShared some.4 (each_of (λ pair. IsShared pair.prop) fragment.pairs some.1 each (some.0, some.2, some.3)) in
+      all (λ pick. Contains (props_of schema.model pick.ty) prop) fragment.picks is
+  shared_props each each_cond prop (inr some) =
+      let is : IsShared prop = asked (IfProp IsShared) fragment.conds (on.Prop prop) each_cond some in
+      all (λ pick. Contains (props_of schema.model pick.ty) prop) fragment.picks is
 
 pub writes_fitting : (schema : Schema) (table : TableId) (pair : Pair) (property column : Kind) → prop_kind schema.model pair.prop ≡ Some property
     → column_kind schema.store table pair.col ≡ Some column → Corresponds property column → WritesToFitting schema table pair

@@ -44,7 +44,8 @@ all_people = fragment_from people (people_fragment (pair_of 0 0 ∷ pair_of 1 1 
   props_once = ((other_prop (prop_id 0) (prop_id 1) refl, tt), (tt, tt));
   cols_once = ((other_col (col_id 0) (col_id 1) refl, tt), (tt, tt));
   cond_ids = tt;
-  other_columns = tt;
+  shared_conds = tt;
+  outside = tt;
   constants = tt;
   barred = tt;
 })
@@ -110,7 +111,8 @@ sound_persons = fragment_from told_staff persons (record {
   props_once = ((other_prop (prop_id 0) (prop_id 1) refl, tt), (tt, tt));
   cols_once = ((other_col (col_id 0) (col_id 1) refl, tt), (tt, tt));
   cond_ids = (omega arith, tt);
-  other_columns = (kind_off_key, tt);
+  shared_conds = (tt, tt);
+  outside = (kind_off_key, tt);
   constants = (compares_kind (codes "P") text_p, tt);
   barred = (kind_not_barred (codes "P") text_p, tt);
 })
@@ -130,7 +132,8 @@ sound_employees = fragment_from told_staff employees (record {
   props_once = ((other_prop (prop_id 0) (prop_id 1) refl, (other_prop (prop_id 0) (prop_id 2) refl, tt)), ((other_prop (prop_id 1) (prop_id 2) refl, tt), (tt, tt)));
   cols_once = ((other_col (col_id 0) (col_id 1) refl, (other_col (col_id 0) (col_id 3) refl, tt)), ((other_col (col_id 1) (col_id 3) refl, tt), (tt, tt)));
   cond_ids = (omega arith, tt);
-  other_columns = (kind_off_key, tt);
+  shared_conds = (tt, tt);
+  outside = (kind_off_key, tt);
   constants = (compares_kind (codes "E") text_e, tt);
   barred = (kind_not_barred (codes "E") text_e, tt);
 })

@@ -109,7 +109,8 @@ sound_fragment = fragment_from seats all_seats (record {
   props_once = ((other_prop (prop_id 0) (prop_id 1) refl, tt), (tt, tt));
   cols_once = ((other_col (col_id 0) (col_id 1) refl, tt), (tt, tt));
   cond_ids = tt;
-  other_columns = tt;
+  shared_conds = tt;
+  outside = tt;
   constants = tt;
   barred = tt;
 })

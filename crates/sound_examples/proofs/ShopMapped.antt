@@ -34,7 +34,8 @@ sound_people = fragment_from shop all_people (record {
   props_once = ((other_prop (prop_id 0) (prop_id 1) refl, tt), (tt, tt));
   cols_once = ((other_col (col_id 0) (col_id 1) refl, tt), (tt, tt));
   cond_ids = tt;
-  other_columns = tt;
+  shared_conds = tt;
+  outside = tt;
   constants = tt;
   barred = tt;
 })
@@ -54,7 +55,8 @@ sound_employees = fragment_from shop all_employees (record {
   props_once = (tt, tt);
   cols_once = (tt, tt);
   cond_ids = tt;
-  other_columns = tt;
+  shared_conds = tt;
+  outside = tt;
   constants = tt;
   barred = tt;
 })
@@ -77,7 +79,8 @@ sound_orders = fragment_from shop orders (record {
   props_once = ((other_prop (prop_id 2) (prop_id 3) refl, tt), (tt, tt));
   cols_once = ((other_col (col_id 0) (col_id 1) refl, tt), (tt, tt));
   cond_ids = tt;
-  other_columns = tt;
+  shared_conds = tt;
+  outside = tt;
   constants = tt;
   barred = tt;
 })

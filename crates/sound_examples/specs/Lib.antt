@@ -4,3 +4,4 @@ pub mod BrokenStores
 pub mod BrokenMappings
 pub mod Kinds
 pub mod Seats
+pub mod Items

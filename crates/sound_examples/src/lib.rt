@@ -10,6 +10,7 @@ ghost use Rattle.round_trip.specs.Words.{Mult};
 ghost use Rattle.sound_examples.specs.BrokenMappings as mappings;
 ghost use Rattle.sound_examples.specs.BrokenModels as models;
 ghost use Rattle.sound_examples.specs.BrokenStores as stores;
+ghost use Rattle.sound_examples.specs.Items.{one_level, three_levels};
 ghost use Rattle.sound_examples.specs.Kinds.{
   no_byte,
   no_character,
@@ -22,6 +23,7 @@ ghost use Rattle.sound_examples.specs.Seats.{swapped};
 ghost use Rattle.worked_examples.specs.Bosses.{bossed, bossed_model, bossed_store};
 ghost use Rattle.worked_examples.specs.ByKind.{optional_salaries, told_staff};
 ghost use Rattle.worked_examples.specs.JoinedBosses.{joined, joined_store};
+ghost use Rattle.worked_examples.specs.LevelLost.{items};
 ghost use Rattle.worked_examples.specs.Owners.{shop, shop_model, shop_store};
 ghost use Rattle.worked_examples.specs.People.{people, people_model, people_store};
 ghost use Rattle.worked_examples.specs.Seats.{seats};
@@ -55,6 +57,14 @@ pub fn shop_is_sound()
     ensures model { IsSoundModel shop_model }
     ensures store { IsSoundStore shop_store }
     ensures schema { IsSoundSchema shop }
+{}
+
+/// Items in two tables by their level: conditions on a property that is a whole number, or an enumeration. Where a number that is
+/// compared is none of the enumeration's, the mapping isn't sound.
+pub fn items_are_sound()
+    ensures schema { IsSoundSchema items }
+    ensures levels { IsSoundSchema three_levels }
+    ensures constant { ¬ IsSoundSchema one_level }
 {}
 
 /// Seats, whose key has two parts, which the table's key has in another order.
