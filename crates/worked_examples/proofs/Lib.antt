@@ -1,5 +1,5 @@
-mod Small
-mod Values
+pub mod Small
+pub mod Values
 mod Entities
 mod Writings
 mod States

@@ -1,0 +1,7 @@
+pub mod Lines
+pub mod BrokenModels
+pub mod BrokenStores
+pub mod BrokenMappings
+pub mod Kinds
+pub mod Seats
+pub mod Items

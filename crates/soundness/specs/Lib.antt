@@ -1,0 +1,14 @@
+pub mod Lists
+pub mod Kinds
+pub mod Lookups
+pub mod ModelIds
+pub mod ModelNames
+pub mod Inheritance
+pub mod Constraints
+pub mod Models
+pub mod Stores
+pub mod Fragments
+pub mod Conditions
+pub mod Owners
+pub mod Joined
+pub mod Mappings
