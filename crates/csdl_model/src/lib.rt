@@ -3,6 +3,8 @@
 
 mod fault;
 mod raw;
+#[cfg(test)]
+mod tests;
 
 pub use fault::first_model_fault;
 pub use raw::{

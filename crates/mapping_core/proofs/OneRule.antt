@@ -1,10 +1,10 @@
 -- Only one rule is told of three documents.
-use Rattle.std.proofs.Common.{◌≡◌, ◌≢◌, ◌∙◌, ℕ, List, refl, sym, ap, subst}
+use Rattle.std.proofs.Common.{◌≡◌, ◌∙◌, ℕ, List, sym, subst}
 use Rattle.std.proofs.Math.Nat.{le_antisymm}
 use Rattle.emc_base.proofs.Orders.{neither_after}
 use Rattle.layouts.specs.FaultOrder.{fault_cmp_apart, fault_cmp_total}
 use Rattle.layouts.specs.Faults.{fault_cmp}
-use Rattle.round_trip.specs.Words.{RuleFault, VocabFile}
+use Rattle.round_trip.specs.Words.{RuleFault}
 use Rattle.mapping_core.specs.Rules.{Breaks, IsToldRule, told_as}
 use Rattle.mapping_core.proofs.Told.{same_file}
 
