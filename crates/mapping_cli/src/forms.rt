@@ -7,10 +7,7 @@ const ACCEPTED: (&str, u8) = ("accepted\n", 0);
 
 const NOT_OF_THE_FORM: (&str, u8) = ("rule V99 msl \"\"\n", 1);
 
-const NO_FLAG: (&str, u8) = (
-    "rule V2 csdl \"/EntityType/0/Property/0/Nullable\"\n",
-    1,
-);
+const NO_FLAG: (&str, u8) = ("rule V2 csdl \"/EntityType/0/Property/0/Nullable\"\n", 1);
 
 const NO_TYPE: (&str, u8) = ("rule V3 csdl \"/EntityType/0/Property/0/Type\"\n", 1);
 
