@@ -47,6 +47,17 @@ impl MemFiles {
         let _replaced = self.map.insert(name.into_string(), bytes)?;
         Ok(())
     }
+
+    // Counts a call that fails, and its fault.
+    fn count_fault(&mut self, call: u64)
+        ensures map { (kept_files self.new).map ≡ (kept_files self.old).map }
+        ensures failing { (kept_files self.new).failing ≡ (kept_files self.old).failing }
+        ensures calls { (kept_files self.new).calls ≡ call }
+        ensures faults { (kept_files self.new).faults ≡ one_more (kept_files self.old).faults }
+    {
+        self.calls = call;
+        self.faults = self.faults.saturating_add(1);
+    }
 }
 
 impl Files for MemFiles {
@@ -70,8 +81,7 @@ impl Files for MemFiles {
     {
         let call = self.calls.saturating_add(1);
         if self.failing.as_slice().contains(&call) {
-            self.calls = call;
-            self.faults = self.faults.saturating_add(1);
+            self.count_fault(call);
             return Err(ReadFault::Failed);
         }
         let answer = look_up(alloc, &self.map, name.as_str(), limit);
@@ -93,8 +103,7 @@ impl Files for MemFiles {
     {
         let call = self.calls.saturating_add(1);
         if self.failing.as_slice().contains(&call) {
-            self.calls = call;
-            self.faults = self.faults.saturating_add(1);
+            self.count_fault(call);
             return Err(ReplaceFault::Failed);
         }
         let (Ok(name), Ok(bytes)) = (name.copy(alloc), bytes.copy(alloc)) else {

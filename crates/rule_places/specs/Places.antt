@@ -1,0 +1,24 @@
+-- Where a rule is broken: at a place, or inside the items of a list.
+use Rattle.std.specs.Prelude.{◌≡◌, ℕ, List}
+use Rattle.json_form.specs.declared.pointer.Step.{Step}
+use Rattle.json_form.specs.declared.pointer.Step.TheVariants.{Member, Item}
+use Rattle.least_fault.specs.Least.{Among}
+use Rattle.layouts.specs.declared.fault.Fault.{Fault}
+use Rattle.layouts.specs.declared.rule.Rule.{Rule}
+use Rattle.layouts.specs.Inside.{Under}
+
+-- the rule is broken at the place
+abbrev pub IsAt : Rule → List Step → Fault → Type 0
+IsAt rule place fault = (fault.rule ≡ rule) × (fault.place ≡ place)
+
+-- P says of the item at its place what is wrong with it; the same, seen from the list
+abbrev pub InItem : {X : Type 0} → (ℕ → X → Fault → Type 0) → ℕ → X → Fault → Type 0
+InItem P i item = Under (Item i) (P i item)
+
+-- what is wrong with some item, seen from the list
+abbrev pub InItems : {X : Type 0} → (ℕ → X → Fault → Type 0) → List X → Fault → Type 0
+InItems P items = Among (InItem P) items
+
+-- what is wrong with some item of the list at this member, seen from the object that has the member
+abbrev pub InList : {X : Type 0} → List ℕ → (ℕ → X → Fault → Type 0) → List X → Fault → Type 0
+InList member P items = Under (Member member) (InItems P items)

@@ -1,0 +1,59 @@
+ghost use Rattle.std.specs.Prelude.{◌≡◌, IfOk, option_map};
+ghost use Rattle.least_fault.specs.Least.{Among, IsLeast};
+ghost use Rattle.layouts.specs.Faults.{fault_cmp};
+ghost use Rattle.layouts.specs.Inside.{after};
+ghost use Rattle.rule_places.specs.Places.{InItems, InList};
+
+use emc_base::{Memory, Txt};
+use json_form::Step;
+use layouts::Fault;
+use least_fault::{Finder, first_among};
+use std::alloc::Global;
+
+/// What was found at a node, seen from the node that the step leads from.
+pub fn behind(step: Step, found: Option<Fault>) -> Result<Option<Fault>, Memory>
+    ensures { IfOk result (λ seen. seen ≡ option_map (after step) found) }
+{
+    match found {
+        None => Ok(None),
+        Some(fault) => {
+            let seen = fault.after(step)?;
+            Ok(Some(seen))
+        }
+    }
+}
+
+/// Looks at the items of a list, each of which is reached by a step of its own.
+#[derive(Clone, Copy)]
+struct Items<'a, S> {
+    search: &'a S,
+}
+
+impl<'a, T, S: Finder<T, Fault>> Finder<T, Fault> for Items<'a, S> {
+    ghost use Rattle.rule_places.specs.Places.{InItem};
+
+    ghost wrong = { λ s i item. InItem (S.wrong s.search.now) i item };
+
+    fn find(&self, alloc: Global, place: usize, item: &T) -> Result<Option<Fault>, Memory> {
+        let Ok(step) = u32::try_from(place) else {
+            return Err(Memory);
+        };
+        let found = self.search.find(alloc, place, item)?;
+        let seen = behind(Step::Item(step), found)?;
+        Ok(seen)
+    }
+}
+
+/// The least of what is wrong with the items of the list that stands at a member, seen from the object that has the member.
+pub fn first_in_list<T, S: Finder<T, Fault>>(
+    alloc: Global,
+    member: &str,
+    search: &S,
+    items: &[T],
+) -> Result<Option<Fault>, Memory>
+    ensures { IfOk result (λ found. IsLeast fault_cmp (InList member.now (S.wrong search.now) items.now) found) }
+{
+    let found = first_among(alloc, &Items { search }, items)?;
+    let seen = behind(Step::Member(Txt::of(alloc, member)?), found)?;
+    Ok(seen)
+}
