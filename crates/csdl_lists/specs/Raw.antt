@@ -7,22 +7,22 @@ use Rattle.serde_json.specs.Data.{Data}
 use Rattle.serde_json.specs.Find.{get}
 use Rattle.json_form.specs.TreeParts.{items_in, whole_of}
 use Rattle.from_nodes.specs.Reading.{flag_at, items_at, object_at, optional_text_at, text_at, text_of, texts_at, whole_at}
-use Rattle.csdl_model.specs.declared.raw.RawAssociation.{RawAssociation}
-use Rattle.csdl_model.specs.declared.raw.RawAssociationSet.{RawAssociationSet}
-use Rattle.csdl_model.specs.declared.raw.RawBound.{RawBound}
-use Rattle.csdl_model.specs.declared.raw.RawConstraint.{RawConstraint}
-use Rattle.csdl_model.specs.declared.raw.RawContainer.{RawContainer}
-use Rattle.csdl_model.specs.declared.raw.RawEnd.{RawEnd}
-use Rattle.csdl_model.specs.declared.raw.RawEnum.{RawEnum}
-use Rattle.csdl_model.specs.declared.raw.RawMember.{RawMember}
-use Rattle.csdl_model.specs.declared.raw.RawModel.{RawModel}
-use Rattle.csdl_model.specs.declared.raw.RawNav.{RawNav}
-use Rattle.csdl_model.specs.declared.raw.RawProp.{RawProp}
-use Rattle.csdl_model.specs.declared.raw.RawRole.{RawRole}
-use Rattle.csdl_model.specs.declared.raw.RawSet.{RawSet}
-use Rattle.csdl_model.specs.declared.raw.RawSetEnd.{RawSetEnd}
-use Rattle.csdl_model.specs.declared.raw.RawType.{RawType}
-use Rattle.csdl_model.specs.declared.raw.RawBound.TheVariants.{Absent, Max, Number}
+use Rattle.csdl_lists.specs.declared.raw.RawAssociation.{RawAssociation}
+use Rattle.csdl_lists.specs.declared.raw.RawAssociationSet.{RawAssociationSet}
+use Rattle.csdl_lists.specs.declared.raw.RawBound.{RawBound}
+use Rattle.csdl_lists.specs.declared.raw.RawConstraint.{RawConstraint}
+use Rattle.csdl_lists.specs.declared.raw.RawContainer.{RawContainer}
+use Rattle.csdl_lists.specs.declared.raw.RawEnd.{RawEnd}
+use Rattle.csdl_lists.specs.declared.raw.RawEnum.{RawEnum}
+use Rattle.csdl_lists.specs.declared.raw.RawMember.{RawMember}
+use Rattle.csdl_lists.specs.declared.raw.RawModel.{RawModel}
+use Rattle.csdl_lists.specs.declared.raw.RawNav.{RawNav}
+use Rattle.csdl_lists.specs.declared.raw.RawProp.{RawProp}
+use Rattle.csdl_lists.specs.declared.raw.RawRole.{RawRole}
+use Rattle.csdl_lists.specs.declared.raw.RawSet.{RawSet}
+use Rattle.csdl_lists.specs.declared.raw.RawSetEnd.{RawSetEnd}
+use Rattle.csdl_lists.specs.declared.raw.RawType.{RawType}
+use Rattle.csdl_lists.specs.declared.raw.RawBound.TheVariants.{Absent, Max, Number}
 
 -- an End of an AssociationSet
 abbrev pub raw_set_end : Data → RawSetEnd

@@ -1,6 +1,6 @@
 ghost use Rattle.std.specs.Prelude.{◌≡◌, IfOk};
 ghost use Rattle.json_form.specs.Nodes.{part_of};
-ghost use Rattle.csdl_model.specs.Raw.{bound_at, key_at};
+ghost use Rattle.csdl_lists.specs.Raw.{bound_at, key_at};
 
 use emc_base::{Memory, Seq, Txt};
 use from_nodes::{
@@ -20,7 +20,7 @@ pub struct RawSetEnd {
 }
 
 impl FromNode for RawSetEnd {
-    ghost use Rattle.csdl_model.specs.Raw.{raw_set_end};
+    ghost use Rattle.csdl_lists.specs.Raw.{raw_set_end};
 
     ghost of = { raw_set_end };
 
@@ -43,7 +43,7 @@ pub struct RawAssociationSet {
 }
 
 impl FromNode for RawAssociationSet {
-    ghost use Rattle.csdl_model.specs.Raw.{raw_association_set};
+    ghost use Rattle.csdl_lists.specs.Raw.{raw_association_set};
 
     ghost of = { raw_association_set };
 
@@ -69,7 +69,7 @@ pub struct RawSet {
 }
 
 impl FromNode for RawSet {
-    ghost use Rattle.csdl_model.specs.Raw.{raw_set};
+    ghost use Rattle.csdl_lists.specs.Raw.{raw_set};
 
     ghost of = { raw_set };
 
@@ -92,7 +92,7 @@ pub struct RawEnd {
 }
 
 impl FromNode for RawEnd {
-    ghost use Rattle.csdl_model.specs.Raw.{raw_end};
+    ghost use Rattle.csdl_lists.specs.Raw.{raw_end};
 
     ghost of = { raw_end };
 
@@ -118,7 +118,7 @@ pub struct RawRole {
 }
 
 impl FromNode for RawRole {
-    ghost use Rattle.csdl_model.specs.Raw.{raw_role};
+    ghost use Rattle.csdl_lists.specs.Raw.{raw_role};
 
     ghost of = { raw_role };
 
@@ -139,7 +139,7 @@ pub struct RawMember {
 }
 
 impl FromNode for RawMember {
-    ghost use Rattle.csdl_model.specs.Raw.{raw_member};
+    ghost use Rattle.csdl_lists.specs.Raw.{raw_member};
 
     ghost of = { raw_member };
 
@@ -162,7 +162,7 @@ pub struct RawEnum {
 }
 
 impl FromNode for RawEnum {
-    ghost use Rattle.csdl_model.specs.Raw.{raw_enum};
+    ghost use Rattle.csdl_lists.specs.Raw.{raw_enum};
 
     ghost of = { raw_enum };
 
@@ -192,7 +192,7 @@ pub struct RawNav {
 }
 
 impl FromNode for RawNav {
-    ghost use Rattle.csdl_model.specs.Raw.{raw_nav};
+    ghost use Rattle.csdl_lists.specs.Raw.{raw_nav};
 
     ghost of = { raw_nav };
 
@@ -224,7 +224,7 @@ pub struct RawProp {
 }
 
 impl FromNode for RawProp {
-    ghost use Rattle.csdl_model.specs.Raw.{raw_prop};
+    ghost use Rattle.csdl_lists.specs.Raw.{raw_prop};
 
     ghost of = { raw_prop };
 
@@ -260,7 +260,7 @@ pub struct RawType {
 }
 
 impl FromNode for RawType {
-    ghost use Rattle.csdl_model.specs.Raw.{raw_type};
+    ghost use Rattle.csdl_lists.specs.Raw.{raw_type};
 
     ghost of = { raw_type };
 
@@ -292,7 +292,7 @@ pub struct RawConstraint {
 }
 
 impl FromNode for RawConstraint {
-    ghost use Rattle.csdl_model.specs.Raw.{raw_constraint};
+    ghost use Rattle.csdl_lists.specs.Raw.{raw_constraint};
 
     ghost of = { raw_constraint };
 
@@ -318,7 +318,7 @@ pub struct RawAssociation {
 }
 
 impl FromNode for RawAssociation {
-    ghost use Rattle.csdl_model.specs.Raw.{raw_association};
+    ghost use Rattle.csdl_lists.specs.Raw.{raw_association};
 
     ghost of = { raw_association };
 
@@ -346,7 +346,7 @@ pub struct RawContainer {
 }
 
 impl FromNode for RawContainer {
-    ghost use Rattle.csdl_model.specs.Raw.{raw_container};
+    ghost use Rattle.csdl_lists.specs.Raw.{raw_container};
 
     ghost of = { raw_container };
 
@@ -380,7 +380,7 @@ pub struct RawModel {
 }
 
 impl FromNode for RawModel {
-    ghost use Rattle.csdl_model.specs.Raw.{raw_model};
+    ghost use Rattle.csdl_lists.specs.Raw.{raw_model};
 
     ghost of = { raw_model };
 

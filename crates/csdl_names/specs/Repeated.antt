@@ -1,0 +1,63 @@
+-- V6: a name is given twice in its scope. The second name breaks the rule, in the order of places: members in byte order of their names,
+-- items by number.
+-- Source: CSDL version 3, the names of types, associations, sets, properties, members and roles.
+use Rattle.std.specs.Prelude.{◌⊎◌, ℕ, List, [], ◌∷◌, ◌++◌, map, codes, Contains}
+use Rattle.json_form.specs.declared.pointer.Step.TheVariants.{Member}
+use Rattle.layouts.specs.declared.fault.Fault.{Fault}
+use Rattle.layouts.specs.declared.rule.Rule.TheVariants.{NamedOnce}
+use Rattle.layouts.specs.Inside.{Under}
+use Rattle.name_places.specs.GivenNames.{IsGivenBefore}
+use Rattle.rule_places.specs.Places.{IsAt, InList}
+use Rattle.csdl_lists.specs.declared.raw.RawAssociation.{RawAssociation}
+use Rattle.csdl_lists.specs.declared.raw.RawContainer.{RawContainer}
+use Rattle.csdl_lists.specs.declared.raw.RawEnum.{RawEnum}
+use Rattle.csdl_lists.specs.declared.raw.RawModel.{RawModel}
+use Rattle.csdl_lists.specs.declared.raw.RawType.{RawType}
+
+module _ {X : Type 0} (name_in : X → List ℕ) where
+  -- the item's name is one of these, or that of an item before it
+  abbrev pub IsGivenAgain : List (List ℕ) → List X → ℕ → X → Type 0
+  IsGivenAgain others items i item = Contains others (name_in item) ⊎ IsGivenBefore name_in items i item
+
+  -- an item of the list at this member breaks the rule: its name, which stands at its member `last`, is given again. These are the names
+  -- of the scope that stand before the list.
+  abbrev pub IsRepeatedIn : List (List ℕ) → List ℕ → List ℕ → List X → Fault → Type 0
+  IsRepeatedIn others member last items = InList member (λ i item fault. IsGivenAgain others items i item × IsAt NamedOnce (Member last ∷ []) fault) items
+
+-- the associations, the types and the enumeration types of a schema
+abbrev pub IsRepeatedInSchema : RawModel → Fault → Type 0
+IsRepeatedInSchema model fault =
+    let associations = map (λ association. association.name) model.associations in
+    let types = map (λ type. type.name) model.types in
+    IsRepeatedIn (λ association. association.name) [] (codes "Association") (codes "Name") model.associations fault
+    ⊎ IsRepeatedIn (λ type. type.name) associations (codes "EntityType") (codes "Name") model.types fault
+    ⊎ IsRepeatedIn (λ enum. enum.name) (associations ++ types) (codes "EnumType") (codes "Name") model.enums fault
+
+-- the association sets and the entity sets of a container
+abbrev pub IsRepeatedInContainer : RawContainer → Fault → Type 0
+IsRepeatedInContainer container fault =
+    IsRepeatedIn (λ set. set.name) [] (codes "AssociationSet") (codes "Name") container.association_sets fault
+    ⊎ IsRepeatedIn (λ set. set.name) (map (λ set. set.name) container.association_sets) (codes "EntitySet") (codes "Name") container.sets fault
+
+-- the navigation properties and the properties of a type
+abbrev pub IsRepeatedInType : ℕ → RawType → Fault → Type 0
+IsRepeatedInType i type fault =
+    IsRepeatedIn (λ nav. nav.name) [] (codes "NavigationProperty") (codes "Name") type.navs fault
+    ⊎ IsRepeatedIn (λ prop. prop.name) (map (λ nav. nav.name) type.navs) (codes "Property") (codes "Name") type.props fault
+
+-- the members of an enumeration type
+abbrev pub IsRepeatedInEnum : ℕ → RawEnum → Fault → Type 0
+IsRepeatedInEnum i enum = IsRepeatedIn (λ member. member.name) [] (codes "Member") (codes "Name") enum.members
+
+-- the roles of an association
+abbrev pub IsRepeatedInAssociation : ℕ → RawAssociation → Fault → Type 0
+IsRepeatedInAssociation i association = IsRepeatedIn (λ end. end.role) [] (codes "End") (codes "Role") association.ends
+
+-- V6
+abbrev pub IsRepeated : RawModel → Fault → Type 0
+IsRepeated model fault =
+    IsRepeatedInSchema model fault
+    ⊎ Under (Member (codes "EntityContainer")) (IsRepeatedInContainer model.container) fault
+    ⊎ InList (codes "EntityType") IsRepeatedInType model.types fault
+    ⊎ InList (codes "EnumType") IsRepeatedInEnum model.enums fault
+    ⊎ InList (codes "Association") IsRepeatedInAssociation model.associations fault

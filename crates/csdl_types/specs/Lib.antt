@@ -1,0 +1,6 @@
+pub mod Simple
+pub mod Numbers
+pub mod Keys
+pub mod Inherited
+pub mod PropTypes
+pub mod TypeRules

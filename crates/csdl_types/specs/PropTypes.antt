@@ -1,0 +1,59 @@
+-- V12 and V13: the types of properties, the numbers of enumerations, and bounds.
+-- Source: CSDL version 3, Property, MaxLength, EnumType, UnderlyingType and Member.
+use Rattle.std.specs.Prelude.{◌≡◌, ◌⊎◌, ℕ, ℤ, ◌≤ℤ◌, pos, List, [], ◌∷◌, codes, Option, Some, None, MatchOption, ⊤}
+use Rattle.emc_base.specs.Domain.{InDomain}
+use Rattle.emc_base.specs.declared.value.Value.TheVariants.{Whole}
+use Rattle.json_form.specs.declared.pointer.Step.TheVariants.{Member}
+use Rattle.layouts.specs.declared.fault.Fault.{Fault}
+use Rattle.layouts.specs.declared.rule.Rule.TheVariants.{PropertyType, Bound}
+use Rattle.rule_places.specs.Places.{IsAt, InList}
+use Rattle.soundness.specs.Kinds.{largest_bound, under_kind}
+use Rattle.csdl_lists.specs.declared.raw.RawBound.{RawBound}
+use Rattle.csdl_lists.specs.declared.raw.RawBound.TheVariants.{Absent, Max, Number}
+use Rattle.csdl_lists.specs.declared.raw.RawEnum.{RawEnum}
+use Rattle.csdl_lists.specs.declared.raw.RawProp.{RawProp}
+use Rattle.csdl_lists.specs.declared.raw.RawType.{RawType}
+use Rattle.csdl_types.specs.declared.simple.Simple.{Simple}
+use Rattle.csdl_types.specs.declared.simple.Simple.TheVariants.{Text, Binary}
+use Rattle.csdl_types.specs.Numbers.{numbers_of, under_of}
+use Rattle.csdl_types.specs.Simple.{simple_of}
+
+-- a property's Type is neither a simple type nor an enumeration type of the schema
+pub record HasNoType (enum_named : List ℕ → Option ℕ) (prop : RawProp) : Type 0 where
+  pub simple : simple_of prop.kind ≡ None
+  pub enum : enum_named prop.kind ≡ None
+
+-- V12, seen from the type
+abbrev pub IsPropTypeFault : (List ℕ → Option ℕ) → ℕ → RawType → Fault → Type 0
+IsPropTypeFault enum_named i type = InList (codes "Property") (λ k prop fault. HasNoType enum_named prop × IsAt PropertyType (Member (codes "Type") ∷ []) fault) type.props
+
+-- the number of a member lies outside of the underlying type
+abbrev pub IsOutside : RawEnum → ℤ → Type 0
+IsOutside enum number = MatchOption (under_of enum) ⊥ (λ under. ¬ InDomain (Whole number) (under_kind under))
+
+-- V12, seen from the enumeration type: its underlying type, its list of members, or a member
+abbrev pub IsEnumFault : ℕ → RawEnum → Fault → Type 0
+IsEnumFault i enum fault =
+    ((under_of enum ≡ None) × IsAt PropertyType (Member (codes "UnderlyingType") ∷ []) fault)
+    ⊎ ((enum.members ≡ []) × IsAt PropertyType (Member (codes "Member") ∷ []) fault)
+    ⊎ InList (codes "Member") (λ k number inside. IsOutside enum number × IsAt PropertyType [] inside) (numbers_of enum) fault
+
+-- a simple type whose values have a length
+abbrev pub HasLength : Option Simple → Type 0
+HasLength (Some Text) = ⊤
+HasLength (Some Binary) = ⊤
+HasLength _ = ⊥
+
+-- a number is no bound of a length: it isn't 1 to the largest
+abbrev pub IsNoBound : ℤ → Type 0
+IsNoBound number = ¬ ((pos 1 ≤ℤ number) × (number ≤ℤ pos largest_bound))
+
+-- the MaxLength stands at a type without lengths, or is no bound
+abbrev pub BreaksBound : Option Simple → RawBound → Type 0
+BreaksBound simple Absent = ⊥
+BreaksBound simple Max = ¬ HasLength simple
+BreaksBound simple (Number number) = (¬ HasLength simple) ⊎ IsNoBound number
+
+-- V13, seen from the type
+abbrev pub IsBoundFault : ℕ → RawType → Fault → Type 0
+IsBoundFault i type = InList (codes "Property") (λ k prop fault. BreaksBound (simple_of prop.kind) prop.bound × IsAt Bound (Member (codes "MaxLength") ∷ []) fault) type.props

@@ -1,0 +1,22 @@
+-- The simple types by their names.
+-- Source: CSDL version 3, the primitive types of the Edm namespace, as far as the profile has them.
+use Rattle.std.specs.Prelude.{ℕ, List, Option, Some, None, if◌then◌else◌, codes}
+use Rattle.std.specs.Str.{bytes_eq}
+use Rattle.csdl_lists.specs.References.{behind}
+use Rattle.csdl_types.specs.declared.simple.Simple.{Simple}
+use Rattle.csdl_types.specs.declared.simple.Simple.TheVariants.{Byte, Int16, Int32, Int64, Boolean, Text, Binary}
+
+-- the simple type of a name
+abbrev pub simple_named : List ℕ → Option Simple
+simple_named name =
+    if bytes_eq name (codes "Byte") then Some Byte else
+    if bytes_eq name (codes "Int16") then Some Int16 else
+    if bytes_eq name (codes "Int32") then Some Int32 else
+    if bytes_eq name (codes "Int64") then Some Int64 else
+    if bytes_eq name (codes "Boolean") then Some Boolean else
+    if bytes_eq name (codes "String") then Some Text else
+    if bytes_eq name (codes "Binary") then Some Binary else None
+
+-- the simple type that a property's Type names: with or without `Edm.`
+abbrev pub simple_of : List ℕ → Option Simple
+simple_of text = simple_named (option_unwrap_or (behind (codes "Edm") text) text)
