@@ -10,8 +10,20 @@ use Rattle.std.proofs.lemmas.Map.Made.{IsDistinct-from_AllPairs}
 use Rattle.std.proofs.lemmas.Map.Steps.{length-le_from_distinct_below}
 use Rattle.std.proofs.lemmas.Map.Views.{Contains-from_any}
 use Rattle.std.proofs.lemmas.Bool.Decides.{Decides-eqb}
-use Rattle.base_chains.specs.Chains.{IsAncestor, direct, further, StaysWithin, chain, chain_upto}
+use Rattle.base_chains.specs.Chains.{IsAncestor, direct, further, StaysWithin, base_at, chain, chain_upto}
 use Rattle.base_chains.proofs.Members.{contains_nil}
+
+-- the base at a place, as it is read
+pub base_read : (bases : List (Option ℕ)) (i : ℕ) → get_or bases i None ≡ base_at bases i
+base_read [] i = refl
+base_read (x ∷ bases) zero = refl
+base_read (x ∷ bases) (suc i) = base_read bases i
+
+-- only a place of the list has a base
+pub has_base : (bases : List (Option ℕ)) (i j : ℕ) → base_at bases i ≡ Some j → i < length bases
+has_base [] i j is = absurd cc
+has_base (x ∷ bases) zero j is = omega arith
+has_base (x ∷ bases) (suc i) j is = let within : i < length bases = has_base bases i j is in omega arith
 
 module _ (base : ℕ → Option ℕ) where
   -- at most so many places stand in the chain of a place

@@ -11,12 +11,6 @@ use Rattle.base_chains.specs.Climbs.{IsClimb, IsPath, IsSeen, IsWayUp, cycle_of}
 use Rattle.base_chains.proofs.Members.{contains_dropped, contains_nil, none_passes}
 use Rattle.base_chains.proofs.Paths.{no_cycle, on_cycle, only_cycle, path_more}
 
--- the base at a place, as it is read
-pub base_read : (bases : List (Option ℕ)) (i : ℕ) → get_or bases i None ≡ base_at bases i
-base_read [] i = refl
-base_read (x ∷ bases) zero = refl
-base_read (x ∷ bases) (suc i) = base_read bases i
-
 -- what is read as not seen is not seen
 pub not_seen : (seen : List Bool) (i : ℕ) (b : Bool) → b ≡ get_or seen i b → b ≡ false → ¬ IsSeen seen i
 not_seen seen i b read is at = let now : get_or seen i b ≡ true = get_or_from_slice_get seen i true b at in absurd cc

@@ -1,26 +1,34 @@
 -- An order in which each type follows its base: no type stands above itself, and chains end.
-use Rattle.std.proofs.Common.{◌≡◌, ◌≢◌, ℕ, ◌+◌, ◌<◌, ◌≤◌, min, List, length, get_or, take, All, AllPairs, Contains, Option, Some, sym, subst, ◌∙◌, arith}
+use Rattle.std.proofs.Common.{◌≡◌, ℕ, zero, suc, ◌<◌, ◌≤◌, min, List, [], ◌∷◌, length, get_or, take, All, AllPairs, Contains, Option, Some, sym, subst, ◌∙◌, arith}
 use Rattle.std.proofs.lemmas.List.{get_or-take, length-take}
 use Rattle.std.proofs.lemmas.List.Elements.{All-contains}
 use Rattle.std.proofs.lemmas.Option.{slice_get-get_or}
 use Rattle.emc_base.specs.Lists.{At}
 use Rattle.emc_base.proofs.Lists.{same_place}
-use Rattle.base_chains.specs.Chains.{IsAncestor, direct, further, StaysWithin}
+use Rattle.emc_base.proofs.Mapped.{contains_at}
+use Rattle.base_chains.specs.Chains.{IsAncestor, direct, further, StaysWithin, base_at}
 use Rattle.base_chains.specs.Walks.{IsBasesFirst}
-use Rattle.base_chains.proofs.Chains.{Ends, closed_ancestors, ends, few_apart}
+use Rattle.base_chains.proofs.Chains.{Ends, closed_ancestors, ends, few_apart, has_base}
 
 -- a member stands at a place
-place_of_member : {X : Type 0} (xs : List X) (x : X) → (has : Contains xs x) → At xs has.0 x
+pub place_of_member : {X : Type 0} (xs : List X) (x : X) → (has : Contains xs x) → At xs has.0 x
 place_of_member xs x has = slice_get-get_or xs has.0 x has.1 ∙ (let same : get_or xs has.0 x ≡ x = has.2 in λ i. Some (same i))
 
 -- a member of the first so many stands at an earlier place
-earlier_place : {X : Type 0} (xs : List X) (k : ℕ) (x : X) → Contains (take k xs) x → (m : ℕ) × (m < k) × At xs m x
+pub earlier_place : {X : Type 0} (xs : List X) (k : ℕ) (x : X) → Contains (take k xs) x → (m : ℕ) × (m < k) × At xs m x
 earlier_place xs k x has =
     let few : length (take k xs) ≡ min k (length xs) = length-take k xs in
     let within : has.0 < length (take k xs) = has.1 in
     let before : has.0 < k = omega arith in
     let inside : has.0 < length xs = omega arith in
     (has.0, before, place_of_member xs x (has.0, inside, sym (get_or-take k xs has.0 x before) ∙ has.2))
+
+-- where all places stand in an order, and each after its base, all bases are places
+pub stays_within : (bases : List (Option ℕ)) (order : List ℕ) → IsBasesFirst (base_at bases) (length bases) order → StaysWithin (base_at bases) (length bases)
+stays_within bases order based i j is =
+    let has = based.each i (has_base bases i j is) in
+    let next = earlier_place order has.0 j (based.before has.0 i j (place_of_member order i has) is) in
+    All-contains (λ x. x < length bases) order j based.within (contains_at order next.0 j next.2)
 
 module _ (base : ℕ → Option ℕ) (count : ℕ) (order : List ℕ) (based : IsBasesFirst base count order) where
   -- what stands above a place comes before it

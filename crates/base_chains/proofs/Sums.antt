@@ -1,13 +1,15 @@
 -- Sums along chains, one place further in an order in which each type follows its base.
-use Rattle.std.proofs.Common.{◌≡◌, ◌≢◌, ◌⊎◌, ⊎_elim, ℕ, zero, suc, ◌+◌, ◌*◌, ◌<◌, ◌≤◌, List, [], ◌∷◌, length, get_or, set, map, slice_index, sum_by, Option, Some, None, length-set, get_or-set_same, get_or-set_other, refl, sym, ap, ap₂, subst, ◌∙◌, arith}
+use Rattle.std.proofs.Common.{◌≡◌, ◌≢◌, ◌⊎◌, ⊎_elim, ℕ, zero, suc, ◌+◌, ◌*◌, ◌<◌, ◌≤◌, List, [], ◌∷◌, length, get_or, set, map, slice_index, sum_by, Option, Some, None, length-set, get_or-set_same, get_or-set_other, refl, sym, ap, subst, zero-add, ◌∙◌, arith}
 use Rattle.std.specs.List.{range_with_len}
 use Rattle.std.specs.Option.{option_map_or}
 use Rattle.std.proofs.lemmas.Bool.{cases_eq}
-use Rattle.std.proofs.lemmas.List.{same_lists}
+use Rattle.std.proofs.lemmas.List.{get_or_default, same_lists}
+use Rattle.std.proofs.lemmas.List.Elements.{All-contains}
 use Rattle.std.proofs.lemmas.List.FromFn.{get_or-map-range_with_len, length-map-range_with_len}
 use Rattle.std.proofs.lemmas.List.Sums.{sum_by_push}
 use Rattle.emc_base.specs.Lists.{At}
 use Rattle.emc_base.proofs.Lists.{at_once}
+use Rattle.emc_base.proofs.Mapped.{contains_at}
 use Rattle.base_chains.specs.Chains.{StaysWithin, chain, chain_size}
 use Rattle.base_chains.specs.Walks.{IsBasesFirst}
 use Rattle.base_chains.proofs.Chains.{Ends, chain_root, chain_step}
@@ -31,14 +33,65 @@ module _ (base : ℕ → Option ℕ) (count : ℕ) (own : List ℕ) where
     pub made : (m i : ℕ) → m < n → At order m i → slice_index sizes i ≡ chain_size base count own i
     pub few : (i : ℕ) → slice_index sizes i ≤ n * 4294967295
 
-  module _ (order : List ℕ) (based : IsBasesFirst base count order) (within : StaysWithin base count) where
+  module _ (order : List ℕ) (based : IsBasesFirst base count order) (within : StaysWithin base count) (n : ℕ) (sizes : List ℕ) (sizing : IsSizing order n sizes) where
+    -- the size of a base was made before
+    made_above : (i : ℕ) → At order n i → option_map_or (slice_index sizes) (base i) 0 ≡ option_map_or (chain_size base count own) (base i) 0
+    made_above i here = by (base i) refl
+      where
+        by : (o : Option ℕ) → base i ≡ o → option_map_or (slice_index sizes) o 0 ≡ option_map_or (chain_size base count own) o 0
+        by None is = refl
+        by (Some j) is = let next = earlier_place order n j (based.before n i j here is) in sizing.made next.0 j next.1 next.2
+
+    -- and isn't great
+    pub few_above : (place : Option ℕ) → option_map_or (slice_index sizes) place 0 ≤ n * 4294967295
+    few_above None = omega arith
+    few_above (Some j) = sizing.few j
+
     -- one place more
-    pub sizing_more : (n i : ℕ) (sizes : List ℕ) (size : ℕ) → At order n i → i < count → slice_index own i ≤ 4294967295
-        → size ≡ option_map_or (slice_index sizes) (base i) 0 + slice_index own i → IsSizing order n sizes → IsSizing order (n + 1) (set sizes i size)
-    sizing_more n i sizes size here inside small is sizing = ?more
+    pub sizing_more : (i size : ℕ) → At order n i → slice_index own i ≤ 4294967295
+        → size ≡ option_map_or (slice_index sizes) (base i) 0 + slice_index own i → IsSizing order (n + 1) (set sizes i size)
+    sizing_more i size here small is = record {
+        size = length-set sizes i size ∙ sizing.size;
+        made = λ m x below at. ⊎_elim
+          (λ (same : x ≡ i). let P : ℕ → Type 0 = λ y. slice_index (set sizes i size) y ≡ chain_size base count own y in subst P (sym same) now)
+          (λ (other : x ≢ i). get_or-set_other sizes i x size 0 other ∙ sizing.made m x (before m x below at other) at)
+          (cases_eq x i);
+        few = λ x. ⊎_elim
+          (λ (same : x ≡ i). let P : ℕ → Type 0 = λ y. slice_index (set sizes i size) y ≤ (n + 1) * 4294967295 in subst P (sym same) few_now)
+          (λ (other : x ≢ i).
+            let kept : slice_index (set sizes i size) x ≡ slice_index sizes x = get_or-set_other sizes i x size 0 other in
+            let few : slice_index sizes x ≤ n * 4294967295 = sizing.few x in
+            omega (arith, kept, few))
+          (cases_eq x i)
+    }
+      where
+        inside : i < count
+        inside = All-contains (λ j. j < count) order i based.within (contains_at order n i here)
+
+        written : slice_index (set sizes i size) i ≡ size
+        written = let within_sizes : i < length sizes = let same : length sizes ≡ count = sizing.size in let below : i < count = inside in omega arith in
+            get_or-set_same sizes i size 0 within_sizes
+
+        now : slice_index (set sizes i size) i ≡ chain_size base count own i
+        now = written ∙ is ∙ ap (λ upper. upper + slice_index own i) (made_above i here) ∙ sym (size_step i (ends_by_order base count order based within i inside))
+
+        few_now : slice_index (set sizes i size) i ≤ (n + 1) * 4294967295
+        few_now = let few : option_map_or (slice_index sizes) (base i) 0 ≤ n * 4294967295 = few_above (base i) in omega (arith, written, is, few, small)
+
+        before : (m x : ℕ) → m < n + 1 → At order m x → x ≢ i → m < n
+        before m x below at other = ⊎_elim
+            (λ (last : m ≡ n). let P : ℕ → Type 0 = λ k. At order k x in absurd (other (at_once order n x i (subst P last at) here)))
+            (λ (earlier : m ≢ n). omega arith)
+            (cases_eq m n)
 
     -- after the last place
-    pub sizing_all : (n : ℕ) (sizes : List ℕ) → length order ≤ n → IsSizing order n sizes → sizes ≡ map (chain_size base count own) (range_with_len 0 count)
-    sizing_all n sizes end sizing = same_lists sizes (map (chain_size base count own) (range_with_len 0 count))
+    pub sizing_all : length order ≤ n → sizes ≡ map (chain_size base count own) (range_with_len 0 count)
+    sizing_all end = same_lists sizes (map (chain_size base count own) (range_with_len 0 count))
         (sizing.size ∙ sym (length-map-range_with_len (chain_size base count own) 0 count))
-        (λ k d k_in. ?each)
+        (λ k d k_in.
+          let inside : k < count = subst (λ len. k < len) sizing.size k_in in
+          let has = based.each k inside in
+          let passed : has.0 < length order = has.1 in
+          get_or_default sizes k d 0 k_in
+          ∙ sizing.made has.0 k (omega arith) (place_of_member order k has)
+          ∙ sym (get_or-map-range_with_len (chain_size base count own) 0 count k k d inside (zero-add k)))

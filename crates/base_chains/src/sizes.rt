@@ -1,7 +1,7 @@
 ghost use Rattle.std.specs.Prelude.{◌≡◌, ◌<◌, ◌^◌, length, map, slice_index, IfOk};
 ghost use Rattle.std.specs.List.{range_with_len};
 ghost use Rattle.std.specs.Option.{option_map_or};
-ghost use Rattle.base_chains.specs.Chains.{base_at, chain_size, IsPlace, StaysWithin};
+ghost use Rattle.base_chains.specs.Chains.{base_at, chain_size, IsPlace};
 ghost use Rattle.base_chains.specs.Walks.{IsBasesFirst};
 
 use emc_base::Memory;
@@ -17,7 +17,6 @@ pub fn chain_sizes(
     order: &[usize],
 ) -> Result<Vec<u64>, Memory>
     requires few { length bases.now < 2 ^ 32 }
-    requires within { StaysWithin (base_at bases.now) (length bases.now) }
     requires alike { length own.now ≡ length bases.now }
     requires order { IsBasesFirst (base_at bases.now) (length bases.now) order.now }
     ensures { IfOk result (λ sizes. sizes.items ≡ map (chain_size (base_at bases.now) (length bases.now) own.now) (range_with_len 0 (length bases.now))) }

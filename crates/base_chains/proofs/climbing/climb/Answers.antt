@@ -1,7 +1,8 @@
 use Rattle.std.proofs.Common.{◌≡◌, ◌<◌, ℕ, true, List, length, set, Option, sym, subst, subst₂, ◌∙◌, arith}
 use Rattle.base_chains.specs.Chains.{base_at}
 use Rattle.base_chains.specs.Climbs.{IsSeen, IsWayUp}
-use Rattle.base_chains.proofs.Climbs.{base_read, not_seen, read_seen, way_more}
+use Rattle.base_chains.proofs.Chains.{base_read}
+use Rattle.base_chains.proofs.Climbs.{not_seen, read_seen, way_more}
 use Rattle.base_chains.proofs.climbing.climb.Goals as goal
 use Rattle.base_chains.proofs.climbing.climb.Goals.{in-Some+then-index, in_default}
 
