@@ -2,8 +2,7 @@
 use Rattle.std.proofs.Common.{◌≡◌, ◌≢◌, ◌⊎◌, ⊎_elim, inl, inr, ℕ, zero, suc, ◌+◌, ◌<◌, ◌≤◌, List, [], ◌∷◌, ◌++◌, length, get_or, All, AllPairs, Contains, MatchOption, Option, Some, None, eqb, eqb-true, true, refl, sym, ap, subst, ◌∙◌, arith}
 use Rattle.std.specs.Bool.{⊤}
 use Rattle.std.specs.Option.{option_map_or}
-use Rattle.std.specs.List.{IsDistinct}
-use Rattle.std.proofs.lemmas.List.{length-append}
+use Rattle.std.proofs.lemmas.List.{get_or_default, length-append}
 use Rattle.std.proofs.lemmas.List.Elements.{Contains-append_left, Contains-push, Contains-push_cases, Contains-get_or}
 use Rattle.std.proofs.lemmas.List.Quantifiers.{all_pairs_push}
 use Rattle.std.proofs.lemmas.Map.Made.{IsDistinct-from_AllPairs}
@@ -24,6 +23,19 @@ pub has_base : (bases : List (Option ℕ)) (i j : ℕ) → base_at bases i ≡ S
 has_base [] i j is = absurd cc
 has_base (x ∷ bases) zero j is = omega arith
 has_base (x ∷ bases) (suc i) j is = let within : i < length bases = has_base bases i j is in omega arith
+
+-- all bases of a list are places of it, item by item
+pub all_within : (bases : List (Option ℕ)) → All (λ base. MatchOption base ⊤ (λ i. i < length bases)) bases → StaysWithin (base_at bases) (length bases)
+all_within bases all i j is =
+    let P : Option ℕ → Type 0 = λ base. MatchOption base ⊤ (λ k. k < length bases) in
+    subst P (base_read bases i ∙ is) (all i None (has_base bases i j is))
+
+pub within_all : (bases : List (Option ℕ)) → StaysWithin (base_at bases) (length bases) → All (λ base. MatchOption base ⊤ (λ i. i < length bases)) bases
+within_all bases within k d k_in = by (get_or bases k d) (get_or_default bases k d None k_in ∙ base_read bases k)
+  where
+    by : (base : Option ℕ) → base ≡ base_at bases k → MatchOption base ⊤ (λ i. i < length bases)
+    by None is = tt
+    by (Some j) is = within k j (sym is)
 
 module _ (base : ℕ → Option ℕ) where
   -- at most so many places stand in the chain of a place

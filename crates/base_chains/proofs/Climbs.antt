@@ -1,12 +1,11 @@
 -- A way up, one place further, and what is found of the cycle in which it ends.
-use Rattle.std.proofs.Common.{◌≡◌, ◌≢◌, ◌⊎◌, ◌==◌, ⊎_elim, inl, inr, ℕ, zero, suc, ◌+◌, ◌<◌, Bool, true, false, List, [], ◌∷◌, ◌++◌, length, get_or, set, drop, position, All, AllPairs, Contains, Option, Some, None, eq-eqb, eqb-true, length-set, refl, sym, ap, subst, ◌∙◌, arith}
+use Rattle.std.proofs.Common.{◌≡◌, ◌≢◌, ◌⊎◌, ◌==◌, ⊎_elim, inl, inr, ℕ, zero, suc, ◌<◌, Bool, true, false, List, [], ◌∷◌, ◌++◌, length, get_or, set, drop, position, Contains, Option, Some, None, eq-eqb, eqb-true, length-set, refl, sym, ap, subst, ◌∙◌, arith}
 use Rattle.std.specs.Option.{option_map_or}
-use Rattle.std.proofs.lemmas.List.Elements.{All-contains, All-push, All-weaker, Contains-append_left, Contains-get_or, Contains-push}
+use Rattle.std.proofs.lemmas.List.Elements.{All-push, All-weaker, Contains-append_left, Contains-push}
 use Rattle.std.proofs.lemmas.List.Quantifiers.{all_pairs_push, position-Some}
 use Rattle.std.proofs.lemmas.Option.{get_or_from_slice_get, slice_get-get_or}
 use Rattle.emc_base.specs.Lists.{At}
-use Rattle.emc_base.proofs.Lists.{all_from_members}
-use Rattle.base_chains.specs.Chains.{IsAncestor, base_at}
+use Rattle.base_chains.specs.Chains.{IsAncestor}
 use Rattle.base_chains.specs.Climbs.{IsClimb, IsPath, IsSeen, IsWayUp, cycle_of}
 use Rattle.base_chains.proofs.Members.{contains_dropped, contains_nil, none_passes}
 use Rattle.base_chains.proofs.Paths.{no_cycle, on_cycle, only_cycle, path_more}
@@ -43,21 +42,21 @@ module _ (base : ℕ → Option ℕ) (from : ℕ) (before after : List Bool) (pa
   pub way_more : (place : ℕ) → place < length after → ¬ IsSeen after place → IsWayUp base from before after path (Some place)
       → IsWayUp base from before (set after place true) (path ++ place ∷ []) (base place)
   way_more place within new way = record {
-      climbed = path_more base (Some from) path place way.climbed;
-      fresh = All-push (λ i. ¬ IsSeen before i) path place way.fresh (λ seen. new (way.kept place seen));
-      once = all_pairs_push (λ i j. i ≢ j) path place way.once (λ k d k_in same. new (let P : ℕ → Type 0 = λ i. IsSeen after i in subst P same (way.marked k d k_in)));
-      size = length-set after place true ∙ way.size;
-      kept = λ i seen. seen_kept after i place (way.kept i seen);
-      marked = All-push (IsSeen (set after place true)) path place
+    climbed = path_more base (Some from) path place way.climbed;
+    fresh = All-push (λ i. ¬ IsSeen before i) path place way.fresh (λ seen. new (way.kept place seen));
+    once = all_pairs_push (λ i j. i ≢ j) path place way.once (λ k d k_in same. new (let P : ℕ → Type 0 = λ i. IsSeen after i in subst P same (way.marked k d k_in)));
+    size = length-set after place true ∙ way.size;
+    kept = λ i seen. seen_kept after i place (way.kept i seen);
+    marked = All-push (IsSeen (set after place true)) path place
         (All-weaker (IsSeen after) (IsSeen (set after place true)) (λ i seen. seen_kept after i place seen) path way.marked)
         (seen_now after place within);
-      only = λ i seen. ⊎_elim
+    only = λ i seen. ⊎_elim
         (λ (old : IsSeen after i). ⊎_elim
-          (λ (older : IsSeen before i). inl older)
-          (λ (here : Contains path i). inr (Contains-append_left path (place ∷ []) i here))
-          (way.only i old))
+        (λ (older : IsSeen before i). inl older)
+        (λ (here : Contains path i). inr (Contains-append_left path (place ∷ []) i here))
+        (way.only i old))
         (λ (same : place ≡ i). let P : ℕ → Type 0 = λ j. Contains (path ++ place ∷ []) j in inr (subst P same (Contains-push path place)))
-        (seen_only after i place seen)
+        (seen_only after i place seen);
   }
 
   module _ (closed : (i j : ℕ) → IsSeen before i → base i ≡ Some j → IsSeen before j) where

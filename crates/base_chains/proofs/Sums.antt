@@ -1,5 +1,5 @@
 -- Sums along chains, one place further in an order in which each type follows its base.
-use Rattle.std.proofs.Common.{◌≡◌, ◌≢◌, ◌⊎◌, ⊎_elim, ℕ, zero, suc, ◌+◌, ◌*◌, ◌<◌, ◌≤◌, List, [], ◌∷◌, length, get_or, set, map, slice_index, sum_by, Option, Some, None, length-set, get_or-set_same, get_or-set_other, refl, sym, ap, subst, zero-add, ◌∙◌, arith}
+use Rattle.std.proofs.Common.{◌≡◌, ◌≢◌, ⊎_elim, ℕ, ◌+◌, ◌*◌, ◌<◌, ◌≤◌, List, length, set, map, slice_index, sum_by, Option, Some, None, length-set, get_or-set_same, get_or-set_other, refl, sym, ap, subst, zero-add, ◌∙◌, arith}
 use Rattle.std.specs.List.{range_with_len}
 use Rattle.std.specs.Option.{option_map_or}
 use Rattle.std.proofs.lemmas.Bool.{cases_eq}
@@ -51,18 +51,18 @@ module _ (base : ℕ → Option ℕ) (count : ℕ) (own : List ℕ) where
     pub sizing_more : (i size : ℕ) → At order n i → slice_index own i ≤ 4294967295
         → size ≡ option_map_or (slice_index sizes) (base i) 0 + slice_index own i → IsSizing order (n + 1) (set sizes i size)
     sizing_more i size here small is = record {
-        size = length-set sizes i size ∙ sizing.size;
-        made = λ m x below at. ⊎_elim
+      size = length-set sizes i size ∙ sizing.size;
+      made = λ m x below at. ⊎_elim
           (λ (same : x ≡ i). let P : ℕ → Type 0 = λ y. slice_index (set sizes i size) y ≡ chain_size base count own y in subst P (sym same) now)
           (λ (other : x ≢ i). get_or-set_other sizes i x size 0 other ∙ sizing.made m x (before m x below at other) at)
           (cases_eq x i);
-        few = λ x. ⊎_elim
+      few = λ x. ⊎_elim
           (λ (same : x ≡ i). let P : ℕ → Type 0 = λ y. slice_index (set sizes i size) y ≤ (n + 1) * 4294967295 in subst P (sym same) few_now)
           (λ (other : x ≢ i).
-            let kept : slice_index (set sizes i size) x ≡ slice_index sizes x = get_or-set_other sizes i x size 0 other in
-            let few : slice_index sizes x ≤ n * 4294967295 = sizing.few x in
-            omega (arith, kept, few))
-          (cases_eq x i)
+          let kept : slice_index (set sizes i size) x ≡ slice_index sizes x = get_or-set_other sizes i x size 0 other in
+          let few : slice_index sizes x ≤ n * 4294967295 = sizing.few x in
+          omega (arith, kept, few))
+          (cases_eq x i);
     }
       where
         inside : i < count
@@ -89,9 +89,9 @@ module _ (base : ℕ → Option ℕ) (count : ℕ) (own : List ℕ) where
     sizing_all end = same_lists sizes (map (chain_size base count own) (range_with_len 0 count))
         (sizing.size ∙ sym (length-map-range_with_len (chain_size base count own) 0 count))
         (λ k d k_in.
-          let inside : k < count = subst (λ len. k < len) sizing.size k_in in
-          let has = based.each k inside in
-          let passed : has.0 < length order = has.1 in
-          get_or_default sizes k d 0 k_in
-          ∙ sizing.made has.0 k (omega arith) (place_of_member order k has)
-          ∙ sym (get_or-map-range_with_len (chain_size base count own) 0 count k k d inside (zero-add k)))
+        let inside : k < count = subst (λ len. k < len) sizing.size k_in in
+        let has = based.each k inside in
+        let passed : has.0 < length order = has.1 in
+        get_or_default sizes k d 0 k_in
+        ∙ sizing.made has.0 k (omega arith) (place_of_member order k has)
+        ∙ sym (get_or-map-range_with_len (chain_size base count own) 0 count k k d inside (zero-add k)))

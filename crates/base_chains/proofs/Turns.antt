@@ -1,14 +1,13 @@
 -- A walk along all bases, one place further, and what is known after the last.
-use Rattle.std.proofs.Common.{◌≡◌, ◌≢◌, ◌⊎◌, ⊎_elim, inl, inr, ℕ, zero, suc, ◌+◌, ◌<◌, ◌≤◌, min, Bool, true, false, List, [], ◌∷◌, ◌++◌, append-nil, get_or, length, replicate, reverse, take, All, AllPairs, Contains, Option, Some, None, refl, sym, ap, subst, ◌∙◌, arith}
+use Rattle.std.proofs.Common.{◌≡◌, ◌≢◌, ◌⊎◌, ⊎_elim, inl, inr, ℕ, ◌+◌, ◌<◌, ◌≤◌, min, Bool, true, List, [], ◌∷◌, ◌++◌, append-nil, get_or, length, reverse, take, All, AllPairs, Contains, Option, Some, None, refl, sym, ap, subst, ◌∙◌, arith}
 use Rattle.std.proofs.lemmas.Bool.{cases_eq, cases_lt}
-use Rattle.std.proofs.lemmas.List.{get_or-replicate, length-replicate, take_at, take-append-le}
-use Rattle.std.proofs.lemmas.Option.{get_or_from_slice_get, slice_get_within}
-use Rattle.std.proofs.lemmas.List.Elements.{All-append, All-contains, All-head, All-tail, All-weaker, Contains-append_cases, Contains-append_left, Contains-append_right, Contains-get_or}
-use Rattle.std.proofs.lemmas.List.Quantifiers.{all_pairs_push}
+use Rattle.std.proofs.lemmas.List.{take_at, take-append-le}
+use Rattle.std.proofs.lemmas.Option.{slice_get_within}
+use Rattle.std.proofs.lemmas.List.Elements.{All-append, All-contains, All-head, All-weaker, Contains-append_left, Contains-append_right}
 use Rattle.emc_base.specs.Lists.{At}
 use Rattle.emc_base.proofs.Lists.{all_from_members}
 use Rattle.base_chains.specs.Chains.{IsAncestor, StaysWithin}
-use Rattle.base_chains.specs.Climbs.{IsClimb, IsPath, IsSeen, IsWayUp, cycle_of}
+use Rattle.base_chains.specs.Climbs.{IsClimb, IsPath, IsSeen, cycle_of}
 use Rattle.base_chains.specs.Walks.{IsBasesFirst, IsFirst, earlier}
 use Rattle.base_chains.proofs.Climbs.{cycle_in_path, on_its_cycle}
 use Rattle.base_chains.proofs.Chains.{closed_ancestors}
@@ -21,12 +20,18 @@ first_of_both P Q None None no_one no_other = λ i. ⊎_elim (no_one i) (no_othe
 first_of_both P Q None (Some other) no_one is_other = (inr is_other.0, λ i. ⊎_elim (λ holds. absurd (no_one i holds)) (is_other.1 i))
 first_of_both P Q (Some one) None is_one no_other = (inl is_one.0, λ i. ⊎_elim (is_one.1 i) (λ holds. absurd (no_other i holds)))
 first_of_both P Q (Some one) (Some other) is_one is_other = ⊎_elim
-    (λ (below : one < other). let least : one ≡ min one other = omega arith in subst Least least (inl is_one.0, λ i. ⊎_elim
-    (is_one.1 i)
-    (λ (holds : Q i). let after : other ≤ i = is_other.1 i holds in omega arith)))
-    (λ (above : other ≤ one). let least : other ≡ min one other = omega arith in subst Least least (inr is_other.0, λ i. ⊎_elim
-    (λ (holds : P i). let after : one ≤ i = is_one.1 i holds in omega arith)
-    (is_other.1 i)))
+    (λ (below : one < other). let least : one ≡ min one other = omega arith in subst Least least (
+      inl is_one.0,
+      λ i. ⊎_elim
+          (is_one.1 i)
+          (λ (holds : Q i). let after : other ≤ i = is_other.1 i holds in omega arith),
+    ))
+    (λ (above : other ≤ one). let least : other ≡ min one other = omega arith in subst Least least (
+      inr is_other.0,
+      λ i. ⊎_elim
+          (λ (holds : P i). let after : one ≤ i = is_one.1 i holds in omega arith)
+          (is_other.1 i),
+    ))
     (cases_lt one other)
   where
     Least : ℕ → Type 0
@@ -66,7 +71,6 @@ module _ (base : ℕ → Option ℕ) where
           (λ (end : exit ≡ Some j). Contains-append_left places (reverse path) j (out j end))
           (next_of base x path exit j is.1 next)
 
-
   -- a walk over the places below a number: what was seen, in order, and the first of it that stands above itself
   pub record IsWalking (count n : ℕ) (seen : List Bool) (order : List ℕ) (first : Option ℕ) : Type 0 where
     pub size : length seen ≡ count
@@ -94,32 +98,32 @@ module _ (base : ℕ → Option ℕ) where
     pub walk_more : IsWalking count n seen order first → IsClimb base n seen after path exit → IsFirst (Contains (cycle_of path exit)) found
         → IsWalking count (n + 1) after (order ++ reverse path) (earlier first found)
     walk_more walk climb cycle = record {
-        size = climb.0.size ∙ walk.size;
-        passed = λ i below. ⊎_elim
+      size = climb.0.size ∙ walk.size;
+      passed = λ i below. ⊎_elim
           (λ (same : i ≡ n). let P : ℕ → Type 0 = λ j. IsSeen after j in subst P (sym same) (from_seen path climb.0.climbed climb.0.marked climb.1))
           (λ (other : i ≢ n). climb.0.kept i (walk.passed i (omega arith)))
           (cases_eq i n);
-        closed = λ i j is next. ⊎_elim
+      closed = λ i j is next. ⊎_elim
           (λ (old : IsSeen seen i). climb.0.kept j (walk.closed i j old next))
           (λ (here : Contains path i). ⊎_elim
-            (λ (rest : Contains path j). marked j rest)
-            (λ (end : exit ≡ Some j). climb.1 j end)
-            (path_closed base (Some n) path exit i j climb.0.climbed here next))
+          (λ (rest : Contains path j). marked j rest)
+          (λ (end : exit ≡ Some j). climb.1 j end)
+          (path_closed base (Some n) path exit i j climb.0.climbed here next))
           (climb.0.only i is);
-        marked = All-append (IsSeen after) order (reverse path)
+      marked = All-append (IsSeen after) order (reverse path)
           (All-weaker (IsSeen seen) (IsSeen after) climb.0.kept order walk.marked)
           (all_from_members (IsSeen after) (reverse path) (λ i has. marked i (contains_reversed path i has)));
-        each = λ i is. ⊎_elim
+      each = λ i is. ⊎_elim
           (λ (old : IsSeen seen i). Contains-append_left order (reverse path) i (walk.each i old))
           (λ (here : Contains path i). Contains-append_right order (reverse path) i (contains_reverse path i here))
           (climb.0.only i is);
-        once = apart_reversed order path
+      once = apart_reversed order path
           (λ i here old. All-contains (λ j. ¬ IsSeen seen j) path i climb.0.fresh here (All-contains (IsSeen seen) order i walk.marked old))
           climb.0.once walk.once;
-        least = first_same (λ i. (IsSeen seen i × IsAncestor base i i) ⊎ Contains (cycle_of path exit) i) (λ i. IsSeen after i × IsAncestor base i i)
+      least = first_same (λ i. (IsSeen seen i × IsAncestor base i i) ⊎ Contains (cycle_of path exit) i) (λ i. IsSeen after i × IsAncestor base i i)
           (earlier first found) to back
           (first_of_both (λ i. IsSeen seen i × IsAncestor base i i) (Contains (cycle_of path exit)) first found walk.least cycle);
-        before = λ none. based_more order (Some n) path exit climb.0.climbed (exit_ordered (none_earlier first found none).1) (walk.before (none_earlier first found none).0)
+      before = λ none. based_more order (Some n) path exit climb.0.climbed (exit_ordered (none_earlier first found none).1) (walk.before (none_earlier first found none).0);
     }
       where
         marked : (i : ℕ) → Contains path i → IsSeen after i
@@ -159,12 +163,12 @@ module _ (base : ℕ → Option ℕ) where
     walk_ordered n end walk = (
       λ i above. walk.least i (seen_cycle n end None walk i above, above),
       record {
-          each = λ i inside. walk.each i (walk.passed i (omega arith));
-          within = λ k d k_in. let seen_k : IsSeen seen (get_or order k d) = walk.marked k d k_in in
+        each = λ i inside. walk.each i (walk.passed i (omega arith));
+        within = λ k d k_in. let seen_k : IsSeen seen (get_or order k d) = walk.marked k d k_in in
             let inside : get_or order k d < length seen = slice_get_within seen (get_or order k d) true seen_k in
             subst (λ m. get_or order k d < m) walk.size inside;
-          once = walk.once;
-          before = walk.before refl
+        once = walk.once;
+        before = walk.before refl;
       },
     )
 

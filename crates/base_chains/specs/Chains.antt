@@ -1,6 +1,6 @@
 -- Types in a list, each with a base at most: what stands above a type, and a type after all that stand above it.
 -- Source: CSDL version 3, EntityType and its BaseType.
-use Rattle.std.specs.Prelude.{◌≡◌, ℕ, zero, suc, ◌+◌, ◌<◌, List, [], ◌∷◌, ◌++◌, length, slice_get, slice_index, sum_by, Option, Some}
+use Rattle.std.specs.Prelude.{◌≡◌, ℕ, zero, suc, ◌<◌, List, [], ◌∷◌, ◌++◌, length, slice_get, slice_index, sum_by, Option, Some}
 use Rattle.std.specs.Option.{option_and_then, option_map_or}
 
 -- what a list of bases says of a place; nothing outside of the list

@@ -1,4 +1,4 @@
-use Rattle.std.proofs.Common.{◌+◌, ℕ, List, Contains, length, Option, None, Some, sym, subst, subst₂}
+use Rattle.std.proofs.Common.{◌+◌, ℕ, List, Contains, length, Option, sym, subst, subst₂}
 use Rattle.base_chains.specs.Chains.{base_at}
 use Rattle.base_chains.specs.Climbs.{cycle_of}
 use Rattle.base_chains.specs.Walks.{IsFirst, IsWalk}
@@ -27,9 +27,9 @@ returns c =
     let Walked : Option ℕ → Type 0 = λ first. IsWalking base count c.loop-place.place c.loop-place.seen.items c.loop-place.order.items first in
     elim c.match-first.branch [
       | in-Some w ↦ subst Told (sym w.result-is)
-        (walk_cycle base count c.loop-place.seen.items c.loop-place.order.items c.requires.within c.loop-place.place w.in-Some.place c.loop-place-test.false
-        (subst Walked w.in-Some.is c.loop-place.invariant))
+          (walk_cycle base count c.loop-place.seen.items c.loop-place.order.items c.requires.within c.loop-place.place w.in-Some.place c.loop-place-test.false
+          (subst Walked w.in-Some.is c.loop-place.invariant))
       | in-None w ↦ subst Told (sym w.result-is)
-        (walk_ordered base count c.loop-place.seen.items c.loop-place.order.items c.requires.within c.loop-place.place c.loop-place-test.false
-        (subst Walked w.in-None.is c.loop-place.invariant))
+          (walk_ordered base count c.loop-place.seen.items c.loop-place.order.items c.requires.within c.loop-place.place c.loop-place-test.false
+          (subst Walked w.in-None.is c.loop-place.invariant))
     ]
