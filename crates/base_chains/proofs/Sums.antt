@@ -1,19 +1,37 @@
 -- Sums along chains, one place further in an order in which each type follows its base.
-use Rattle.std.proofs.Common.{◌≡◌, ◌≢◌, ⊎_elim, ℕ, ◌+◌, ◌*◌, ◌<◌, ◌≤◌, List, length, set, map, slice_index, sum_by, Option, Some, None, length-set, get_or-set_same, get_or-set_other, refl, sym, ap, subst, zero-add, ◌∙◌, arith}
+use Rattle.std.proofs.Common.{◌≡◌, ◌≢◌, ⊎_elim, ℕ, ◌+◌, ◌*◌, ◌<◌, ◌≤◌, List, [], ◌∷◌, length, replicate, set, map, slice_index, sum_by, Contains, Option, Some, None, length-set, get_or-set_same, get_or-set_other, refl, sym, ap, subst, zero-add, ◌∙◌, arith}
 use Rattle.std.specs.List.{range_with_len}
 use Rattle.std.specs.Option.{option_map_or}
 use Rattle.std.proofs.lemmas.Bool.{cases_eq}
-use Rattle.std.proofs.lemmas.List.{get_or_default, same_lists}
+use Rattle.std.proofs.lemmas.List.{get_or_default, get_or-replicate, same_lists}
 use Rattle.std.proofs.lemmas.List.Elements.{All-contains}
 use Rattle.std.proofs.lemmas.List.FromFn.{get_or-map-range_with_len, length-map-range_with_len}
-use Rattle.std.proofs.lemmas.List.Sums.{sum_by_push}
+use Rattle.std.proofs.lemmas.List.Sums.{sum_by_push, sum_by-cons}
 use Rattle.emc_base.specs.Lists.{At}
 use Rattle.emc_base.proofs.Lists.{at_once}
 use Rattle.emc_base.proofs.Mapped.{contains_at}
-use Rattle.base_chains.specs.Chains.{StaysWithin, chain, chain_size}
+use Rattle.base_chains.specs.Chains.{IsAncestor, StaysWithin, chain, chain_size}
 use Rattle.base_chains.specs.Walks.{IsBasesFirst}
-use Rattle.base_chains.proofs.Chains.{Ends, chain_root, chain_step}
+use Rattle.base_chains.proofs.Chains.{Ends, chain_root, chain_step, closed_ancestors, in_chain}
+use Rattle.base_chains.proofs.Members.{contains_head, contains_tail}
 use Rattle.base_chains.proofs.Orders.{earlier_place, ends_by_order, place_of_member}
+
+-- where each counts as one, a sum is a length
+sum_of_ones : (f : ℕ → ℕ) (xs : List ℕ) → ((x : ℕ) → Contains xs x → f x ≡ 1) → sum_by f xs ≡ length xs
+sum_of_ones f [] ones = refl
+sum_of_ones f (x ∷ xs) ones =
+    let first : f x ≡ 1 = ones x (contains_head x xs) in
+    let rest : sum_by f xs ≡ length xs = sum_of_ones f xs (λ y has. ones y (contains_tail x xs y has)) in
+    let both : sum_by f (x ∷ xs) ≡ f x + sum_by f xs = sum_by-cons f x xs in
+    both ∙ omega (arith, first, rest)
+
+-- where each has one of its own, a size is the length of the chain: how deep a type stands
+pub size_of_ones : (base : ℕ → Option ℕ) (count : ℕ) → StaysWithin base count → (i : ℕ) → i < count → chain_size base count (replicate count 1) i ≡ length (chain base count i)
+size_of_ones base count within i inside = sum_of_ones (λ j. slice_index (replicate count 1) j) (chain base count i)
+    (λ x has. get_or-replicate count x 1 0 (⊎_elim
+    (λ (same : x ≡ i). let w : x ≡ i = same in omega arith)
+    (λ (above : IsAncestor base i x). closed_ancestors base (λ y. y < count) (λ y j _ next. within y j next) i x (within i) above)
+    (in_chain base count i x has)))
 
 module _ (base : ℕ → Option ℕ) (count : ℕ) (own : List ℕ) where
   -- a size is that of the base, and its own

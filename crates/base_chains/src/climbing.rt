@@ -1,5 +1,4 @@
-ghost use Rattle.std.specs.Prelude.{◌≡◌, ◌<◌, ◌==◌, length, position, IfOk};
-ghost use Rattle.std.specs.Prelude.{Contains};
+ghost use Rattle.std.specs.Prelude.{◌≡◌, ◌<◌, ◌==◌, length, position, Contains, IfOk};
 ghost use Rattle.base_chains.specs.Chains.{base_at, StaysWithin};
 ghost use Rattle.base_chains.specs.Climbs.{IsClimb, cycle_of};
 ghost use Rattle.base_chains.specs.Walks.{IsFirst};
@@ -16,7 +15,7 @@ pub struct WayUp {
     pub exit: Option<usize>,
 }
 
-/// Climbs from a place to its base, and so on, as long as the places are new. Each counts as seen then.
+/// Climbs from a place to its base, and so on, as long as the places are new. Each is marked as seen then.
 pub fn climb(
     alloc: Global,
     bases: &[Option<usize>],

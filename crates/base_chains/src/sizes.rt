@@ -8,8 +8,8 @@ use emc_base::Memory;
 use std::alloc::Global;
 
 /// For each type the sum of what it and all that stand above it have of their own, by an order in which each follows its
-/// base. Where each has 1 of its own, this is how deep it stands, a root at 1. No sum passes 2^64, since there are fewer
-/// than 2^32 types.
+/// base. Where each has 1 of its own, this is how deep it stands, a root at 1. No sum reaches 2^64, since there are fewer
+/// than 2^32 types. `Memory` comes where memory ran out.
 pub fn chain_sizes(
     alloc: Global,
     bases: &[Option<usize>],

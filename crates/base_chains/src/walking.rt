@@ -16,7 +16,7 @@ pub enum Walk {
 }
 
 /// The order of types in which each follows its base, or the first type that stands above itself. The time is linear in
-/// their number.
+/// their number. `Memory` comes where memory ran out.
 pub fn walk_bases(alloc: Global, bases: &[Option<usize>]) -> Result<Walk, Memory>
     requires within { StaysWithin (base_at bases.now) (length bases.now) }
     ensures { IfOk result (IsWalk (base_at bases.now) (length bases.now)) }
