@@ -16,17 +16,17 @@ pub struct Places {
 
 impl Places {
     /// The place where the name is given first, counted from 0; `None` exactly where it is given nowhere.
-    pub fn place_of(&self, name: &Txt) -> Option<usize>
+    pub fn place_of(&self, name: &str) -> Option<usize>
         ensures { result ≡ place_in self.now name.now }
     {
-        self.by_name.get(name.as_str()).copied()
+        self.by_name.get(name).copied()
     }
 
     /// Whether the item's name was given before its place, in any list whose places these are.
     pub fn is_given_before<T: Named>(&self, place: usize, item: &T) -> bool
         ensures { (items : List T) → place_in self.now ≡ first_place T.name_in items → (IsTrue result ↔ IsGivenBefore T.name_in items place item.now) }
     {
-        self.place_of(item.name())
+        self.place_of(item.name().as_str())
             .is_some_and(|first| first < place)
     }
 }

@@ -26,9 +26,9 @@ fn places_are_found(rt: HostRuntime) -> Result<(), Fail> {
         Txt::of(alloc, "tin")?,
     ];
     let places = first_places(alloc, &names)?;
-    assert_eq!(rt; places.place_of(&names[2]), Some(0));
-    assert_eq!(rt; places.place_of(&names[1]), Some(1));
-    assert_eq!(rt; places.place_of(&Txt::of(alloc, "ti")?), None);
+    assert_eq!(rt; places.place_of(names[2].as_str()), Some(0));
+    assert_eq!(rt; places.place_of(names[1].as_str()), Some(1));
+    assert_eq!(rt; places.place_of("ti"), None);
     Ok(())
 }
 
