@@ -25,7 +25,7 @@ use Rattle.sound_examples.proofs.Mappings.{asked, compares_in_domain, is_pair, p
 abbrev pub Compares : Schema → TableId → Cond → Type 0
 Compares schema table cond = ComparesInDomain schema table cond × ComparesNoBarred schema table cond
 
--- the parts of one key that pairs write to those of another, or from these
+-- pairs hold each part of one key with one of the other
 module _ {X Y : Type 0} (same : X → X → Bool) (same_other : Y → Y → Bool) (of : Pair → X) (other_of : Pair → Y) where
   -- the pair is of this part, and of one of the other key
   abbrev writes : List Y → X → Pair → Bool
@@ -43,10 +43,11 @@ module _ {X Y : Type 0} (same : X → X → Bool) (same_other : Y → Y → Bool
         (λ x passed. any_passes (λ pair. (of pair ≡ x) × Contains others (other_of pair)) (writes others x) (written x) pairs passed) xs tests
 
 module _ (schema : Schema) (fragment : Fragment) where
-  -- the keys that the fragment writes: that of its set, and that of its table
+  -- the key of the fragment's set
   abbrev key_here : List PropId
   key_here = set_key schema.model fragment.set
 
+  -- the key of its table
   abbrev key_there : List ColId
   key_there = key_columns schema.store fragment.table
 
@@ -54,17 +55,20 @@ module _ (schema : Schema) (fragment : Fragment) where
   abbrev IsShared : PropId → Type 0
   IsShared p = All (λ pick. Contains (props_of schema.model pick.ty) p) fragment.picks
 
+  -- the test of this
   abbrev is_shared : PropId → Bool
   is_shared p = list_all (λ pick. is_among same_prop (props_of schema.model pick.ty) p) fragment.picks
 
+  -- the pair is in range, and each picked type has its property
   abbrev may_write : Pair → Bool
   may_write pair = is_pair schema fragment.table pair && is_shared pair.prop
 
-  -- what a condition is on is in range and no part of a key
+  -- what a condition is on is in range and no part of a key, and each picked type has it where it is a property
   abbrev may_ask : CondOn → Bool
   may_ask (on.Prop p) = all_true (ltb p.index (length schema.model.props) ∷ is_shared p ∷ is_new same_prop p key_here ∷ [])
   may_ask (on.Col c) = all_true (ltb c.index (length (columns_of schema.store fragment.table)) ∷ is_new same_col c key_there ∷ [])
 
+  -- every id is in range, what is written and asked may be, both keys are written whole, and nothing is written twice
   abbrev fragment_tests : List Bool
   fragment_tests = ltb fragment.set.index (length schema.model.sets)
       ∷ ltb fragment.table.index (length schema.store.tables)
@@ -107,6 +111,7 @@ module _ (schema : Schema) (fragment : Fragment) where
   shared_props each each_cond p (inl some) = subst IsShared some.4 (All-contains (λ pair. IsShared pair.prop) fragment.pairs some.1 each (some.0, some.2, some.3))
   shared_props each each_cond p (inr some) = (asked MayAsk fragment.conds (on.Prop p) each_cond some).1
 
+  -- what no test decides: what types are picked, kinds, and constants
   pub fragment_from : all_true fragment_tests ≡ true → AllByRecursion (λ pick. IsUnderElement schema.model fragment.set pick.ty) fragment.picks
       → AllByRecursion (IsHeld schema fragment.table) fragment.pairs → AllByRecursion (Compares schema fragment.table) fragment.conds → IsSoundFragment schema fragment
   fragment_from tests picks held compared =

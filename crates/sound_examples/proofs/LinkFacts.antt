@@ -31,9 +31,11 @@ holds_once these props tests =
     }
 
 module _ (schema : Schema) (fragment : LinkFragment) (mapped : Assoc) where
+  -- the properties of pairs
   abbrev props : List Pair → List PropId
   props pairs = map (λ pair. pair.prop) pairs
 
+  -- every id is in range, each end's key is written once, and no column twice
   abbrev link_tests : List Bool
   link_tests = ltb fragment.assoc.index (length schema.model.assocs)
       ∷ ltb fragment.table.index (length schema.store.tables)
@@ -44,7 +46,7 @@ module _ (schema : Schema) (fragment : LinkFragment) (mapped : Assoc) where
       ∷ []
 
   module _ (tests : all_true link_tests ≡ true) (bare : AllByRecursion (λ cond. ⊥) fragment.conds) where
-    -- there is no condition
+    -- what holds of no condition
     of_none : (P : Cond → Type 0) → All P fragment.conds
     of_none P = all_from P (λ cond. ⊥) fragment.conds (λ cond none. absurd none) bare
 

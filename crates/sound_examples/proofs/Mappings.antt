@@ -61,7 +61,7 @@ compares_in_domain schema table what constant kind is lies simple other test k i
     subst P one (subst (λ v. InDomain v kind × ¬ IsBinary kind) same (lies, simple))
 
 module _ (schema : Schema) (prop_of : TableId → ColId → PropId) (owner_of : TableId → Owner) where
-  -- the pair writes the primary key as is told
+  -- the pair writes the primary key as is told: a test, and what it tells
   abbrev agrees : TableId → Pair → Bool
   agrees table pair = is_new same_col pair.col (key_columns schema.store table) || same_prop pair.prop (prop_of table pair.col)
 
@@ -72,6 +72,7 @@ module _ (schema : Schema) (prop_of : TableId → ColId → PropId) (owner_of : 
       by true is = absurd (not_in same_col cols_decide pair.col (key_columns schema.store table) is in_key)
       by false is = (props_decide pair.prop (prop_of table pair.col)).0 (subst (λ new. (new || same_prop pair.prop (prop_of table pair.col)) ≡ true) is test)
 
+  -- these pairs do, and the set owns the table as is told
   abbrev pub IsTold : TableId → SetId → List Pair → Type 0
   IsTold table s pairs = (list_all (agrees table) pairs ≡ true) × (set s ≡ owner_of table)
 

@@ -1,4 +1,4 @@
--- Sound models, item by item.
+-- Sound models, by tests and item by item.
 use Rattle.std.proofs.Common.{◌≡◌, ◌≢◌, ℕ, ◌<◌, List, [], ◌∷◌, ◌++◌, map, length, refl, sym, ap, subst, arith}
 use Rattle.std.specs.Prelude.{Bool, bytes_eq, not, true, false, Option, Some, None, MatchOption, option_map, slice_get, ⊤, Contains, All}
 use Rattle.std.specs.List.{AllByRecursion, list_all}
@@ -34,17 +34,20 @@ module _ (model : EntityModel) where
   IsNode node = (map node_type (nodes_below node) ≡ types_based_on model (node_type node))
       × MatchOption (slice_get model.types (node_type node).index) ⊤ (λ type. (out-TypeNode node).is_abstract ≡ type.is_abstract)
 
-  -- the id is that of a type, and that of a property
+  -- the id is that of a type
   abbrev is_type : TypeId → Bool
   is_type t = ltb t.index (length model.types)
 
+  -- that of a property
   abbrev is_prop : PropId → Bool
   is_prop p = ltb p.index (length model.props)
 
+  -- the sets and types of both ends are in range
   abbrev has_ends : Assoc → Bool
   has_ends assoc = all_true (
       ltb assoc.first.set.index (length model.sets) ∷ is_type assoc.first.ty ∷ ltb assoc.second.set.index (length model.sets) ∷ is_type assoc.second.ty ∷ [])
 
+  -- so are the properties of a constraint
   abbrev has_props : Constraint → Bool
   has_props constraint = list_all is_prop (constraint.principal ++ constraint.dependent)
 

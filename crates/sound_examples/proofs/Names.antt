@@ -29,7 +29,7 @@ pub each_two_named : {X Y : Type 0} (R : List ℕ → List ℕ → Type 0) (name
 each_two_named R name other_name [] ys each = tt
 each_two_named R name other_name (x ∷ xs) ys each = (each_named (R (name x)) other_name ys each.0, each_two_named R name other_name xs ys each.1)
 
--- ids of one number are one
+-- ids are the same if their numbers are
 module _ {X : Type 0} (number : X → ℕ) (only : (x y : X) → number x ≡ number y → x ≡ y) where
   numbers_decide : (x y : X) → Decides (number x == number y) (x ≡ y)
   numbers_decide x y = (
@@ -37,6 +37,7 @@ module _ {X : Type 0} (number : X → ℕ) (only : (x y : X) → number x ≡ nu
     (λ same. (Decides-eqb (number x) (number y)).1 (ap number same)),
   )
 
+-- two ids of one sort have one number
 abbrev pub same_prop : PropId → PropId → Bool
 same_prop p q = p.index == q.index
 

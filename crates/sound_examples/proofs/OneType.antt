@@ -17,6 +17,7 @@ use Rattle.sound_examples.proofs.Tests.{all_true, each_true, are_new}
 use Rattle.sound_examples.proofs.Models.{ForestFacts, FallsBack, IsPart, id_tests, name_tests, key_tests, root_type, model_from}
 
 module _ (name : List ℕ) (key own : List PropId) (props : List Prop) (set_name : List ℕ) (assocs : List Assoc) where
+  -- the type by its name, key and properties
   abbrev only_type : EntityType
   only_type = concrete_type name None key own
 
@@ -28,6 +29,7 @@ module _ (name : List ℕ) (key own : List PropId) (props : List Prop) (set_name
   unfolding node.out-TypeNode denote.Hole.Carrier.out block.shown-the_row-TypeNode-0 denote.Hole.Carrier.shown
   forest = record { roots = refl; tops = (here (leaf (type_id 0)) [], tt); lower = (tt, tt); ids = (omega arith, tt); each = ((refl, refl), tt) }
 
+  -- ids, names and key
   abbrev pub one_type_tests : List Bool
   one_type_tests = all_true (all_true (id_tests one_type) ∷ all_true (name_tests one_type) ∷ []) ∷ are_new bytes_eq (own_names one_type (type_id 0) only_type)
       ∷ all_true (key_tests one_type (type_id 0) key) ∷ []

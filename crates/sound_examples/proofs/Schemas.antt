@@ -20,6 +20,7 @@ module _ (schema : Schema) (prop_of : TableId → ColId → PropId) (owner_of : 
   LinkFits fragment = (mapped : Assoc) × At schema.model.assocs fragment.assoc.index mapped
       × (HasLinkFragmentIds schema fragment × IsSoundLinkFragment schema fragment mapped) × LinkIsTold schema prop_of owner_of fragment mapped
 
+  -- where the fragments stand
   abbrev places : List (List ℕ)
   places = map (λ fragment. fragment.place) schema.mapping.fragments ++ map (λ fragment. fragment.place) schema.mapping.links
 

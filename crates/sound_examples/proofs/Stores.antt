@@ -1,4 +1,4 @@
--- Sound stores, item by item.
+-- Sound stores, by tests and item by item.
 use Rattle.std.proofs.Common.{◌≡◌, ◌≢◌, ◌<◌, ◌≤◌, List, [], ◌∷◌, map, length, sym, subst, ℕ}
 use Rattle.std.specs.Prelude.{Bool, bytes_eq, true, option_map, All}
 use Rattle.std.specs.List.{AllByRecursion, list_all}
@@ -15,9 +15,11 @@ use Rattle.sound_examples.proofs.Tests.{all_true, each_true, all_pass, are_new}
 use Rattle.sound_examples.proofs.Lists.{all, apart, one_held}
 
 module _ (store : StoreModel) where
+  -- the id is that of a column of the table
   abbrev is_column : TableId → ColId → Bool
   is_column table col = ltb col.index (length (columns_of store table))
 
+  -- the tables and columns of a foreign key are in range
   abbrev foreign_tests : ForeignKey → List Bool
   foreign_tests key = ltb key.from.index (length store.tables) ∷ ltb key.to.index (length store.tables)
       ∷ list_all (is_column key.from) key.from_cols ∷ list_all (is_column key.to) key.to_cols ∷ []
