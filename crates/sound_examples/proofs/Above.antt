@@ -1,15 +1,17 @@
 -- Models in which a type's base has no base itself.
 use Rattle.std.specs.List.{AllByRecursion}
 use Rattle.std.proofs.Common.{◌≡◌, refl, subst, ◌∙◌, List}
-use Rattle.std.specs.Prelude.{true, Some, None, MatchOption, slice_get, ⊤, Contains}
+use Rattle.std.specs.Prelude.{bytes_eq, true, Some, None, MatchOption, slice_get, ⊤, Contains}
 use Rattle.std.proofs.lemmas.Option.{MatchOption-at_some}
+use Rattle.std.proofs.lemmas.Slice.Eq.{bytes_eq-Decides}
 use Rattle.round_trip.specs.Words.{TypeId, EntityModel, EntityType, TypeNode, At, HasBase, IsA}
 use Rattle.edm_types.specs.IsA.{same, base, chain}
 use Rattle.worked_examples.proofs.Small.{EachAt, each_at, each_of}
 use Rattle.worked_examples.specs.Ids.{type_id}
 use Rattle.soundness.specs.ModelNames.{own_names, HasDistinctMembers}
-use Rattle.sound_examples.proofs.Names.{are_new, share_none, all_new, none_shared}
-use Rattle.sound_examples.proofs.Lists.{apart, none_among}
+use Rattle.sound_examples.proofs.Names.{names_apart}
+use Rattle.sound_examples.proofs.Tests.{are_new, share_none, none_shared}
+use Rattle.sound_examples.proofs.Lists.{none_among}
 use Rattle.soundness.specs.Lookups.{IsAncestor}
 use Rattle.soundness.specs.Inheritance.{HasNoCircle, IsNodeOf, nodes_below}
 use Rattle.soundness.specs.Inheritance.{top, below}
@@ -25,7 +27,7 @@ module _ (model : EntityModel) where
 
   -- the names of a type's members differ, from one another and from those of its base
   abbrev pub HasOtherNames : TypeId → EntityType → Type 0
-  HasOtherNames t type = (are_new (own_names model t type) ≡ true) × OfBase (λ u above. share_none (own_names model t type) (own_names model u above) ≡ true) type
+  HasOtherNames t type = (are_new bytes_eq (own_names model t type) ≡ true) × OfBase (λ u above. share_none bytes_eq (own_names model t type) (own_names model u above) ≡ true) type
 
   pub of_base : (P : TypeId → EntityType → Type 0) (type : EntityType) (u : TypeId) (above : EntityType)
       → type.base ≡ Some u → At model.types u.index above → OfBase P type → P u above
@@ -60,14 +62,14 @@ module _ (model : EntityModel) (flat : IsFlat model) where
   members each t type at =
       let facts : HasOtherNames model t type = each_at (λ i entry. HasOtherNames model (type_id i) entry) model.types each t.index type at in
       record {
-        own = apart (own_names model t type) (all_new (own_names model t type) facts.0);
+        own = names_apart (own_names model t type) facts.0;
         inherited = λ u ancestor above is_above.
             let has : HasBase model t u = only_above t u above in
             let same : has.0 ≡ type = cc (has.1, at) in
             let is : type.base ≡ Some u = subst (λ (entry : EntityType). entry.base ≡ Some u) same has.2 in
-            let test : share_none (own_names model t type) (own_names model u ancestor) ≡ true
-            = of_base model (λ v entry. share_none (own_names model t type) (own_names model v entry) ≡ true) type u ancestor is is_above facts.1 in
-            none_among (own_names model u ancestor) (own_names model t type) (none_shared (own_names model t type) (own_names model u ancestor) test);
+            let test : share_none bytes_eq (own_names model t type) (own_names model u ancestor) ≡ true
+            = of_base model (λ v entry. share_none bytes_eq (own_names model t type) (own_names model v entry) ≡ true) type u ancestor is is_above facts.1 in
+            none_among (own_names model u ancestor) (own_names model t type) (none_shared bytes_eq bytes_eq-Decides (own_names model t type) (own_names model u ancestor) test);
       }
 
 -- the listed nodes are all of the forest, if they hold its trees and what is below each of them

@@ -1,7 +1,9 @@
 mod Lists
+mod Tests
 mod Names
 mod Above
 mod Models
+mod OneType
 mod People
 mod Staff
 mod Bosses
@@ -13,6 +15,7 @@ mod SoundStores
 mod BrokenStores
 mod Mappings
 mod FragmentFacts
+mod LinkFacts
 mod Schemas
 mod PeopleMapped
 mod BossesMapped

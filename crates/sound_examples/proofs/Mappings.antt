@@ -1,80 +1,86 @@
 -- Sound mappings, fragment by fragment.
-use Rattle.std.proofs.Common.{◌≡◌, ◌≢◌, inl, inr, List, sym, subst, ap, ◌∙◌}
-use Rattle.std.specs.Prelude.{Some, Contains, ⊤}
-use Rattle.std.specs.List.{AllByRecursion}
-use Rattle.round_trip.specs.Words.{SetId, PropId, TableId, ColId, Value, Kind, Assoc, Fragment, Pair, LinkFragment, Cond, CondOn, Schema, At, props_of, key_columns, InDomain}
+use Rattle.std.proofs.Common.{◌≡◌, inl, inr, List, ◌&&◌, ◌||◌, length, sym, subst, ap, refl, ◌∙◌}
+use Rattle.std.specs.Prelude.{Bool, true, false, Some, MatchOption, option_map, All, Contains}
+use Rattle.std.specs.List.{AllByRecursion, list_all}
+use Rattle.std.proofs.Math.Dec.{ltb}
+use Rattle.std.proofs.lemmas.Bool.{ltb-true, and_parts}
+use Rattle.std.proofs.lemmas.Option.{MatchOption-at_some}
+use Rattle.std.proofs.lemmas.List.Elements.{All-contains}
+use Rattle.round_trip.specs.Words.{SetId, PropId, TableId, ColId, Value, Kind, Prop, Assoc, Fragment, Pair, LinkFragment, Cond, CondOn, Schema, At, key_columns, InDomain}
 use Rattle.round_trip.specs.FailsAt.{IsHostedAt}
-use Rattle.edm_types.specs.declared.mapping.CondOn.TheVariants as on
 use Rattle.edm_types.specs.declared.mapping.Test.TheVariants.{Equals}
 use Rattle.worked_examples.proofs.Small.{each_of}
-use Rattle.soundness.specs.Kinds.{IsBinary, Corresponds}
-use Rattle.soundness.specs.Lookups.{prop_kind, column_kind}
-use Rattle.soundness.specs.Fragments.{NamesSharedProps, WritesToFitting}
-use Rattle.soundness.specs.Conditions.{AskOf, AskOfNoProp, AskOfNoKeyProp, AskOfNoKeyColumn, kind_of, ComparesInDomain}
+use Rattle.soundness.specs.Kinds.{IsBinary, IsEnum, Corresponds}
+use Rattle.soundness.specs.Lookups.{columns_of, prop_kind, column_kind}
+use Rattle.soundness.specs.Fragments.{WritesToFitting}
+use Rattle.soundness.specs.Conditions.{AskOf, kind_of, ComparesInDomain}
+use Rattle.soundness.specs.Joined.{WritesNoBarredEnum}
+use Rattle.soundness.specs.Mappings.{HasPairIds}
 use Rattle.soundness.specs.Owners.{Owner, set, assoc, IsJoined, LinkMaps, Owns, PairsKeysAlike, IsOwner, HasOneOwner}
-use Rattle.sound_examples.proofs.Lists.{all, not_among}
+use Rattle.sound_examples.proofs.Names.{same_prop, same_col, props_decide, cols_decide}
+use Rattle.sound_examples.proofs.Tests.{each_passes, is_new, not_in}
 
 -- what holds of the condition that is on something
-asked : (P : CondOn → Type 0) (conds : List Cond) (what : CondOn) → AllByRecursion (λ cond. P cond.on) conds → AskOf conds what → P what
-asked P conds what each some = subst P some.4 (each_of (λ (cond : Cond). P cond.on) conds some.1 each (some.0, some.2, some.3))
+pub asked : (P : CondOn → Type 0) (conds : List Cond) (what : CondOn) → All (λ cond. P cond.on) conds → AskOf conds what → P what
+asked P conds what each some = subst P some.4 (All-contains (λ (cond : Cond). P cond.on) conds some.1 each (some.0, some.2, some.3))
 
--- a property or a column that isn't among these
-abbrev pub IsOutside : List PropId → List ColId → CondOn → Type 0
-IsOutside props cols (on.Prop p) = AllByRecursion (λ prop. p ≢ prop) props
-IsOutside props cols (on.Col c) = AllByRecursion (λ col. c ≢ col) cols
+module _ (schema : Schema) (table : TableId) where
+  -- the property and the column of the pair are in range
+  abbrev pub is_pair : Pair → Bool
+  is_pair pair = ltb pair.prop.index (length schema.model.props) && ltb pair.col.index (length (columns_of schema.store table))
 
--- if it is a property, P holds of it
-abbrev pub IfProp : (PropId → Type 0) → CondOn → Type 0
-IfProp P (on.Prop p) = P p
-IfProp P (on.Col c) = ⊤
+  pub pair_told : (pair : Pair) → is_pair pair ≡ true → HasPairIds schema table pair
+  pair_told pair test =
+      let parts = and_parts (ltb pair.prop.index (length schema.model.props)) (ltb pair.col.index (length (columns_of schema.store table))) test in
+      (ltb-true pair.prop.index (length schema.model.props) parts.0, ltb-true pair.col.index (length (columns_of schema.store table)) parts.1)
 
-module _ (conds : List Cond) where
-  pub no_prop : AllByRecursion (λ cond. IfProp (λ p. ⊥) cond.on) conds → AskOfNoProp conds
-  no_prop columns prop some = asked (IfProp (λ p. ⊥)) conds (on.Prop prop) columns some
+  -- the pair writes a property that is no enumeration to a column that holds it
+  abbrev pub IsHeld : Pair → Type 0
+  IsHeld pair = MatchOption (prop_kind schema.model pair.prop) ⊥ (λ property. ¬ IsEnum property
+      × MatchOption (column_kind schema.store table pair.col) ⊥ (λ column. Corresponds property column))
 
-  module _ (schema : Schema) (table : TableId) (key : List PropId) (outside : AllByRecursion (λ cond. IsOutside key (key_columns schema.store table) cond.on) conds) where
-    pub no_key_prop : AskOfNoKeyProp key conds
-    no_key_prop prop some among = not_among key prop (asked (IsOutside key (key_columns schema.store table)) conds (on.Prop prop) outside some) among
+  pub held_fits : (pair : Pair) → IsHeld pair → WritesToFitting schema table pair
+  held_fits pair held property column is_property is_column =
+      let one : ¬ IsEnum property × MatchOption (column_kind schema.store table pair.col) ⊥ (λ other. Corresponds property other)
+      = MatchOption-at_some ⊥ (λ kind. ¬ IsEnum kind × MatchOption (column_kind schema.store table pair.col) ⊥ (λ other. Corresponds kind other)) property is_property held in
+      MatchOption-at_some ⊥ (λ other. Corresponds property other) column is_column one.1
 
-    pub no_key_column : AskOfNoKeyColumn schema.store table conds
-    no_key_column col some among = not_among (key_columns schema.store table) col (asked (IsOutside key (key_columns schema.store table)) conds (on.Col col) outside some) among
+  pub held_no_enum : (pair : Pair) → IsHeld pair → WritesNoBarredEnum schema pair
+  held_no_enum pair held declared at enum =
+      let one : ¬ IsEnum declared.kind × MatchOption (column_kind schema.store table pair.col) ⊥ (λ column. Corresponds declared.kind column)
+      = MatchOption-at_some ⊥ (λ kind. ¬ IsEnum kind × MatchOption (column_kind schema.store table pair.col) ⊥ (λ column. Corresponds kind column)) declared.kind
+      (ap (option_map (λ (prop : Prop). prop.kind)) at) held in
+      absurd (one.0 enum)
 
-module _ (schema : Schema) (fragment : Fragment) where
-  -- each picked type has the property
-  abbrev pub IsShared : PropId → Type 0
-  IsShared p = AllByRecursion (λ pick. Contains (props_of schema.model pick.ty) p) fragment.picks
-
-  pub shared_props : AllByRecursion (λ pair. IsShared pair.prop) fragment.pairs → AllByRecursion (λ cond. IfProp IsShared cond.on) fragment.conds
-      → NamesSharedProps schema fragment
-  shared_props each each_cond prop (inl some) =
-      let is : IsShared prop = subst IsShared some.4 (each_of (λ pair. IsShared pair.prop) fragment.pairs some.1 each (some.0, some.2, some.3)) in
-      all (λ pick. Contains (props_of schema.model pick.ty) prop) fragment.picks is
-  shared_props each each_cond prop (inr some) =
-      let is : IsShared prop = asked (IfProp IsShared) fragment.conds (on.Prop prop) each_cond some in
-      all (λ pick. Contains (props_of schema.model pick.ty) prop) fragment.picks is
-
-pub writes_fitting : (schema : Schema) (table : TableId) (pair : Pair) (property column : Kind) → prop_kind schema.model pair.prop ≡ Some property
-    → column_kind schema.store table pair.col ≡ Some column → Corresponds property column → WritesToFitting schema table pair
-writes_fitting schema table pair property column is_property is_column fits k l is_k is_l =
-    let one : property ≡ k = cc (is_property, is_k) in
-    let two : column ≡ l = cc (is_column, is_l) in
-    subst (λ m. Corresponds k m) two (subst (λ m. Corresponds m column) one fits)
-
-pub compares : (schema : Schema) (table : TableId) (what : CondOn) (constant : Value) (kind : Kind) → kind_of schema table what ≡ Some kind
+pub compares_in_domain : (schema : Schema) (table : TableId) (what : CondOn) (constant : Value) (kind : Kind) → kind_of schema table what ≡ Some kind
     → InDomain constant kind → ¬ IsBinary kind → ComparesInDomain schema table (record { on = what; test = Equals constant })
-compares schema table what constant kind is lies simple other test k is_k =
+compares_in_domain schema table what constant kind is lies simple other test k is_k =
     let one : kind ≡ k = cc (is, is_k) in
     let same : constant ≡ other = cc (test) in
     let P : Kind → Type 0 = λ m. InDomain other m × ¬ IsBinary m in
     subst P one (subst (λ v. InDomain v kind × ¬ IsBinary kind) same (lies, simple))
 
 module _ (schema : Schema) (prop_of : TableId → ColId → PropId) (owner_of : TableId → Owner) where
-  -- the pair writes the primary key as is told
-  abbrev pub Agrees : TableId → Pair → Type 0
+  -- the pair writes the primary key as is told: a test, and what it tells
+  abbrev agrees : TableId → Pair → Bool
+  agrees table pair = is_new same_col pair.col (key_columns schema.store table) || same_prop pair.prop (prop_of table pair.col)
+
+  told_prop : (table : TableId) (pair : Pair) → agrees table pair ≡ true → Contains (key_columns schema.store table) pair.col → pair.prop ≡ prop_of table pair.col
+  told_prop table pair test in_key = by (is_new same_col pair.col (key_columns schema.store table)) refl
+    where
+      by : (new : Bool) → is_new same_col pair.col (key_columns schema.store table) ≡ new → pair.prop ≡ prop_of table pair.col
+      by true is = absurd (not_in same_col cols_decide pair.col (key_columns schema.store table) is in_key)
+      by false is = (props_decide pair.prop (prop_of table pair.col)).0 (subst (λ new. (new || same_prop pair.prop (prop_of table pair.col)) ≡ true) is test)
+
+  -- these pairs do, and the set owns the table as is told
+  abbrev pub IsTold : TableId → SetId → List Pair → Type 0
+  IsTold table s pairs = (list_all (agrees table) pairs ≡ true) × (set s ≡ owner_of table)
+
+  abbrev Agrees : TableId → Pair → Type 0
   Agrees table pair = Contains (key_columns schema.store table) pair.col → pair.prop ≡ prop_of table pair.col
 
-  abbrev pub IsTold : TableId → SetId → List Pair → Type 0
-  IsTold table s pairs = AllByRecursion (Agrees table) pairs × (set s ≡ owner_of table)
+  told_props : (table : TableId) (s : SetId) (pairs : List Pair) → IsTold table s pairs → AllByRecursion (Agrees table) pairs
+  told_props table s pairs told = each_passes (Agrees table) (agrees table) (told_prop table) pairs told.0
 
   -- an association is hosted where it is told
   pub record LinkIsTold (fragment : LinkFragment) (mapped : Assoc) : Type 0 where
@@ -84,35 +90,34 @@ module _ (schema : Schema) (prop_of : TableId → ColId → PropId) (owner_of : 
 
   -- each table has the owner and the pairing that are told
   pub record OwnersAreTold : Type 0 where
-    pub sets : AllByRecursion (λ fragment. IsTold fragment.table fragment.set fragment.pairs) schema.mapping.fragments
-    pub links : AllByRecursion (λ fragment. (mapped : Assoc) → At schema.model.assocs fragment.assoc.index mapped → LinkIsTold fragment mapped) schema.mapping.links
+    pub sets : All (λ fragment. IsTold fragment.table fragment.set fragment.pairs) schema.mapping.fragments
+    pub links : All (λ fragment. (mapped : Assoc) → At schema.model.assocs fragment.assoc.index mapped → LinkIsTold fragment mapped) schema.mapping.links
 
   module _ (told : OwnersAreTold) where
     link_told : (table : TableId) (fragment : LinkFragment) (mapped : Assoc) → LinkMaps schema table fragment mapped → LinkIsTold fragment mapped
     link_told table fragment mapped maps =
-        each_of (λ f. (other : Assoc) → At schema.model.assocs f.assoc.index other → LinkIsTold f other) schema.mapping.links fragment told.links maps.is_fragment mapped maps.is_assoc
+        All-contains (λ f. (other : Assoc) → At schema.model.assocs f.assoc.index other → LinkIsTold f other) schema.mapping.links fragment told.links maps.is_fragment mapped maps.is_assoc
+
+    -- what is told of the same table, set and pairs
+    told_of : (table other : TableId) (s r : SetId) (pairs others : List Pair) → table ≡ other → s ≡ r → others ≡ pairs → IsTold table s pairs → IsTold other r others
+    told_of table other s r pairs others to_table of_set pairs_are is =
+        subst (λ ps. IsTold other r ps) (sym pairs_are) (subst (λ q. IsTold other q pairs) of_set (subst (λ t. IsTold t s pairs) to_table is))
 
     owns_told : (table : TableId) (s : SetId) (pairs : List Pair) → Owns schema table s pairs → IsTold table s pairs
-    owns_told table s pairs (inl by) =
-        let is : IsTold by.fragment.table by.fragment.set by.fragment.pairs
-        = each_of (λ (f : Fragment). IsTold f.table f.set f.pairs) schema.mapping.fragments by.fragment told.sets by.is_fragment in
-        subst (λ ps. IsTold table s ps) (sym by.pairs_are) (subst (λ r. IsTold table r by.fragment.pairs) by.of_set (subst (λ t. IsTold t by.fragment.set by.fragment.pairs) by.to_table is))
+    owns_told table s pairs (inl by) = told_of by.fragment.table table by.fragment.set s by.fragment.pairs pairs by.to_table by.of_set by.pairs_are
+        (All-contains (λ (f : Fragment). IsTold f.table f.set f.pairs) schema.mapping.fragments by.fragment told.sets by.is_fragment)
     owns_told table s pairs (inr (fragment, mapped, maps, inl (hosted, of_set, pairs_are))) =
-        let P : TableId → Type 0 = λ t. IsTold t mapped.first.set fragment.first in
-        let back : IsHostedAt schema fragment.table fragment.first = subst (λ t. IsHostedAt schema t fragment.first) (sym maps.to_table) hosted in
-        let is : IsTold table mapped.first.set fragment.first = subst P maps.to_table ((link_told table fragment mapped maps).first back) in
-        subst (λ ps. IsTold table s ps) (sym pairs_are) (subst (λ r. IsTold table r fragment.first) of_set is)
+        told_of fragment.table table mapped.first.set s fragment.first pairs maps.to_table of_set pairs_are
+        ((link_told table fragment mapped maps).first (subst (λ t. IsHostedAt schema t fragment.first) (sym maps.to_table) hosted))
     owns_told table s pairs (inr (fragment, mapped, maps, inr (hosted, of_set, pairs_are))) =
-        let P : TableId → Type 0 = λ t. IsTold t mapped.second.set fragment.second in
-        let back : IsHostedAt schema fragment.table fragment.second = subst (λ t. IsHostedAt schema t fragment.second) (sym maps.to_table) hosted in
-        let is : IsTold table mapped.second.set fragment.second = subst P maps.to_table ((link_told table fragment mapped maps).second back) in
-        subst (λ ps. IsTold table s ps) (sym pairs_are) (subst (λ r. IsTold table r fragment.second) of_set is)
+        told_of fragment.table table mapped.second.set s fragment.second pairs maps.to_table of_set pairs_are
+        ((link_told table fragment mapped maps).second (subst (λ t. IsHostedAt schema t fragment.second) (sym maps.to_table) hosted))
 
     pub pairings : PairsKeysAlike schema
     pairings table s pairs others owns owns_too one other among among_too same_col in_key =
-        let first : one.prop ≡ prop_of table one.col = each_of (Agrees table) pairs one (owns_told table s pairs owns).0 among in_key in
+        let first : one.prop ≡ prop_of table one.col = each_of (Agrees table) pairs one (told_props table s pairs (owns_told table s pairs owns)) among in_key in
         let second : other.prop ≡ prop_of table other.col
-        = each_of (Agrees table) others other (owns_told table s others owns_too).0 among_too (subst (Contains (key_columns schema.store table)) same_col in_key) in
+        = each_of (Agrees table) others other (told_props table s others (owns_told table s others owns_too)) among_too (subst (Contains (key_columns schema.store table)) same_col in_key) in
         first ∙ ap (prop_of table) same_col ∙ sym second
 
     owner_told : (table : TableId) (owner : Owner) → IsOwner schema table owner → owner ≡ owner_of table

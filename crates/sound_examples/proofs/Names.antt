@@ -1,48 +1,18 @@
--- Names that differ, by tests that compute.
-use Rattle.std.proofs.Common.{◌≡◌, ◌≢◌, ℕ, List, [], ◌∷◌, ◌&&◌, Bool, true, false, not, map, ap}
-use Rattle.std.specs.Prelude.{◌==◌, bytes_eq}
-use Rattle.std.proofs.lemmas.Bool.Decides.{Decides-eqb}
-use Rattle.round_trip.specs.Words.{PropId, ColId}
+-- Names and ids that differ, by tests that compute.
+use Rattle.std.proofs.Common.{◌≡◌, ◌≢◌, ℕ, List, [], ◌∷◌, Bool, false, map, ap}
+use Rattle.std.specs.Prelude.{◌==◌, bytes_eq, true}
+use Rattle.std.specs.Bool.{Decides}
 use Rattle.std.specs.List.{AllByRecursion}
-use Rattle.std.proofs.lemmas.Bool.{and_parts, not-true}
+use Rattle.std.proofs.lemmas.Bool.Decides.{Decides-eqb, not_from_Decides}
 use Rattle.std.proofs.lemmas.Slice.Eq.{bytes_eq-Decides}
+use Rattle.round_trip.specs.Words.{PropId, ColId, AssocId}
 use Rattle.worked_examples.proofs.Small.{PairsByRecursion}
+use Rattle.soundness.specs.Lists.{AreApart}
+use Rattle.sound_examples.proofs.Lists.{apart}
+use Rattle.sound_examples.proofs.Tests.{are_new, all_new}
 
-pub differ : (name other : List ℕ) → bytes_eq name other ≡ false → name ≢ other
-differ name other test same = let is : bytes_eq name other ≡ true = (bytes_eq-Decides name other).1 same in absurd (cc)
-
--- the name is none of these
-abbrev pub is_new : List ℕ → List (List ℕ) → Bool
-is_new name [] = true
-is_new name (other ∷ others) = not (bytes_eq name other) && is_new name others
-
--- no name stands twice
-abbrev pub are_new : List (List ℕ) → Bool
-are_new [] = true
-are_new (name ∷ names) = is_new name names && are_new names
-
--- no name of the first list stands in the second
-abbrev pub share_none : List (List ℕ) → List (List ℕ) → Bool
-share_none [] others = true
-share_none (name ∷ names) others = is_new name others && share_none names others
-
-pub new : (name : List ℕ) (others : List (List ℕ)) → is_new name others ≡ true → AllByRecursion (λ other. name ≢ other) others
-new name [] test = tt
-new name (other ∷ others) test =
-    let parts = and_parts (not (bytes_eq name other)) (is_new name others) test in
-    (differ name other (not-true (bytes_eq name other) parts.0), new name others parts.1)
-
-pub all_new : (names : List (List ℕ)) → are_new names ≡ true → PairsByRecursion (λ name other. name ≢ other) names
-all_new [] test = tt
-all_new (name ∷ names) test =
-    let parts = and_parts (is_new name names) (are_new names) test in
-    (new name names parts.0, all_new names parts.1)
-
-pub none_shared : (names others : List (List ℕ)) → share_none names others ≡ true → AllByRecursion (λ name. AllByRecursion (λ other. name ≢ other) others) names
-none_shared [] others test = tt
-none_shared (name ∷ names) others test =
-    let parts = and_parts (is_new name others) (share_none names others) test in
-    (new name others parts.0, none_shared names others parts.1)
+pub names_apart : (names : List (List ℕ)) → are_new bytes_eq names ≡ true → AreApart names
+names_apart names test = apart names (all_new bytes_eq bytes_eq-Decides names test)
 
 module _ {X : Type 0} where
   -- what holds of the names of items holds of these
@@ -59,12 +29,39 @@ pub each_two_named : {X Y : Type 0} (R : List ℕ → List ℕ → Type 0) (name
 each_two_named R name other_name [] ys each = tt
 each_two_named R name other_name (x ∷ xs) ys each = (each_named (R (name x)) other_name ys each.0, each_two_named R name other_name xs ys each.1)
 
+-- ids are the same if their numbers are
+module _ {X : Type 0} (number : X → ℕ) (only : (x y : X) → number x ≡ number y → x ≡ y) where
+  numbers_decide : (x y : X) → Decides (number x == number y) (x ≡ y)
+  numbers_decide x y = (
+    (λ test. only x y ((Decides-eqb (number x) (number y)).0 test)),
+    (λ same. (Decides-eqb (number x) (number y)).1 (ap number same)),
+  )
+
+-- two ids of one sort have one number
+abbrev pub same_prop : PropId → PropId → Bool
+same_prop p q = p.index == q.index
+
+abbrev pub same_col : ColId → ColId → Bool
+same_col c d = c.index == d.index
+
+abbrev pub same_assoc : AssocId → AssocId → Bool
+same_assoc a b = a.index == b.index
+
+pub props_decide : (p q : PropId) → Decides (same_prop p q) (p ≡ q)
+props_decide p q = numbers_decide (λ prop. prop.index) (λ one other is. λ i. record { index = is i }) p q
+
+pub cols_decide : (c d : ColId) → Decides (same_col c d) (c ≡ d)
+cols_decide c d = numbers_decide (λ col. col.index) (λ one other is. λ i. record { index = is i }) c d
+
+pub assocs_decide : (a b : AssocId) → Decides (same_assoc a b) (a ≡ b)
+assocs_decide a b = numbers_decide (λ assoc. assoc.index) (λ one other is. λ i. record { index = is i }) a b
+
 -- ids of different numbers differ
 pub other_number : (i j : ℕ) → (i == j) ≡ false → i ≢ j
-other_number i j test same = let is : (i == j) ≡ true = (Decides-eqb i j).1 same in absurd (cc)
+other_number i j test = not_from_Decides (i == j) (Decides-eqb i j) test
 
-pub other_prop : (p q : PropId) → (p.index == q.index) ≡ false → p ≢ q
-other_prop p q test same = other_number p.index q.index test (ap (λ (prop : PropId). prop.index) same)
+pub other_prop : (p q : PropId) → same_prop p q ≡ false → p ≢ q
+other_prop p q test = not_from_Decides (same_prop p q) (props_decide p q) test
 
-pub other_col : (c d : ColId) → (c.index == d.index) ≡ false → c ≢ d
-other_col c d test same = other_number c.index d.index test (ap (λ (col : ColId). col.index) same)
+pub other_col : (c d : ColId) → same_col c d ≡ false → c ≢ d
+other_col c d test = not_from_Decides (same_col c d) (cols_decide c d) test
