@@ -1,2 +1,3 @@
 pub mod Raw
 pub mod References
+pub mod Scopes

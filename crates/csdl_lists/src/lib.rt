@@ -1,7 +1,9 @@
-//! What is written in a CSDL document, as lists.
+//! What is written in a CSDL document, as lists, and what the names in it stand for.
 #![tactic(auto)]
 
+mod named;
 mod raw;
+mod scope;
 #[cfg(test)]
 mod tests;
 
@@ -9,3 +11,4 @@ pub use raw::{
     RawAssociation, RawAssociationSet, RawBound, RawConstraint, RawContainer, RawEnd, RawEnum,
     RawMember, RawModel, RawNav, RawProp, RawRole, RawSet, RawSetEnd, RawType,
 };
+pub use scope::{Scope, rest_after};

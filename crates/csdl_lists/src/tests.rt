@@ -1,4 +1,3 @@
-use crate::first_model_fault;
 use crate::raw::{RawBound, RawModel};
 use emc_base::Bin;
 use from_nodes::FromNode;
@@ -12,7 +11,6 @@ const MODEL: &[u8] =
 #[test]
 fn a_model_is_read_as_it_is_written(rt: HostRuntime) -> Result<(), Fail> {
     let doc = Doc::of_bytes(rt.alloc(), &Bin::of(rt.alloc(), MODEL)?)?;
-    assert!(rt; first_model_fault(rt.alloc(), &doc)?.is_none());
     let model = RawModel::read(rt.alloc(), doc.root())?;
     assert_eq!(rt; model.namespace.as_str(), "N");
     assert_eq!(rt; model.container.association_sets.len(), 1);
