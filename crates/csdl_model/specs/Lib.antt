@@ -1,2 +1,1 @@
-pub mod Raw
 pub mod ModelFaults

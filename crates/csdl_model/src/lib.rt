@@ -1,13 +1,10 @@
-//! The reader of CSDL documents: the least rule that a document breaks, at its first place, and what is written in it as lists.
+//! The reader of CSDL documents: the least rule that a document breaks, at its first place.
 #![tactic(auto)]
 
+#[cfg(test)]
+mod documents;
 mod fault;
-mod raw;
 #[cfg(test)]
 mod tests;
 
 pub use fault::first_model_fault;
-pub use raw::{
-    RawAssociation, RawAssociationSet, RawBound, RawConstraint, RawContainer, RawEnd, RawEnum,
-    RawMember, RawModel, RawNav, RawProp, RawRole, RawSet, RawSetEnd, RawType,
-};

@@ -14,6 +14,7 @@ use Rattle.layouts.specs.declared.rule.Rule.TheVariants.{IsJson, HasForm, HasMem
 use Rattle.layouts.specs.Faults.{fault_cmp}
 use Rattle.layouts.specs.Rules.{rule_number}
 
+-- the order of faults is total
 pub fault_cmp_total : IsTotalOrder fault_cmp
 fault_cmp_total = then_total (on_total (λ fault. rule_number fault.rule) nat_cmp_total) (on_total (λ fault. fault.place) steps_cmp_total)
 
@@ -21,6 +22,7 @@ fault_cmp_total = then_total (on_total (λ fault. rule_number fault.rule) nat_cm
 rule_of : ℕ → Rule
 rule_of number = get_or (IsJson ∷ IsJson ∷ HasForm ∷ HasMembers ∷ IsKnown ∷ IsSupported ∷ NamedOnce ∷ Resolves ∷ Ancestors ∷ TypeKey ∷ KeyProperty ∷ InheritedName ∷ PropertyType ∷ Bound ∷ []) number IsBuilt
 
+-- its number has no other rule
 numbered : (rule : Rule) → rule_of (rule_number rule) ≡ rule
 unfolding rule_of
 numbered IsJson = refl
@@ -42,11 +44,13 @@ numbered IsBuilt = refl
 pub rules_apart : (one two : Rule) → rule_number one ≡ rule_number two → one ≡ two
 rules_apart one two same = sym (numbered one) ∙ ap rule_of same ∙ numbered two
 
+-- where two orders one after the other give Equal, both do
 both_alike : (one other : Ordering) → ordering_then one other ≡ Equal → (one ≡ Equal) × (other ≡ Equal)
 both_alike Less other is = absurd cc
 both_alike Equal other is = (refl, is)
 both_alike Greater other is = absurd cc
 
+-- faults that it doesn't tell apart are one
 pub fault_cmp_apart : IsAntisymmetric fault_cmp
 fault_cmp_apart one two same =
     let parts = both_alike (nat_cmp (rule_number one.rule) (rule_number two.rule)) (steps_cmp one.place two.place) same in
