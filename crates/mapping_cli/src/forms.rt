@@ -13,6 +13,17 @@ const NO_TYPE: (&str, u8) = ("rule V3 csdl \"/EntityType/0/Property/0/Type\"\n",
 
 const UNKNOWN: (&str, u8) = ("rule V4 csdl \"/X\"\n", 1);
 
+const NO_KEY: (&str, u8) = ("rule V9 csdl \"/EntityType/0/Key\"\n", 1);
+
+const NO_KEY_PROPERTY: (&str, u8) = ("rule V10 csdl \"/EntityType/0/Property/0\"\n", 1);
+
+const NO_MEMBERS: (&str, u8) = ("rule V12 csdl \"/EnumType/0/Member\"\n", 1);
+
+const NO_BOUND: (&str, u8) = (
+    "rule V13 csdl \"/EntityType/0/Property/1/MaxLength\"\n",
+    1,
+);
+
 const LEFT_OUT: (&str, u8) = (
     "rule V5 csdl \"/EntityType/0/Property/0/DefaultValue\"\n",
     1,
@@ -29,7 +40,7 @@ const LOST_WITH_QUOTES: (&str, u8) = (
 );
 
 /// What the documents show, their edits, and what is told of them with which number.
-pub(crate) const FORMS: [(&str, &[Edit], (&str, u8)); 29] = [
+pub(crate) const FORMS: [(&str, &[Edit], (&str, u8)); 31] = [
     ("the first example", &[], ACCEPTED),
     (
         "a name that isn't written",
@@ -126,7 +137,7 @@ pub(crate) const FORMS: [(&str, &[Edit], (&str, u8)); 29] = [
             ("M", r#""MaxLength":20"#, r#""MaxLength":1048577"#),
             ("S", r#""MaxLength":20"#, r#""MaxLength":1048577"#),
         ],
-        NOT_OF_THE_FORM,
+        NO_BOUND,
     ),
     (
         "a column that is named twice",
@@ -158,7 +169,7 @@ pub(crate) const FORMS: [(&str, &[Edit], (&str, u8)); 29] = [
     (
         "a key that may be null",
         &[("M", r#","Nullable":false"#, r#""#)],
-        NOT_OF_THE_FORM,
+        NO_KEY_PROPERTY,
     ),
     (
         "a key that is a text",
@@ -286,6 +297,16 @@ pub(crate) const FORMS: [(&str, &[Edit], (&str, u8)); 29] = [
             r#""Nullable":false,"DefaultValue":7"#,
         )],
         LEFT_OUT,
+    ),
+    (
+        "a model without a key",
+        &[("M", r#""Key":["Id"],"#, r#""#)],
+        NO_KEY,
+    ),
+    (
+        "an enumeration without members",
+        &[("M", r#"20}]}]}"#, r#"20}]}],"EnumType":[{"Name":"Color","Member":[]}]}"#)],
+        NO_MEMBERS,
     ),
     (
         "a member that is passed over",
