@@ -1,5 +1,5 @@
 -- Faults of rules: by what a test says, by the numbers of rules, and by the places of items.
-use Rattle.std.proofs.Common.{◌≡◌, ◌≢◌, ◌↔◌, ◌⊎◌, ⊎_elim, inl, ℕ, ◌<◌, ◌≤◌, List, ◌∷◌, MatchOption, Option, Some, None, refl, sym, ap, subst, ◌∙◌, arith}
+use Rattle.std.proofs.Common.{◌≡◌, ◌≢◌, ◌↔◌, ◌⊎◌, ⊎_elim, inl, inr, ℕ, ◌<◌, ◌≤◌, List, ◌∷◌, MatchOption, Option, Some, None, refl, sym, ap, subst, ◌∙◌, arith}
 use Rattle.std.specs.declared.cmp.Ordering.{Ordering}
 use Rattle.std.specs.declared.cmp.Ordering.TheVariants.{Less, Equal, Greater}
 use Rattle.std.specs.Cmp.{nat_cmp_is, nat_cmp_total, tied_itself}
@@ -16,7 +16,7 @@ use Rattle.layouts.specs.declared.fault.Fault.{Fault}
 use Rattle.layouts.specs.declared.rule.Rule.{Rule}
 use Rattle.layouts.specs.FaultOrder.{fault_cmp_total}
 use Rattle.layouts.specs.Faults.{fault_cmp}
-use Rattle.layouts.specs.Inside.{after}
+use Rattle.layouts.specs.Inside.{Under, after}
 use Rattle.layouts.proofs.Faults.{least_under, not_after_itself, same_fault}
 use Rattle.layouts.specs.Rules.{rule_number}
 use Rattle.rule_places.specs.Places.{InItems, InList, IsAt}
@@ -38,6 +38,11 @@ pub rule_inside : {X : Type 0} (B : Rule → Type 0) (member : List ℕ) (P : �
 rule_inside B member P items each fault some =
     each some.holds.i some.holds.item (record { rule = fault.rule; place = some.holds.holds.rest }) some.holds.holds.holds
 
+-- what holds of the rule of each fault at a node holds of that of each fault that is seen behind a step
+pub rule_behind : (B : Rule → Type 0) (step : Step) (P : Fault → Type 0) → ((inside : Fault) → P inside → B inside.rule)
+    → (fault : Fault) → Under step P fault → B fault.rule
+rule_behind B step P each fault some = each (record { rule = fault.rule; place = some.rest }) some.holds
+
 -- a rule of a lower number comes first
 lower_first : (one other : ℕ) (rest : Ordering) → one < other → ordering_then (nat_cmp one other) rest ≢ Greater
 lower_first one other rest lower = subst (λ (order : Ordering). ordering_then order rest ≢ Greater) (nat_cmp_is one other Less lower) (λ same. absurd cc)
@@ -46,6 +51,12 @@ lower_first one other rest lower = subst (λ (order : Ordering). ordering_then o
 pub least_of_lower : (P Q : Fault → Type 0) (found : Fault) → IsLeast fault_cmp P (Some found)
     → ((fault : Fault) → Q fault → rule_number found.rule < rule_number fault.rule) → IsLeast fault_cmp (λ fault. P fault ⊎ Q fault) (Some found)
 least_of_lower P Q found least greater = (inl least.0, λ fault. ⊎_elim (least.1 fault) (λ holds. lower_first (rule_number found.rule) (rule_number fault.rule) _ (greater fault holds)))
+
+-- the least of the other search is that of both, where the first finds nothing
+pub least_of_other : (P Q : Fault → Type 0) (found : Option Fault) → IsLeast fault_cmp P None → IsLeast fault_cmp Q found
+    → IsLeast fault_cmp (λ fault. P fault ⊎ Q fault) found
+least_of_other P Q None none least = λ fault. ⊎_elim (none fault) (least fault)
+least_of_other P Q (Some found) none least = (inr least.0, λ fault. ⊎_elim (λ holds. absurd (none fault holds)) (least.1 fault))
 
 -- a number that isn't greater by the order of numbers
 not_greater : (one other : ℕ) → nat_cmp one other ≢ Greater → one ≤ other
