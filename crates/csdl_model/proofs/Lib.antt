@@ -1,0 +1,2 @@
+pub mod RepeatedRule
+pub mod UnresolvedRule
