@@ -53,10 +53,13 @@ module _ (base : ℕ → Option ℕ) where
 
   -- at the root all were passed
   pub ascent_all : (place : ℕ) (passed : List ℕ) (next : Option ℕ) → next ≡ None → IsAscent place passed next → (i : ℕ) → (Contains passed i ↔ IsAncestor base place i)
-  ascent_all place passed next none ascent i = (ascent.only i, λ above. ⊎_elim
-      (λ (had : Contains passed i). had)
-      (λ (later : IsLeft next i). absurd (subst (λ (o : Option ℕ). IsLeft o i) none later))
-      (ascent.each i above))
+  ascent_all place passed next none ascent i = (
+    ascent.only i,
+    λ above. ⊎_elim
+        (λ (had : Contains passed i). had)
+        (λ (later : IsLeft next i). absurd (subst (λ (o : Option ℕ). IsLeft o i) none later))
+        (ascent.each i above),
+  )
 
   -- how many places are left
   abbrev pub left_count : ℕ → Option ℕ → ℕ
