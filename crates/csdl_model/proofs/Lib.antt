@@ -1,2 +1,3 @@
 pub mod RepeatedRule
 pub mod UnresolvedRule
+pub mod RuleNumbers

@@ -27,8 +27,8 @@ in_schema : (model : RawModel) (fault : Fault) → IsRepeatedInSchema model faul
 in_schema model fault = ⊎_elim
     (in_list (λ association. association.name) [] (codes "Association") (codes "Name") model.associations fault)
     (⊎_elim
-      (in_list (λ type. type.name) (map (λ association. association.name) model.associations) (codes "EntityType") (codes "Name") model.types fault)
-      (in_list (λ enum. enum.name) (map (λ association. association.name) model.associations ++ map (λ type. type.name) model.types) (codes "EnumType") (codes "Name") model.enums fault))
+    (in_list (λ type. type.name) (map (λ association. association.name) model.associations) (codes "EntityType") (codes "Name") model.types fault)
+    (in_list (λ enum. enum.name) (map (λ association. association.name) model.associations ++ map (λ type. type.name) model.types) (codes "EnumType") (codes "Name") model.enums fault))
 
 in_container : (container : RawContainer) (fault : Fault) → IsRepeatedInContainer container fault → IsOfNames fault.rule
 in_container container fault = ⊎_elim

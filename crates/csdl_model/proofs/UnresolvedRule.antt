@@ -1,18 +1,17 @@
 -- A name that resolves to nothing breaks the one rule, wherever it stands.
-use Rattle.std.proofs.Common.{◌≡◌, ⊎_elim, ℕ, List, ◌∷◌, [], Option, Some, None}
+use Rattle.std.proofs.Common.{◌≡◌, ⊎_elim, ℕ, List, Option, Some, None}
 use Rattle.std.specs.Prelude.{codes, MatchOption}
 use Rattle.json_form.specs.declared.pointer.Step.TheVariants.{Member}
 use Rattle.layouts.specs.declared.fault.Fault.{Fault}
 use Rattle.layouts.specs.declared.rule.Rule.{Rule}
 use Rattle.layouts.specs.declared.rule.Rule.TheVariants.{Resolves}
 use Rattle.layouts.specs.Inside.{Under}
-use Rattle.rule_places.specs.Places.{InList, IsAt}
+use Rattle.rule_places.specs.Places.{InList}
 use Rattle.rule_places.proofs.Rules.{rule_behind, rule_inside}
 use Rattle.csdl_lists.specs.declared.raw.RawAssociation.{RawAssociation}
 use Rattle.csdl_lists.specs.declared.raw.RawAssociationSet.{RawAssociationSet}
 use Rattle.csdl_lists.specs.declared.raw.RawConstraint.{RawConstraint}
 use Rattle.csdl_lists.specs.declared.raw.RawContainer.{RawContainer}
-use Rattle.csdl_lists.specs.declared.raw.RawEnd.{RawEnd}
 use Rattle.csdl_lists.specs.declared.raw.RawModel.{RawModel}
 use Rattle.csdl_lists.specs.declared.raw.RawNav.{RawNav}
 use Rattle.csdl_lists.specs.declared.raw.RawRole.{RawRole}
@@ -54,8 +53,8 @@ module _ (names : Names) (model : RawModel) where
   in_type i type fault = ⊎_elim
       (where_some (λ reference inside. NamesNothing (names.type_named reference) (codes "BaseType") inside) type.base fault (λ reference is. is.1.0))
       (⊎_elim
-        (where_some (λ key inside. InList (codes "Key") (IsUnresolvedProp names model i) key inside) type.key fault (λ key. in_props (codes "Key") i key fault))
-        (rule_inside IsOfReferences (codes "NavigationProperty") (IsUnresolvedInNav names model) type.navs in_nav fault))
+      (where_some (λ key inside. InList (codes "Key") (IsUnresolvedProp names model i) key inside) type.key fault (λ key. in_props (codes "Key") i key fault))
+      (rule_inside IsOfReferences (codes "NavigationProperty") (IsUnresolvedInNav names model) type.navs in_nav fault))
 
   in_role : (association : RawAssociation) (role : RawRole) (fault : Fault) → IsUnresolvedInRole names model association role fault → IsOfReferences fault.rule
   in_role association role fault = ⊎_elim (λ is. is.1.0)
@@ -77,8 +76,8 @@ module _ (names : Names) (model : RawModel) where
   in_model fault = ⊎_elim
       (rule_behind IsOfReferences (Member (codes "EntityContainer")) (IsUnresolvedInContainer names model model.container) (in_container model.container) fault)
       (⊎_elim
-        (rule_inside IsOfReferences (codes "EntityType") (IsUnresolvedInType names model) model.types in_type fault)
-        (rule_inside IsOfReferences (codes "Association") (IsUnresolvedInAssociation names model) model.associations in_association fault))
+      (rule_inside IsOfReferences (codes "EntityType") (IsUnresolvedInType names model) model.types in_type fault)
+      (rule_inside IsOfReferences (codes "Association") (IsUnresolvedInAssociation names model) model.associations in_association fault))
 
 pub unresolved_rule : (model : RawModel) (fault : Fault) → IsUnresolved model fault → fault.rule ≡ Resolves
 unresolved_rule model = in_model (names_in model) model

@@ -61,7 +61,8 @@ module _ (model : RawModel) where
       member None none = absurd none
       member (Some under) some = rule_inside IsLater (codes "Member") (λ k. IsNumberFault under) (numbers_of enum) (λ k number inside holds. later PropertyType inside.rule holds.1.0 (omega arith)) fault some
 
-  later_rule : (fault : Fault) → BreaksLaterRules model fault → IsLater fault.rule
+  -- each fault against the later rules
+  pub later_rule : (fault : Fault) → BreaksLaterRules model fault → IsLater fault.rule
   later_rule fault = ⊎_elim
       (rule_inside IsLater (codes "EntityType") (IsLaterFault (names_in model) model) model.types later_type fault)
       (rule_inside IsLater (codes "EnumType") (λ i. IsEnumFault) model.enums (λ i enum inside holds. later_enum enum inside holds) fault)
