@@ -1,8 +1,13 @@
 pub mod Lists
+pub mod Rising
+pub mod SoundKinds
 pub mod Declared
 pub mod Bases
 pub mod Props
 pub mod Names
 pub mod Keys
 pub mod Ids
-pub mod Unbroken
+pub mod FaultPlaces
+pub mod KeptNames
+pub mod KeptTypes
+pub mod Sound

@@ -1,7 +1,7 @@
 -- Lists put behind one another, filtered, numbered and mapped, and what stands in them.
 use Rattle.std.proofs.Common.{◌≡◌, ◌≢◌, ◌⊎◌, ⊎_elim, inl, inr, ℕ, zero, suc, ◌+◌, ◌<◌, ◌≤◌, Bool, true, false, cond, List, [], ◌∷◌, ◌++◌, length, map, filter, get_or, slice_get, All, AllPairs, Contains, Option, Some, None, option_map, refl, sym, ap, subst, ◌∙◌, arith}
 use Rattle.std.specs.List.{cons_option, enumerate_from, filter_map, flat_map}
-use Rattle.std.proofs.lemmas.List.Elements.{All-head, All-map, All-tail, Contains-append_cases}
+use Rattle.std.proofs.lemmas.List.Elements.{All-append, All-head, All-map, All-tail, Contains-append_cases}
 use Rattle.std.proofs.lemmas.List.Kept.{AllPairs-cons}
 use Rattle.std.proofs.lemmas.Option.{slice_get-get_or, slice_get-map}
 use Rattle.std.proofs.lemmas.List.Concat.{flat_map-cons}
@@ -44,15 +44,19 @@ module _ {X : Type 0} where
   pub all_from_places : (P : X → Type 0) (xs : List X) → ((i : ℕ) (x : X) → At xs i x → P x) → All P xs
   all_from_places P xs holds k d within = holds k (get_or xs k d) (slice_get-get_or xs k d within)
 
+  -- the first of a list goes with each of the rest, and these with one another
+  pub pairs_head : (R : X → X → Type 0) (x : X) (xs : List X) → AllPairs R (x ∷ xs) → All (R x) xs
+  pairs_head R x xs pairs = λ k d within. pairs 0 (suc k) d (omega arith) (omega arith)
+
+  pub pairs_tail : (R : X → X → Type 0) (x : X) (xs : List X) → AllPairs R (x ∷ xs) → AllPairs R xs
+  pairs_tail R x xs pairs = λ i j d below within. pairs (suc i) (suc j) d (omega arith) (omega arith)
+
   -- each of one list goes with each of the other
   pub apart-append : (R : X → X → Type 0) (xs ys : List X) → AllPairs R xs → AllPairs R ys → All (λ x. All (R x) ys) xs → AllPairs R (xs ++ ys)
   apart-append R [] ys first second both = second
   apart-append R (x ∷ xs) ys first second both = AllPairs-cons R x (xs ++ ys)
-      (all_from_members (R x) (xs ++ ys) (λ y has. ⊎_elim
-      (λ (in_first : Contains xs y). let at : ℕ = in_first.0 in subst (R x) in_first.2 (first 0 (suc at) y (omega arith) (let inside : at < length xs = in_first.1 in omega arith)))
-      (λ (in_second : Contains ys y). subst (R x) in_second.2 (All-head (λ z. All (R z) ys) x xs both in_second.0 y in_second.1))
-      (Contains-append_cases xs ys y has)))
-      (apart-append R xs ys (λ i j d below within. first (suc i) (suc j) d (omega arith) (omega arith)) second (All-tail (λ z. All (R z) ys) x xs both))
+      (All-append (R x) xs ys (pairs_head R x xs first) (All-head (λ z. All (R z) ys) x xs both))
+      (apart-append R xs ys (pairs_tail R x xs first) second (All-tail (λ z. All (R z) ys) x xs both))
 
 module _ {X Y : Type 0} where
   -- what stands among the images is the image of a member
@@ -90,9 +94,8 @@ module _ {X Y : Type 0} where
   pub apart-map : (f : X → Y) (xs : List X) → AllPairs (λ x y. f x ≢ f y) xs → AllPairs (λ x y. x ≢ y) (map f xs)
   apart-map f [] apart = λ i j d below within. absurd (omega arith)
   apart-map f (x ∷ xs) apart = AllPairs-cons (λ a b. a ≢ b) (f x) (map f xs)
-      (All-map (λ y. f x ≢ y) f xs (all_from_members (λ y. f x ≢ f y) xs (λ y has same. let at : ℕ = has.0 in
-      apart 0 (suc at) y (omega arith) (let inside : at < length xs = has.1 in omega arith) (same ∙ ap f (sym has.2)))))
-      (apart-map f xs (λ i j d below within. apart (suc i) (suc j) d (omega arith) (omega arith)))
+      (All-map (λ y. f x ≢ y) f xs (pairs_head (λ y z. f y ≢ f z) x xs apart))
+      (apart-map f xs (pairs_tail (λ y z. f y ≢ f z) x xs apart))
 
   -- what is found of items for each of which there is something
   module _ (h : X → Option Y) where

@@ -1,2 +1,4 @@
+pub mod Rising
 pub mod Kinds
 pub mod Meaning
+pub mod SoundTypes

@@ -1,4 +1,4 @@
--- What follows of the document where no fault of a rule is there.
+-- What V6 and V7 give of types, where they are kept.
 use Rattle.std.proofs.Common.{◌≡◌, ◌≢◌, ◌⊎◌, ⊎_elim, inl, inr, ℕ, List, [], ◌∷◌, ◌++◌, map, All, Any, Contains, Option, Some, None, codes, refl, sym, ap, subst, ◌∙◌, arith}
 use Rattle.std.specs.Option.{MatchOption, option_and_then}
 use Rattle.emc_base.specs.Lists.{At}
@@ -23,20 +23,8 @@ use Rattle.csdl_lists.specs.References.{base_of, names_in}
 use Rattle.csdl_names.specs.Repeated.{IsGivenAgain, IsRepeated, IsRepeatedIn, IsRepeatedInType}
 use Rattle.csdl_names.specs.Unresolved.{IsUnresolved, IsUnresolvedInKey, IsUnresolvedInType, IsUnresolvedProp, LacksProp, NamesNothing, root}
 use Rattle.csdl_meaning.specs.Meaning.{base_in}
+use Rattle.csdl_meaning.proofs.FaultPlaces.{fault_at, in_list}
 use Rattle.csdl_meaning.proofs.Names.{member_names, members_apart}
-
--- the fault of a rule at a place
-abbrev fault_at : Rule → List Step → Fault
-fault_at rule place = record { rule = rule; place = place }
-
--- of an item of a list, seen from what has the list
-in_list : {X : Type 0} (P : ℕ → X → Fault → Type 0) (member : List ℕ) (items : List X) (i : ℕ) (item : X) (rule : Rule) (rest : List Step)
-    → At items i item → P i item (fault_at rule rest) → InList member P items (fault_at rule (Member member ∷ Item i ∷ rest))
-in_list P member items i item rule rest here holds = record {
-  rest = Item i ∷ rest;
-  reached = refl;
-  holds = record { i = i; item = item; here = here; holds = record { rest = rest; reached = refl; holds = holds } };
-}
 
 -- a name is given again
 repeated_in : {X : Type 0} (name_in : X → List ℕ) (others : List (List ℕ)) (member last : List ℕ) (items : List X) (i : ℕ) (item : X)

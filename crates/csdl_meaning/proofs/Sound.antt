@@ -1,0 +1,1 @@
+-- What a document means is sound where it keeps the rules.
