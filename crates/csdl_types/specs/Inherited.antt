@@ -1,6 +1,6 @@
 -- V8 and V11: no type is its own ancestor, and no property has the name of an inherited one.
 -- Source: CSDL version 3, EntityType, BaseType, Property and NavigationProperty.
-use Rattle.std.specs.Prelude.{◌≡◌, ◌⊎◌, ℕ, List, [], ◌∷◌, codes, Any}
+use Rattle.std.specs.Prelude.{◌≡◌, ◌⊎◌, ℕ, List, [], ◌∷◌, codes, Any, Option}
 use Rattle.emc_base.specs.Lists.{At}
 use Rattle.json_form.specs.declared.pointer.Step.TheVariants.{Member}
 use Rattle.layouts.specs.declared.fault.Fault.{Fault}
@@ -15,8 +15,8 @@ HasName type name = Any (λ prop. prop.name ≡ name) type.props ⊎ Any (λ nav
 
 module _ (base : ℕ → Option ℕ) where
   -- V8: the type is its own ancestor
-  abbrev pub IsAncestorFault : ℕ → RawType → Fault → Type 0
-  IsAncestorFault i type fault = IsAncestor base i i × IsAt Ancestors (Member (codes "BaseType") ∷ []) fault
+  abbrev pub IsAncestorFault : ℕ → Fault → Type 0
+  IsAncestorFault i fault = IsAncestor base i i × IsAt Ancestors (Member (codes "BaseType") ∷ []) fault
 
   module _ (types : List RawType) where
     -- a type above this one has the name

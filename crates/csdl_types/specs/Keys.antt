@@ -25,8 +25,8 @@ BreaksKey (Some base) None = ⊥
 BreaksKey (Some base) (Some names) = ⊤
 
 -- V9
-abbrev pub IsKeyFault : ℕ → RawType → Fault → Type 0
-IsKeyFault i type fault = BreaksKey type.base type.key × IsAt TypeKey (Member (codes "Key") ∷ []) fault
+abbrev pub IsKeyFault : RawType → Fault → Type 0
+IsKeyFault type fault = BreaksKey type.base type.key × IsAt TypeKey (Member (codes "Key") ∷ []) fault
 
 -- a whole number of two to eight bytes, or a text
 abbrev pub IsKeySimple : Option Simple → Type 0
@@ -41,6 +41,10 @@ pub record CanBeKey (prop : RawProp) : Type 0 where
   pub needed : prop.nullable ≡ false
   pub simple : IsKeySimple (simple_of prop.kind)
 
+-- V10, seen from a property of a type with this key
+abbrev pub IsNoKeyPropFault : List (List ℕ) → RawProp → Fault → Type 0
+IsNoKeyPropFault names prop fault = (Contains names prop.name × (¬ CanBeKey prop)) × IsAt KeyProperty [] fault
+
 -- V10, seen from the type
-abbrev pub IsKeyPropFault : ℕ → RawType → Fault → Type 0
-IsKeyPropFault i type fault = MatchOption type.key ⊥ (λ names. InList (codes "Property") (λ k prop inside. Contains names prop.name × (¬ CanBeKey prop) × IsAt KeyProperty [] inside) type.props fault)
+abbrev pub IsKeyPropFault : RawType → Fault → Type 0
+IsKeyPropFault type fault = MatchOption type.key ⊥ (λ names. InList (codes "Property") (λ k. IsNoKeyPropFault names) type.props fault)

@@ -1,6 +1,7 @@
 -- The numbers of an enumeration's members, and which an underlying type allows.
 -- Source: CSDL version 3, EnumType, UnderlyingType and Member.
-use Rattle.std.specs.Prelude.{◌≡◌, ℕ, ℤ, ◌+ℤ◌, List, [], ◌∷◌, Option, Some, None, option_map, option_and_then, codes}
+use Rattle.std.specs.Prelude.{ℤ, ◌+ℤ◌, pos, List, [], ◌∷◌, Option, Some, None, unwrap_or}
+use Rattle.std.specs.Option.{option_and_then, option_map_or}
 use Rattle.emc_base.specs.declared.value.Under.{Under}
 use Rattle.emc_base.specs.declared.value.Under.TheVariants as under
 use Rattle.csdl_lists.specs.declared.raw.RawEnum.{RawEnum}
@@ -12,7 +13,7 @@ use Rattle.csdl_types.specs.Simple.{simple_of}
 -- the numbers of members, of which the first has this number where none is given; each further one has one more than the one before it
 abbrev pub numbers_from : ℤ → List RawMember → List ℤ
 numbers_from next [] = []
-numbers_from next (member ∷ members) = let number = option_unwrap_or member.value next in number ∷ numbers_from (number +ℤ pos 1) members
+numbers_from next (member ∷ members) = let number = unwrap_or member.value next in number ∷ numbers_from (number +ℤ pos 1) members
 
 -- the numbers of an enumeration's members
 abbrev pub numbers_of : RawEnum → List ℤ
@@ -30,4 +31,4 @@ under_simple Binary = None
 
 -- the type that underlies an enumeration: Int32 where none is named; None where the named one can't
 abbrev pub under_of : RawEnum → Option Under
-under_of enum = MatchOption enum.underlying (Some under.Int32) (λ name. option_and_then under_simple (simple_of name))
+under_of enum = option_map_or (λ name. option_and_then under_simple (simple_of name)) enum.underlying (Some under.Int32)

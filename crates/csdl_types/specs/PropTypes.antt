@@ -2,6 +2,7 @@
 -- Source: CSDL version 3, Property, MaxLength, EnumType, UnderlyingType and Member.
 use Rattle.std.specs.Prelude.{◌≡◌, ◌⊎◌, ℕ, ℤ, ◌≤ℤ◌, pos, List, [], ◌∷◌, codes, Option, Some, None, MatchOption, ⊤}
 use Rattle.emc_base.specs.Domain.{InDomain}
+use Rattle.emc_base.specs.declared.value.Under.{Under}
 use Rattle.emc_base.specs.declared.value.Value.TheVariants.{Whole}
 use Rattle.json_form.specs.declared.pointer.Step.TheVariants.{Member}
 use Rattle.layouts.specs.declared.fault.Fault.{Fault}
@@ -23,20 +24,37 @@ pub record HasNoType (enum_named : List ℕ → Option ℕ) (prop : RawProp) : T
   pub simple : simple_of prop.kind ≡ None
   pub enum : enum_named prop.kind ≡ None
 
--- V12, seen from the type
-abbrev pub IsPropTypeFault : (List ℕ → Option ℕ) → ℕ → RawType → Fault → Type 0
-IsPropTypeFault enum_named i type = InList (codes "Property") (λ k prop fault. HasNoType enum_named prop × IsAt PropertyType (Member (codes "Type") ∷ []) fault) type.props
+-- V12, seen from the property
+abbrev pub IsNoTypeFault : (List ℕ → Option ℕ) → RawProp → Fault → Type 0
+IsNoTypeFault enum_named prop fault = HasNoType enum_named prop × IsAt PropertyType (Member (codes "Type") ∷ []) fault
 
--- the number of a member lies outside of the underlying type
-abbrev pub IsOutside : RawEnum → ℤ → Type 0
-IsOutside enum number = MatchOption (under_of enum) ⊥ (λ under. ¬ InDomain (Whole number) (under_kind under))
+-- V12, seen from the type
+abbrev pub IsPropTypeFault : (List ℕ → Option ℕ) → RawType → Fault → Type 0
+IsPropTypeFault enum_named type = InList (codes "Property") (λ k. IsNoTypeFault enum_named) type.props
+
+-- the number lies outside of the underlying type
+abbrev pub IsOutside : Under → ℤ → Type 0
+IsOutside under number = ¬ InDomain (Whole number) (under_kind under)
+
+-- no type that an enumeration may have is named as its underlying one
+abbrev pub IsUnderFault : RawEnum → Fault → Type 0
+IsUnderFault enum fault = (under_of enum ≡ None) × IsAt PropertyType (Member (codes "UnderlyingType") ∷ []) fault
+
+-- an enumeration has no members
+abbrev pub IsWithoutMembersFault : RawEnum → Fault → Type 0
+IsWithoutMembersFault enum fault = (enum.members ≡ []) × IsAt PropertyType (Member (codes "Member") ∷ []) fault
+
+-- a member's number lies outside of the underlying type, seen from the member
+abbrev pub IsNumberFault : Under → ℤ → Fault → Type 0
+IsNumberFault under number fault = IsOutside under number × IsAt PropertyType [] fault
+
+-- the same, seen from the enumeration type; where it has no underlying type, none lies outside
+abbrev pub IsMemberFault : RawEnum → Fault → Type 0
+IsMemberFault enum fault = MatchOption (under_of enum) ⊥ (λ under. InList (codes "Member") (λ k. IsNumberFault under) (numbers_of enum) fault)
 
 -- V12, seen from the enumeration type: its underlying type, its list of members, or a member
-abbrev pub IsEnumFault : ℕ → RawEnum → Fault → Type 0
-IsEnumFault i enum fault =
-    ((under_of enum ≡ None) × IsAt PropertyType (Member (codes "UnderlyingType") ∷ []) fault)
-    ⊎ ((enum.members ≡ []) × IsAt PropertyType (Member (codes "Member") ∷ []) fault)
-    ⊎ InList (codes "Member") (λ k number inside. IsOutside enum number × IsAt PropertyType [] inside) (numbers_of enum) fault
+abbrev pub IsEnumFault : RawEnum → Fault → Type 0
+IsEnumFault enum fault = IsUnderFault enum fault ⊎ IsWithoutMembersFault enum fault ⊎ IsMemberFault enum fault
 
 -- a simple type whose values have a length
 abbrev pub HasLength : Option Simple → Type 0
@@ -54,6 +72,10 @@ BreaksBound simple Absent = ⊥
 BreaksBound simple Max = ¬ HasLength simple
 BreaksBound simple (Number number) = (¬ HasLength simple) ⊎ IsNoBound number
 
+-- V13, seen from the property
+abbrev pub IsPropBoundFault : RawProp → Fault → Type 0
+IsPropBoundFault prop fault = BreaksBound (simple_of prop.kind) prop.bound × IsAt Bound (Member (codes "MaxLength") ∷ []) fault
+
 -- V13, seen from the type
-abbrev pub IsBoundFault : ℕ → RawType → Fault → Type 0
-IsBoundFault i type = InList (codes "Property") (λ k prop fault. BreaksBound (simple_of prop.kind) prop.bound × IsAt Bound (Member (codes "MaxLength") ∷ []) fault) type.props
+abbrev pub IsBoundFault : RawType → Fault → Type 0
+IsBoundFault type = InList (codes "Property") (λ k. IsPropBoundFault) type.props

@@ -1,8 +1,8 @@
 -- The simple types by their names.
 -- Source: CSDL version 3, the primitive types of the Edm namespace, as far as the profile has them.
-use Rattle.std.specs.Prelude.{ℕ, List, Option, Some, None, if◌then◌else◌, codes}
+use Rattle.std.specs.Prelude.{ℕ, List, Option, Some, None, unwrap_or, if◌then◌else◌, codes}
 use Rattle.std.specs.Str.{bytes_eq}
-use Rattle.csdl_lists.specs.References.{behind}
+use Rattle.csdl_lists.specs.References.{rest_after}
 use Rattle.csdl_types.specs.declared.simple.Simple.{Simple}
 use Rattle.csdl_types.specs.declared.simple.Simple.TheVariants.{Byte, Int16, Int32, Int64, Boolean, Text, Binary}
 
@@ -19,4 +19,4 @@ simple_named name =
 
 -- the simple type that a property's Type names: with or without `Edm.`
 abbrev pub simple_of : List ℕ → Option Simple
-simple_of text = simple_named (option_unwrap_or (behind (codes "Edm") text) text)
+simple_of text = simple_named (unwrap_or (rest_after (codes "Edm.") text) text)

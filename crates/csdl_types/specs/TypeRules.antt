@@ -1,25 +1,29 @@
 -- The rules on types, on their properties and on enumeration types: V8 to V13.
-use Rattle.std.specs.Prelude.{◌⊎◌, codes}
+use Rattle.std.specs.Prelude.{ℕ, ◌⊎◌, codes}
 use Rattle.layouts.specs.declared.fault.Fault.{Fault}
 use Rattle.rule_places.specs.Places.{InList}
 use Rattle.csdl_lists.specs.declared.raw.RawModel.{RawModel}
+use Rattle.csdl_lists.specs.declared.raw.RawType.{RawType}
 use Rattle.csdl_lists.specs.References.{Names, base_of, names_in}
 use Rattle.csdl_types.specs.Keys.{IsKeyFault, IsKeyPropFault}
 use Rattle.csdl_types.specs.Inherited.{IsAncestorFault, IsInheritedNameFault}
 use Rattle.csdl_types.specs.PropTypes.{IsBoundFault, IsEnumFault, IsPropTypeFault}
 
+-- a type breaks one of the rules V9 to V13
+abbrev pub IsLaterFault : Names → RawModel → ℕ → RawType → Fault → Type 0
+IsLaterFault names model i type fault =
+    IsKeyFault type fault
+    ⊎ IsKeyPropFault type fault
+    ⊎ IsInheritedNameFault (base_of names model) model.types i type fault
+    ⊎ IsPropTypeFault names.enum_named type fault
+    ⊎ IsBoundFault type fault
+
 -- a type breaks one of the rules
 abbrev pub IsTypeFault : Names → RawModel → ℕ → RawType → Fault → Type 0
-IsTypeFault names model i type fault =
-    IsAncestorFault (base_of names model) i type fault
-    ⊎ IsKeyFault i type fault
-    ⊎ IsKeyPropFault i type fault
-    ⊎ IsInheritedNameFault (base_of names model) model.types i type fault
-    ⊎ IsPropTypeFault names.enum_named i type fault
-    ⊎ IsBoundFault i type fault
+IsTypeFault names model i type fault = IsAncestorFault (base_of names model) i fault ⊎ IsLaterFault names model i type fault
 
 -- V8 to V13
 abbrev pub BreaksTypeRules : RawModel → Fault → Type 0
 BreaksTypeRules model fault =
     InList (codes "EntityType") (IsTypeFault (names_in model) model) model.types fault
-    ⊎ InList (codes "EnumType") IsEnumFault model.enums fault
+    ⊎ InList (codes "EnumType") (λ i. IsEnumFault) model.enums fault

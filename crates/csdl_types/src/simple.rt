@@ -1,5 +1,7 @@
 ghost use Rattle.std.specs.Prelude.{◌≡◌};
-ghost use Rattle.csdl_types.specs.Simple.{simple_of};
+ghost use Rattle.csdl_types.specs.Simple.{simple_named, simple_of};
+
+use csdl_lists::rest_after;
 
 /// A simple type of CSDL, its bound aside.
 #[derive(Clone, Copy, Debug, PartialEq, Eq)]
@@ -18,4 +20,30 @@ pub enum Simple {
     Text,
     /// A list of bytes.
     Binary,
+}
+
+/// The simple type that a reference names, with or without `Edm.`; `None` exactly where it names none.
+pub fn simple_of(text: &str) -> Option<Simple>
+    ensures { result ≡ simple_of text.now }
+{
+    match rest_after("Edm.", text) {
+        Some(name) => simple_named(name),
+        None => simple_named(text),
+    }
+}
+
+// The simple type of a name.
+fn simple_named(name: &str) -> Option<Simple>
+    ensures { result ≡ simple_named name.now }
+{
+    match name {
+        "Byte" => Some(Simple::Byte),
+        "Int16" => Some(Simple::Int16),
+        "Int32" => Some(Simple::Int32),
+        "Int64" => Some(Simple::Int64),
+        "Boolean" => Some(Simple::Boolean),
+        "String" => Some(Simple::Text),
+        "Binary" => Some(Simple::Binary),
+        _ => None,
+    }
 }

@@ -1,12 +1,14 @@
-ghost use Rattle.std.specs.Prelude.{◌≡◌, IfOk, option_map};
+ghost use Rattle.std.specs.Prelude.{◌≡◌, ◌∷◌, [], IfOk, option_map};
+ghost use Rattle.json_form.specs.declared.pointer.Step.TheVariants.{Member, Item};
 ghost use Rattle.least_fault.specs.Least.{Among, IsLeast};
 ghost use Rattle.layouts.specs.Faults.{fault_cmp};
 ghost use Rattle.layouts.specs.Inside.{after};
 ghost use Rattle.rule_places.specs.Places.{InItems, InList};
 
+use crate::sites::fault_at;
 use emc_base::{Memory, Txt};
 use json_form::Step;
-use layouts::Fault;
+use layouts::{Fault, Rule};
 use least_fault::{Finder, first_among};
 use std::alloc::Global;
 
@@ -56,4 +58,25 @@ pub fn first_in_list<T, S: Finder<T, Fault>>(
     let found = first_among(alloc, &Items { search }, items)?;
     let seen = behind(Step::Member(Txt::of(alloc, member)?), found)?;
     Ok(seen)
+}
+
+/// The rule is broken at this member of the item at a place, if there is one; seen from the object that has the list at a member.
+pub fn fault_at_item(
+    alloc: Global,
+    rule: Rule,
+    list: &str,
+    place: Option<usize>,
+    member: &str,
+) -> Result<Option<Fault>, Memory>
+    ensures { IfOk result (λ found. found ≡ option_map (after (Member list.now)) (option_map (λ i. record { rule = rule; place = Item i ∷ Member member.now ∷ [] }) place)) }
+{
+    let Some(place) = place else {
+        return Ok(None);
+    };
+    let Ok(step) = u32::try_from(place) else {
+        return Err(Memory);
+    };
+    let inside = fault_at(alloc, rule, member)?.after(Step::Item(step))?;
+    let fault = inside.after(Step::Member(Txt::of(alloc, list)?))?;
+    Ok(Some(fault))
 }

@@ -33,3 +33,13 @@ pub fn fault_if(
     let fault = fault_at(alloc, rule, member)?;
     Ok(Some(fault))
 }
+
+/// The rule is broken at the node itself, where it is broken.
+pub fn fault_here_if(alloc: Global, is_broken: bool, rule: Rule) -> Result<Option<Fault>, Memory>
+    ensures { IfOk result (λ found. IsLeast fault_cmp (λ fault. IsTrue is_broken × IsAt rule [] fault) found) }
+{
+    if !is_broken {
+        return Ok(None);
+    }
+    Ok(Some(Fault::here(alloc, rule)))
+}

@@ -1,0 +1,62 @@
+ghost use Rattle.std.specs.Prelude.{◌≡◌, ◌↔◌, IfOk, IsTrue};
+ghost use Rattle.least_fault.specs.Least.{IsLeast};
+ghost use Rattle.layouts.specs.Faults.{fault_cmp};
+ghost use Rattle.csdl_types.specs.Simple.{simple_of};
+ghost use Rattle.csdl_types.specs.PropTypes.{BreaksBound, HasLength, IsBoundFault, IsNoBound};
+
+use crate::simple::{Simple, simple_of};
+use csdl_lists::{RawBound, RawProp, RawType};
+use emc_base::Memory;
+use layouts::{Fault, Rule};
+use least_fault::Finder;
+use rule_places::{fault_if, first_in_list};
+use std::alloc::Global;
+
+/// The largest bound of a text or a byte list.
+const LARGEST_BOUND: i64 = 1_048_576;
+
+/// V13: whether a property's MaxLength stands where none may, or is no bound.
+#[derive(Clone, Copy)]
+struct Bounds {}
+
+impl Finder<RawProp, Fault> for Bounds {
+    ghost use Rattle.csdl_types.specs.PropTypes.{IsPropBoundFault};
+
+    ghost wrong = { λ _ _ prop. IsPropBoundFault prop };
+
+    fn find(&self, alloc: Global, _place: usize, item: &RawProp) -> Result<Option<Fault>, Memory> {
+        let found = fault_if(alloc, breaks_bound(item), Rule::Bound, "MaxLength")?;
+        Ok(found)
+    }
+}
+
+/// The least fault of a type against V13.
+pub(crate) fn first_bound_fault(alloc: Global, ty: &RawType) -> Result<Option<Fault>, Memory>
+    ensures { IfOk result (IsLeast fault_cmp (IsBoundFault ty.now)) }
+{
+    let found = first_in_list(alloc, "Property", &Bounds {}, ty.props.as_slice())?;
+    Ok(found)
+}
+
+fn breaks_bound(prop: &RawProp) -> bool
+    ensures { IsTrue result ↔ BreaksBound (simple_of prop.now.kind) prop.now.bound }
+{
+    let can_have = has_length(simple_of(prop.kind.as_str()));
+    match prop.bound {
+        RawBound::Absent => false,
+        RawBound::Max => !can_have,
+        RawBound::Number(number) => !can_have || is_no_bound(number),
+    }
+}
+
+fn has_length(simple: Option<Simple>) -> bool
+    ensures { IsTrue result ↔ HasLength simple }
+{
+    matches!(simple, Some(Simple::Text | Simple::Binary))
+}
+
+fn is_no_bound(number: i64) -> bool
+    ensures { IsTrue result ↔ IsNoBound number }
+{
+    !(1..=LARGEST_BOUND).contains(&number)
+}

@@ -1,0 +1,124 @@
+ghost use Rattle.std.specs.Prelude.{◌≡◌, ◌≢◌, ◌↔◌, AllPairs, Contains, List, ℕ, IfOk, IsTrue};
+ghost use Rattle.least_fault.specs.Least.{IsLeast};
+ghost use Rattle.layouts.specs.Faults.{fault_cmp};
+ghost use Rattle.name_places.specs.GivenNames.{first_place};
+ghost use Rattle.name_places.specs.PlacesIn.{place_in};
+ghost use Rattle.csdl_types.specs.Keys.{BreaksKey, CanBeKey, IsKey, IsKeyFault, IsKeyPropFault, IsKeySimple};
+
+use crate::simple::{Simple, simple_of};
+use csdl_lists::{RawProp, RawType};
+use emc_base::{Memory, Seq, Txt};
+use layouts::{Fault, Rule};
+use least_fault::Finder;
+use name_places::{Places, first_places};
+use rule_places::{fault_here_if, fault_if, first_in_list};
+use std::alloc::Global;
+
+/// The least fault of a type against V9.
+pub(crate) fn first_key_fault(alloc: Global, ty: &RawType) -> Result<Option<Fault>, Memory>
+    ensures { IfOk result (IsLeast fault_cmp (IsKeyFault ty.now)) }
+{
+    let found = fault_if(alloc, breaks_key(&ty.base, &ty.key), Rule::TypeKey, "Key")?;
+    Ok(found)
+}
+
+fn breaks_key(base: &Option<Txt>, key: &Option<Seq<Txt>>) -> bool
+    ensures { IsTrue result ↔ BreaksKey base.now key.now }
+{
+    match (base, key) {
+        (None, None) => true,
+        (None, Some(names)) => !is_key(names.as_slice()),
+        (Some(_), None) => false,
+        (Some(_), Some(_)) => true,
+    }
+}
+
+// Whether these are names of a key. Just few names are compared with one another.
+fn is_key(names: &[Txt]) -> bool
+    ensures { IsTrue result ↔ IsKey names.now }
+{
+    !names.is_empty() && names.len() <= 4 && are_apart(names)
+}
+
+fn are_apart(names: &[Txt]) -> bool
+    ensures { IsTrue result ↔ AllPairs (λ one other. one ≢ other) names.now }
+{
+    for (place, name) in names.iter().enumerate() {
+        if stands_in(name, &names[..place]) {
+            return false;
+        }
+    }
+    true
+}
+
+fn stands_in(name: &Txt, names: &[Txt]) -> bool
+    ensures { IsTrue result ↔ Contains names.now name.now }
+{
+    names.iter().any(|other| other.as_str() == name.as_str())
+}
+
+/// V10: whether a property whose name a key has can't be in one.
+#[derive(Drop)]
+struct KeyProps<'a> {
+    key: &'a [Txt],
+    places: &'a Places,
+    ghost of: { place_in places.now ≡ first_place (λ name. name) key.now },
+}
+
+impl<'a> Finder<RawProp, Fault> for KeyProps<'a> {
+    ghost use Rattle.csdl_types.specs.Keys.{IsNoKeyPropFault};
+
+    ghost wrong = { λ s _ prop. IsNoKeyPropFault s.key.now prop };
+
+    fn find(&self, alloc: Global, _place: usize, item: &RawProp) -> Result<Option<Fault>, Memory> {
+        let found = fault_here_if(alloc, self.is_broken(item), Rule::KeyProperty)?;
+        Ok(found)
+    }
+}
+
+impl<'a> KeyProps<'a> {
+    fn is_broken(&self, prop: &RawProp) -> bool
+        ensures { IsTrue result ↔ (Contains self.now.key.now prop.now.name × (¬ CanBeKey prop.now)) }
+    {
+        is_named(self.places, &prop.name) && !can_be_key(prop)
+    }
+}
+
+/// The least fault of a type against V10.
+pub(crate) fn first_key_prop_fault(alloc: Global, ty: &RawType) -> Result<Option<Fault>, Memory>
+    ensures { IfOk result (IsLeast fault_cmp (IsKeyPropFault ty.now)) }
+{
+    let Some(names) = &ty.key else {
+        return Ok(None);
+    };
+    let key = names.as_slice();
+    let places = first_places(alloc, key)?;
+    let search = KeyProps {
+        key,
+        places: &places,
+    };
+    let found = first_in_list(alloc, "Property", &search, ty.props.as_slice())?;
+    Ok(found)
+}
+
+// Whether a name is one of those whose places these are.
+fn is_named(places: &Places, name: &Txt) -> bool
+    ensures { (names : List (List ℕ)) → place_in places.now ≡ first_place (λ name. name) names → (IsTrue result ↔ Contains names name.now) }
+{
+    places.place_of(name.as_str()).is_some()
+}
+
+fn can_be_key(prop: &RawProp) -> bool
+    ensures { IsTrue result ↔ CanBeKey prop.now }
+{
+    !prop.nullable && is_key_simple(simple_of(prop.kind.as_str()))
+}
+
+fn is_key_simple(simple: Option<Simple>) -> bool
+    ensures { IsTrue result ↔ IsKeySimple simple }
+{
+    matches!(
+        simple,
+        Some(Simple::Int16 | Simple::Int32 | Simple::Int64 | Simple::Text)
+    )
+}
