@@ -1,0 +1,91 @@
+ghost use Rattle.std.specs.Prelude.{◌≡◌, ◌↔◌, ◌⊎◌, [], ℕ, List, IfOk, IsTrue};
+ghost use Rattle.least_fault.specs.Least.{IsLeast};
+ghost use Rattle.layouts.specs.Faults.{fault_cmp};
+ghost use Rattle.name_places.specs.GivenNames.{first_place, IsGivenBefore};
+ghost use Rattle.name_places.specs.PlacesIn.{place_in};
+ghost use Rattle.csdl_names.specs.KnownNames.{AreNames, IsKnown};
+ghost use Rattle.csdl_names.specs.Repeated.{IsRepeatedIn};
+
+use crate::findings::first_at;
+use emc_base::{Memory, Seq, Txt};
+use layouts::{Fault, Rule};
+use least_fault::Finder;
+use name_places::{Named, Places};
+use rule_places::fault_if;
+use std::alloc::Global;
+
+/// A list in a scope, whose items may have names that are given before.
+#[derive(Drop)]
+pub struct Again<'a, T: Named> {
+    /// The places of the lists that stand before it in the scope.
+    pub others: &'a [&'a Places],
+    /// Its items.
+    pub items: &'a Seq<T>,
+    /// Their places.
+    pub own: &'a Places,
+    /// The member of an item that has its name.
+    pub last: &'a str,
+    ghost of: { place_in own.now ≡ first_place T.name_in items.now },
+}
+
+impl<'a, T: Named> Finder<T, Fault> for Again<'a, T> {
+    ghost use Rattle.std.specs.Prelude.{◌∷◌};
+    ghost use Rattle.json_form.specs.declared.pointer.Step.TheVariants.{Member};
+    ghost use Rattle.layouts.specs.declared.rule.Rule.TheVariants.{NamedOnce};
+    ghost use Rattle.rule_places.specs.Places.{IsAt};
+
+    ghost wrong = { λ s i item fault. (IsKnown s.others.now (T.name_in item) ⊎ IsGivenBefore T.name_in s.items.now i item) × IsAt NamedOnce (Member s.last.now ∷ []) fault };
+
+    fn find(&self, alloc: Global, place: usize, item: &T) -> Result<Option<Fault>, Memory> {
+        let is_again = self.is_again(place, item);
+        let found = fault_if(alloc, is_again, Rule::NamedOnce, self.last)?;
+        Ok(found)
+    }
+}
+
+impl<'a, T: Named> Again<'a, T> {
+    /// The first of the items, which stand at this member, whose name is given before.
+    pub fn first_at(&self, alloc: Global, member: &str) -> Result<Option<Fault>, Memory>
+        ensures { (names : List (List ℕ)) → AreNames self.now.others.now names → IfOk result (λ found. IsLeast fault_cmp (IsRepeatedIn T.name_in names member.now self.now.last.now self.now.items.now) found) }
+    {
+        let found = first_at(alloc, member, self, self.items)?;
+        Ok(found)
+    }
+
+    // Whether the name of the item is known, or that of an item before its place.
+    fn is_again(&self, place: usize, item: &T) -> bool
+        ensures { IsTrue result ↔ (IsKnown self.now.others.now (T.name_in item.now) ⊎ IsGivenBefore T.name_in self.now.items.now place item.now) }
+    {
+        is_known(self.others, item.name()) || self.own.is_given_before(place, item)
+    }
+}
+
+/// The first of the items of a list, which stand at this member, whose name was given before in the list.
+pub fn first_twice<T: Named>(
+    alloc: Global,
+    member: &str,
+    last: &str,
+    items: &Seq<T>,
+    places: &Places,
+) -> Result<Option<Fault>, Memory>
+    requires { place_in places.now ≡ first_place T.name_in items.now }
+    ensures { IfOk result (λ found. IsLeast fault_cmp (IsRepeatedIn T.name_in [] member.now last.now items.now) found) }
+{
+    let search = Again {
+        others: &[],
+        items,
+        own: places,
+        last,
+    };
+    let found = search.first_at(alloc, member)?;
+    Ok(found)
+}
+
+// Whether one of the lists has the name.
+fn is_known(lists: &[&Places], name: &Txt) -> bool
+    ensures { IsTrue result ↔ IsKnown lists.now name.now }
+{
+    lists
+        .iter()
+        .any(|places| places.place_of(name.as_str()).is_some())
+}

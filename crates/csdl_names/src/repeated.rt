@@ -1,0 +1,150 @@
+ghost use Rattle.std.specs.Prelude.{◌≡◌, ◌⊎◌, [], IfOk, map, codes};
+ghost use Rattle.least_fault.specs.Least.{IsLeast};
+ghost use Rattle.layouts.specs.Faults.{fault_cmp};
+ghost use Rattle.csdl_lists.specs.Scopes.{IsScopeOf};
+ghost use Rattle.csdl_names.specs.Repeated.{IsRepeated, IsRepeatedIn, IsRepeatedInContainer, IsRepeatedInSchema};
+
+use crate::again::{Again, first_twice};
+use crate::findings::{behind_member, first_at, places_of};
+use csdl_lists::{RawAssociation, RawContainer, RawEnum, RawModel, RawType, Scope};
+use emc_base::{Memory, Seq};
+use layouts::Fault;
+use least_fault::{Finder, earlier};
+use name_places::Named;
+use std::alloc::Global;
+
+/// Searches what stands in the items of a list for names that are given twice.
+#[derive(Clone, Copy)]
+struct Inside {}
+
+impl Finder<RawType, Fault> for Inside {
+    ghost use Rattle.csdl_names.specs.Repeated.{IsRepeatedInType};
+
+    ghost wrong = { λ _. IsRepeatedInType };
+
+    fn find(&self, alloc: Global, _: usize, item: &RawType) -> Result<Option<Fault>, Memory> {
+        let found = first_in_both(
+            alloc,
+            "NavigationProperty",
+            &item.navs,
+            "Property",
+            &item.props,
+        )?;
+        Ok(found)
+    }
+}
+
+impl Finder<RawEnum, Fault> for Inside {
+    ghost use Rattle.csdl_names.specs.Repeated.{IsRepeatedInEnum};
+
+    ghost wrong = { λ _. IsRepeatedInEnum };
+
+    fn find(&self, alloc: Global, _: usize, item: &RawEnum) -> Result<Option<Fault>, Memory> {
+        let places = places_of(alloc, &item.members)?;
+        let found = first_twice(alloc, "Member", "Name", &item.members, &places)?;
+        Ok(found)
+    }
+}
+
+impl Finder<RawAssociation, Fault> for Inside {
+    ghost use Rattle.csdl_names.specs.Repeated.{IsRepeatedInAssociation};
+
+    ghost wrong = { λ _. IsRepeatedInAssociation };
+
+    fn find(
+        &self,
+        alloc: Global,
+        _: usize,
+        item: &RawAssociation,
+    ) -> Result<Option<Fault>, Memory> {
+        let places = places_of(alloc, &item.ends)?;
+        let found = first_twice(alloc, "End", "Role", &item.ends, &places)?;
+        Ok(found)
+    }
+}
+
+// The least of the names that are given twice in two lists, of which the first stands before the second in their scope.
+fn first_in_both<T: Named, U: Named>(
+    alloc: Global,
+    first: &str,
+    firsts: &Seq<T>,
+    second: &str,
+    seconds: &Seq<U>,
+) -> Result<Option<Fault>, Memory>
+    ensures { IfOk result (λ found. IsLeast fault_cmp (λ fault. IsRepeatedIn T.name_in [] first.now (codes "Name") firsts.now fault ⊎ IsRepeatedIn U.name_in (map T.name_in firsts.now) second.now (codes "Name") seconds.now fault) found) }
+{
+    let known = places_of(alloc, firsts)?;
+    let own = places_of(alloc, seconds)?;
+    let found = first_twice(alloc, first, "Name", firsts, &known)?;
+    let search = Again {
+        others: &[&known],
+        items: seconds,
+        own: &own,
+        last: "Name",
+    };
+    let other = search.first_at(alloc, second)?;
+    Ok(earlier(found, other))
+}
+
+// The least of the names of associations, types and enumeration types that are given twice.
+fn first_in_schema(alloc: Global, model: &RawModel, scope: &Scope) -> Result<Option<Fault>, Memory>
+    requires { IsScopeOf model.now scope.now }
+    ensures { IfOk result (λ found. IsLeast fault_cmp (IsRepeatedInSchema model.now) found) }
+{
+    let of_associations = first_twice(
+        alloc,
+        "Association",
+        "Name",
+        &model.associations,
+        &scope.associations,
+    )?;
+    let types = Again {
+        others: &[&scope.associations],
+        items: &model.types,
+        own: &scope.types,
+        last: "Name",
+    };
+    let of_types = types.first_at(alloc, "EntityType")?;
+    let enums = Again {
+        others: &[&scope.associations, &scope.types],
+        items: &model.enums,
+        own: &scope.enums,
+        last: "Name",
+    };
+    let of_enums = enums.first_at(alloc, "EnumType")?;
+    Ok(earlier(of_associations, earlier(of_types, of_enums)))
+}
+
+// The least of the names of sets that are given twice.
+fn first_in_container(alloc: Global, container: &RawContainer) -> Result<Option<Fault>, Memory>
+    ensures { IfOk result (λ found. IsLeast fault_cmp (IsRepeatedInContainer container.now) found) }
+{
+    let found = first_in_both(
+        alloc,
+        "AssociationSet",
+        &container.association_sets,
+        "EntitySet",
+        &container.sets,
+    )?;
+    Ok(found)
+}
+
+/// The least of the names that are given twice in their scope. Of two names the later one is told, in the order of places.
+/// `Memory` comes where memory ran out.
+pub fn first_repeated(
+    alloc: Global,
+    model: &RawModel,
+    scope: &Scope,
+) -> Result<Option<Fault>, Memory>
+    requires { IsScopeOf model.now scope.now }
+    ensures { IfOk result (λ found. IsLeast fault_cmp (IsRepeated model.now) found) }
+{
+    let schema = first_in_schema(alloc, model, scope)?;
+    let inside = first_in_container(alloc, &model.container)?;
+    let container = behind_member(alloc, "EntityContainer", inside)?;
+    let types = first_at(alloc, "EntityType", &Inside {}, &model.types)?;
+    let enums = first_at(alloc, "EnumType", &Inside {}, &model.enums)?;
+    let roles = first_at(alloc, "Association", &Inside {}, &model.associations)?;
+    let in_items = earlier(types, earlier(enums, roles));
+    Ok(earlier(schema, earlier(container, in_items)))
+}
