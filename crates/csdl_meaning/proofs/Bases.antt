@@ -21,7 +21,7 @@ use Rattle.csdl_meaning.specs.Meaning.{IsMeant, base_in, chain_in, type_of, type
 use Rattle.csdl_meaning.proofs.Lists.{at_numbered, numbered_at}
 
 -- what a look-up behind another found
-and_then_some : {X Y : Type 0} (f : X → Option Y) (found : Option X) (y : Y) → option_and_then f found ≡ Some y → (x : X) × (found ≡ Some x) × (f x ≡ Some y)
+pub and_then_some : {X Y : Type 0} (f : X → Option Y) (found : Option X) (y : Y) → option_and_then f found ≡ Some y → (x : X) × (found ≡ Some x) × (f x ≡ Some y)
 and_then_some f None y is = absurd cc
 and_then_some f (Some x) y is = (x, refl, is)
 

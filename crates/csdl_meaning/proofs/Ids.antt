@@ -17,19 +17,13 @@ use Rattle.csdl_meaning.specs.Meaning.{IsMeant, base_in, chain_in, declared_befo
 use Rattle.csdl_meaning.proofs.Bases.{base_inside, raw_at, type_at}
 use Rattle.csdl_meaning.proofs.Keys.{key_named, named_own}
 use Rattle.csdl_meaning.proofs.Lists.{all_from_places, in_flat_map, in_map}
-use Rattle.csdl_meaning.proofs.Props.{prop_at}
+use Rattle.csdl_meaning.proofs.Props.{of_each_prop, prop_at}
 
 -- a number of a range
 in_range : (a n x : ℕ) → Contains (range_with_len a n) x → (k : ℕ) × (k < n) × (a + k ≡ x)
 in_range a n x has =
     let inside : has.0 < n = subst (λ count. has.0 < count) (length-range_with_len a n) has.1 in
     (has.0, inside, sym (get_or-range_with_len a n has.0 x inside) ∙ has.2)
-
--- the number of a numbered item
-number_inside : {X : Type 0} (n m : ℕ) (xs : List X) (entry : ℕ × X) → n + length xs ≡ m → Contains (enumerate_from n xs) entry → entry.0 < m
-number_inside n m [] entry end has = absurd (contains_nil entry has)
-number_inside n m (x ∷ xs) entry end (zero, within, is) = let number : n ≡ entry.0 = ap (λ e. e.0) is in omega arith
-number_inside n m (x ∷ xs) entry end (suc k, within, is) = number_inside (n + 1) m xs entry (omega arith) (k, omega arith, is)
 
 less_same : (a b m n : ℕ) → a ≡ b → m ≡ n → a < m → b < n
 less_same a b m n one two less = omega arith
@@ -72,9 +66,4 @@ module _ (raw : RawModel) (model : EntityModel) (meant : IsMeant raw model) wher
       let of_one = in_flat_map (own_props raw) (chain_in raw i) prop has in own_inside of_one.0 prop of_one.2))
 
   pub owners_inside : All (λ prop. IsTypeId model prop.owner) model.props
-  owners_inside = subst (λ props. All (λ prop. IsTypeId model prop.owner) props) (sym meant.props) (all_from_members (λ prop. IsTypeId model prop.owner) (props_in raw) (λ prop has.
-      let of_one = in_flat_map (λ (place : ℕ × RawType). map (prop_of raw place.0) place.1.props) (enumerate_from 0 raw.types) prop has in
-      let declared = in_map (prop_of raw of_one.0.0) of_one.0.1.props prop of_one.2 in
-      let inside = types_inside of_one.0.0 (number_inside 0 (length raw.types) raw.types of_one.0 (zero-add (length raw.types)) of_one.1) in
-      let P : Prop → Type 0 = λ prop. IsTypeId model prop.owner in
-      subst P declared.2 inside))
+  owners_inside = of_each_prop raw model meant (λ prop. IsTypeId model prop.owner) (λ i type declared here has. types_inside i (slice_get_within raw.types i type here))

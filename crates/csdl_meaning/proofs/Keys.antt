@@ -74,7 +74,7 @@ module _ (raw : RawModel) where
   declared_is i type here = ap (λ (found : Option RawType). option_map_or (λ type. type.props) found []) here
 
   -- the key that a type declares, by the names of its key
-  own_key_is : (i : ℕ) (type : RawType) → At raw.types i type → own_key raw i ≡ filter_map (prop_named raw i) (key_names type)
+  pub own_key_is : (i : ℕ) (type : RawType) → At raw.types i type → own_key raw i ≡ filter_map (prop_named raw i) (key_names type)
   own_key_is i type here = ap (λ (found : Option RawType). filter_map (prop_named raw i) (unwrap_or (option_and_then (λ type. type.key) found) [])) here
 
   -- a property of the key that a type declares has one of its names
@@ -85,7 +85,7 @@ module _ (raw : RawModel) where
 
   module _ (model : EntityModel) (meant : IsMeant raw model) where
     -- V7, V9: the key of a type without a base
-    root_key : (t : TypeId) (type : RawType) (names : List (List ℕ)) → At raw.types t.index type → type.key ≡ Some names → names ≢ [] → length names ≤ 4 → AreApart names
+    pub root_key : (t : TypeId) (type : RawType) (names : List (List ℕ)) → At raw.types t.index type → type.key ≡ Some names → names ≢ [] → length names ≤ 4 → AreApart names
         → ((name : List ℕ) → Contains names name → (prop : RawProp) × Contains type.props prop × (prop.name ≡ name)) → IsRootKey model t (own_key raw t.index)
     root_key t type names here is some few apart declared = let P : List PropId → Type 0 = λ key. IsRootKey model t key in subst P (sym own) (record {
       some = λ none. some (none_long names (sym long ∙ ap length none));

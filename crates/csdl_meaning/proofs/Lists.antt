@@ -27,6 +27,14 @@ module _ {X : Type 0} where
   enumerate-append n m [] ys same = let here : n ≡ m = omega arith in ap (λ k. enumerate_from k ys) here
   enumerate-append n m (x ∷ xs) ys same = ap (λ entries. (n, x) ∷ entries) (enumerate-append (n + 1) m xs ys (omega arith))
 
+  -- a numbered item stands at its number
+  pub in_enumerated : (n : ℕ) (xs : List X) (entry : ℕ × X) → Contains (enumerate_from n xs) entry → (k : ℕ) × (n + k ≡ entry.0) × At xs k entry.1
+  in_enumerated n [] entry has = absurd (contains_nil entry has)
+  in_enumerated n (x ∷ xs) entry (zero, within, is) = (zero, (let number : n ≡ entry.0 = ap (λ e. e.0) is in omega arith), ap (λ e. Some e.1) is)
+  in_enumerated n (x ∷ xs) entry (suc i, within, is) =
+      let later = in_enumerated (n + 1) xs entry (i, omega arith, is) in
+      (suc later.0, (let number : (n + 1) + later.0 ≡ entry.0 = later.1 in omega arith), later.2)
+
   -- what a filter leaves of items that all pass, or none of which does
   pub filter-all : (p : X → Bool) (xs : List X) → ((x : X) → Contains xs x → p x ≡ true) → filter p xs ≡ xs
   filter-all p [] pass = refl

@@ -6,7 +6,7 @@ use Rattle.std.proofs.lemmas.List.{length-map}
 use Rattle.std.proofs.lemmas.Option.{slice_get_within}
 use Rattle.std.proofs.lemmas.Simd.{map-map}
 use Rattle.emc_base.specs.Lists.{At}
-use Rattle.emc_base.proofs.Lists.{item_at}
+use Rattle.emc_base.proofs.Lists.{all_from_members, item_at}
 use Rattle.emc_base.proofs.Mapped.{map-enumerated, map-filter_enumerated}
 use Rattle.round_trip.specs.Words.{EntityModel, EntityType, Prop, PropId, TypeId, props_of, key_props}
 use Rattle.soundness.specs.Inheritance.{HasInheritedProps, declared_props, prop_numbered, type_numbered}
@@ -18,6 +18,7 @@ use Rattle.csdl_lists.specs.declared.raw.RawType.{RawType}
 use Rattle.csdl_meaning.specs.Meaning.{IsMeant, base_in, chain_in, declared_before, declared_by, own_props, prop_of, props_in, type_of, types_in}
 use Rattle.csdl_meaning.proofs.Bases.{along_chain, base_inside, raw_at, type_at}
 use Rattle.csdl_meaning.proofs.Declared.{declared_place, is_owned, owned}
+use Rattle.csdl_meaning.proofs.Lists.{in_enumerated, in_flat_map, in_map}
 
 -- the numbers of numbered items
 numbers-enumerated : {X : Type 0} (n : ℕ) (xs : List X) → map (λ (entry : ℕ × X). entry.0) (enumerate_from n xs) ≡ range_with_len n (length xs)
@@ -50,6 +51,16 @@ module _ (raw : RawModel) where
   module _ (model : EntityModel) (meant : IsMeant raw model) where
     pub declared_in : (t : TypeId) → declared_props model t ≡ own_props raw t.index
     declared_in t = ap (λ (props : List Prop). map prop_numbered (places_of (λ prop. prop.owner.index == t.index) props)) meant.props ∙ own_places t.index
+
+    -- what holds of each property that a type declares holds of each of the model
+    pub of_each_prop : (P : Prop → Type 0)
+        → ((i : ℕ) (type : RawType) (declared : RawProp) → At raw.types i type → Contains type.props declared → P (prop_of raw i declared)) → All P model.props
+    of_each_prop P holds = subst (λ props. All P props) (sym meant.props) (all_from_members P (props_in raw) (λ prop has.
+        let entry = in_flat_map (λ (place : ℕ × RawType). map (prop_of raw place.0) place.1.props) (enumerate_from 0 raw.types) prop has in
+        let declared = in_map (prop_of raw entry.0.0) entry.0.1.props prop entry.2 in
+        let place = in_enumerated 0 raw.types entry.0 entry.1 in
+        let here : At raw.types entry.0.0 entry.0.1 = ap (slice_get raw.types) (sym place.1 ∙ zero-add place.0) ∙ place.2 in
+        subst P declared.2 (holds entry.0.0 entry.0.1 declared.0 here declared.1)))
 
     -- what a type of the model has, by the document's
     pub has_at : {X : Type 0} (part : EntityType → List X) (j : ℕ) → j < length raw.types
