@@ -1,6 +1,6 @@
 -- Base types: those of a model are those of the document that it is meant by. V8.
-use Rattle.std.proofs.Common.{◌≡◌, ◌⊎◌, ⊎_elim, inl, inr, ℕ, ◌+◌, ◌<◌, List, [], ◌∷◌, ◌++◌, append-nil, length, map, slice_get, Option, Some, None, option_map, refl, sym, ap, subst, ◌∙◌, arith, zero-add}
-use Rattle.std.specs.List.{enumerate_from, flat_map}
+use Rattle.std.proofs.Common.{◌≡◌, ◌⊎◌, ⊎_elim, inl, inr, ℕ, ◌<◌, List, [], ◌∷◌, ◌++◌, append-nil, length, slice_get, Option, Some, None, option_map, refl, sym, ap, subst, ◌∙◌, zero-add}
+use Rattle.std.specs.List.{flat_map}
 use Rattle.std.specs.Option.{option_and_then, option_map_or}
 use Rattle.std.proofs.lemmas.Grind.{flat_map-append}
 use Rattle.std.proofs.lemmas.List.Concat.{flat_map-cons}
@@ -17,7 +17,7 @@ use Rattle.name_places.proofs.FirstPlaces.{first_has}
 use Rattle.csdl_lists.specs.declared.raw.RawModel.{RawModel}
 use Rattle.csdl_lists.specs.declared.raw.RawType.{RawType}
 use Rattle.csdl_lists.specs.References.{local_name, names_in}
-use Rattle.csdl_meaning.specs.Meaning.{IsMeant, base_in, chain_in, type_of, types_in}
+use Rattle.csdl_meaning.specs.Meaning.{IsMeant, base_in, chain_in, type_of}
 use Rattle.csdl_meaning.proofs.Lists.{at_numbered, numbered_at}
 
 -- what a look-up behind another found

@@ -1,6 +1,6 @@
 -- The declared properties of all types: which of them are those of one type, and where they stand.
-use Rattle.std.proofs.Common.{◌≡◌, ◌≢◌, ◌==◌, ℕ, zero, suc, ◌+◌, ◌<◌, ◌≤◌, Bool, true, false, cond, List, [], ◌∷◌, ◌++◌, append-nil, length, map, filter, take, slice_get, sum_by, Contains, Option, Some, None, refl, sym, ap, subst, ◌∙◌, arith}
-use Rattle.std.specs.List.{enumerate_from, flat_map, range_with_len}
+use Rattle.std.proofs.Common.{◌≡◌, ◌≢◌, ◌==◌, ℕ, zero, suc, ◌+◌, ◌<◌, Bool, cond, List, [], ◌∷◌, ◌++◌, append-nil, length, map, filter, take, slice_get, sum_by, Some, refl, sym, ap, subst, ◌∙◌, arith}
+use Rattle.std.specs.List.{enumerate_from, flat_map}
 use Rattle.std.specs.Option.{option_map_or}
 use Rattle.std.proofs.lemmas.Bool.{false_from_ne_true}
 use Rattle.std.proofs.lemmas.Bool.Decides.{Decides-eqb}
@@ -9,13 +9,12 @@ use Rattle.std.proofs.lemmas.List.Concat.{flat_map-cons}
 use Rattle.std.proofs.lemmas.List.Elements.{filter-append}
 use Rattle.std.proofs.lemmas.List.Sums.{sum_by-cons}
 use Rattle.emc_base.specs.Lists.{At}
-use Rattle.emc_base.proofs.Mapped.{map-enumerated, map-filter_enumerated}
 use Rattle.round_trip.specs.Words.{Prop}
 use Rattle.csdl_lists.specs.declared.raw.RawModel.{RawModel}
 use Rattle.csdl_lists.specs.declared.raw.RawProp.{RawProp}
 use Rattle.csdl_lists.specs.declared.raw.RawType.{RawType}
 use Rattle.csdl_meaning.specs.Meaning.{prop_of}
-use Rattle.csdl_meaning.proofs.Lists.{at_left, at_map, at_right, enumerate-append, filter-all, filter-none, in_map}
+use Rattle.csdl_meaning.proofs.Lists.{at_left, at_map, at_right, enumerate-append}
 
 module _ (raw : RawModel) where
   -- the properties of these types, the first of which has this number

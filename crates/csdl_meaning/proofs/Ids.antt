@@ -1,19 +1,18 @@
 -- Ids: base types, keys and properties of types, and owners of properties, are in range. No rule is needed.
-use Rattle.std.proofs.Common.{◌≡◌, ℕ, zero, suc, ◌+◌, ◌<◌, List, [], ◌∷◌, length, map, slice_get, All, Contains, Option, Some, None, option_map, refl, sym, ap, subst, ◌∙◌, arith, zero-add}
+use Rattle.std.proofs.Common.{◌≡◌, ℕ, ◌+◌, ◌<◌, length, All, Contains, Option, Some, None, option_map, refl, sym, ap, subst, ◌∙◌, arith}
 use Rattle.std.specs.Bool.{⊤}
-use Rattle.std.specs.List.{enumerate_from, flat_map, range_with_len}
+use Rattle.std.specs.List.{flat_map, range_with_len}
 use Rattle.std.specs.Option.{MatchOption}
 use Rattle.std.proofs.lemmas.List.FromFn.{get_or-range_with_len, length-range_with_len}
 use Rattle.std.proofs.lemmas.Option.{slice_get_within}
 use Rattle.emc_base.specs.Lists.{At}
 use Rattle.emc_base.proofs.Lists.{all_from_members, item_at}
-use Rattle.round_trip.specs.Words.{EntityModel, EntityType, Prop, PropId, TypeId}
+use Rattle.round_trip.specs.Words.{EntityModel, EntityType, PropId}
 use Rattle.soundness.specs.Inheritance.{prop_numbered, type_numbered}
 use Rattle.soundness.specs.ModelIds.{IsPropId, IsTypeId}
-use Rattle.base_chains.proofs.Members.{contains_nil}
 use Rattle.csdl_lists.specs.declared.raw.RawModel.{RawModel}
 use Rattle.csdl_lists.specs.declared.raw.RawType.{RawType}
-use Rattle.csdl_meaning.specs.Meaning.{IsMeant, base_in, chain_in, declared_before, declared_by, own_key, own_props, prop_of, props_in, type_of, types_in}
+use Rattle.csdl_meaning.specs.Meaning.{IsMeant, base_in, chain_in, declared_before, declared_by, own_key, own_props, prop_of, props_in, type_of}
 use Rattle.csdl_meaning.proofs.Bases.{base_inside, raw_at, type_at}
 use Rattle.csdl_meaning.proofs.Keys.{key_named, named_own}
 use Rattle.csdl_meaning.proofs.Lists.{all_from_places, in_flat_map, in_map}

@@ -1,25 +1,20 @@
 -- What V6 and V7 give of types, where they are kept.
-use Rattle.std.proofs.Common.{◌≡◌, ◌≢◌, ◌⊎◌, ⊎_elim, inl, inr, ℕ, List, [], ◌∷◌, ◌++◌, map, All, Any, Contains, Option, Some, None, codes, refl, sym, ap, subst, ◌∙◌, arith}
+use Rattle.std.proofs.Common.{◌≡◌, inl, inr, ℕ, List, [], ◌∷◌, map, Contains, Option, Some, None, codes, refl, sym, ap, subst, ◌∙◌}
 use Rattle.std.specs.Option.{MatchOption, option_and_then}
 use Rattle.emc_base.specs.Lists.{At}
 use Rattle.emc_base.proofs.Mapped.{contains_at}
 use Rattle.soundness.specs.Lists.{AreApart}
 use Rattle.base_chains.proofs.Orders.{place_of_member}
-use Rattle.json_form.specs.declared.pointer.Step.{Step}
 use Rattle.json_form.specs.declared.pointer.Step.TheVariants.{Item, Member}
 use Rattle.layouts.specs.declared.fault.Fault.{Fault}
-use Rattle.layouts.specs.declared.rule.Rule.{Rule}
 use Rattle.layouts.specs.declared.rule.Rule.TheVariants.{NamedOnce, Resolves}
-use Rattle.layouts.specs.Inside.{Under}
-use Rattle.least_fault.specs.Least.{Among}
-use Rattle.rule_places.specs.Places.{InItem, InList, IsAt}
+use Rattle.rule_places.specs.Places.{IsAt}
 use Rattle.name_places.specs.GivenNames.{IsGivenBefore, first_place}
 use Rattle.name_places.proofs.FirstPlaces.{first_has, given_nowhere}
 use Rattle.csdl_lists.specs.declared.raw.RawModel.{RawModel}
-use Rattle.csdl_lists.specs.declared.raw.RawNav.{RawNav}
 use Rattle.csdl_lists.specs.declared.raw.RawProp.{RawProp}
 use Rattle.csdl_lists.specs.declared.raw.RawType.{RawType}
-use Rattle.csdl_lists.specs.References.{base_of, names_in}
+use Rattle.csdl_lists.specs.References.{names_in}
 use Rattle.csdl_names.specs.Repeated.{IsGivenAgain, IsRepeated, IsRepeatedIn, IsRepeatedInType}
 use Rattle.csdl_names.specs.Unresolved.{IsUnresolved, IsUnresolvedInKey, IsUnresolvedInType, IsUnresolvedProp, LacksProp, NamesNothing, root}
 use Rattle.csdl_meaning.specs.Meaning.{base_in}

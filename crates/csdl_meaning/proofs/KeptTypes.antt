@@ -1,6 +1,5 @@
 -- What V8 to V13 give of types and enumerations, where they are kept.
-use Rattle.std.proofs.Common.{◌≡◌, ◌≢◌, ◌⊎◌, ⊎_elim, inl, inr, ℕ, List, [], ◌∷◌, length, map, Bool, true, false, All, AllPairs, Any, Contains, Option, Some, None, codes, refl, sym, ap, subst, ◌∙◌, ◌≤◌, ◌<◌, arith}
-use Rattle.std.specs.Bool.{⊤}
+use Rattle.std.proofs.Common.{◌≡◌, ⊎_elim, inl, inr, ℕ, List, [], ◌∷◌, length, map, Bool, true, false, Any, Contains, Option, Some, None, codes, refl, sym, subst, ◌≤◌, ◌<◌, arith}
 use Rattle.std.specs.Option.{MatchOption, unwrap_or}
 use Rattle.std.proofs.lemmas.Bool.{both_ways, cases_lt}
 use Rattle.std.proofs.lemmas.List.Elements.{Contains-append_cases}
@@ -35,7 +34,7 @@ use Rattle.csdl_meaning.proofs.FaultPlaces.{fault_at, in_list}
 use Rattle.csdl_meaning.proofs.Keys.{key_names}
 use Rattle.csdl_meaning.proofs.Lists.{all_from_places, in_map}
 use Rattle.csdl_meaning.proofs.Names.{member_names}
-use Rattle.csdl_meaning.proofs.SoundKinds.{key_kind, sound_enum, sound_kind}
+use Rattle.csdl_meaning.proofs.SoundKinds.{key_kind, sound_enum}
 
 module _ (raw : RawModel) (never : (fault : Fault) → ¬ BreaksTypeRules raw fault) where
   none_of_type : (i : ℕ) (type : RawType) → At raw.types i type → (fault : Fault) → ¬ IsTypeFault (names_in raw) raw i type fault

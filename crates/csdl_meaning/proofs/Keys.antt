@@ -1,13 +1,13 @@
 -- Keys: which properties are in a key, and what base types give. V7, V9, V10.
-use Rattle.std.proofs.Common.{◌≡◌, ◌≢◌, ◌⊎◌, ⊎_elim, ℕ, ◌+◌, ◌<◌, ◌≤◌, List, [], ◌∷◌, ◌++◌, append-nil, length, map, slice_get, All, AllPairs, Contains, Option, Some, None, option_map, false, refl, sym, ap, subst, ◌∙◌, arith}
-use Rattle.std.specs.List.{filter_map, flat_map, range_with_len}
+use Rattle.std.proofs.Common.{◌≡◌, ◌≢◌, ℕ, ◌+◌, ◌<◌, ◌≤◌, List, [], ◌∷◌, ◌++◌, append-nil, length, slice_get, All, Contains, Option, Some, None, option_map, false, refl, sym, ap, subst, ◌∙◌, arith}
+use Rattle.std.specs.List.{filter_map, flat_map}
 use Rattle.std.specs.Option.{MatchOption, option_and_then, option_map_or, unwrap_or}
 use Rattle.std.proofs.lemmas.List.FromFn.{get_or-map-range_with_len, length-map-range_with_len}
 use Rattle.std.proofs.lemmas.Option.{same_Some, slice_get_within}
 use Rattle.emc_base.specs.Lists.{At}
 use Rattle.emc_base.proofs.Lists.{all_from_members}
 use Rattle.emc_base.proofs.Mapped.{contains_at}
-use Rattle.round_trip.specs.Words.{EntityModel, EntityType, Prop, PropId, TypeId, key_props}
+use Rattle.round_trip.specs.Words.{EntityModel, EntityType, PropId, TypeId, key_props}
 use Rattle.soundness.specs.Kinds.{IsKeyKind}
 use Rattle.soundness.specs.Lists.{AreApart}
 use Rattle.soundness.specs.Inheritance.{HasInheritedKey, IsKeyProp, IsRootKey, declared_props, prop_numbered, type_numbered}
@@ -20,8 +20,8 @@ use Rattle.csdl_lists.specs.declared.raw.RawModel.{RawModel}
 use Rattle.csdl_lists.specs.declared.raw.RawProp.{RawProp}
 use Rattle.csdl_lists.specs.declared.raw.RawType.{RawType}
 use Rattle.csdl_meaning.specs.Kinds.{kind_of}
-use Rattle.csdl_meaning.specs.Meaning.{IsMeant, base_in, chain_in, declared_before, declared_by, own_key, own_props, prop_named, prop_of, props_in, type_of, types_in}
-use Rattle.csdl_meaning.proofs.Bases.{along_chain, base_inside, raw_at, type_at}
+use Rattle.csdl_meaning.specs.Meaning.{IsMeant, base_in, chain_in, declared_before, declared_by, own_key, own_props, prop_named, prop_of}
+use Rattle.csdl_meaning.proofs.Bases.{along_chain, base_inside, raw_at}
 use Rattle.csdl_meaning.proofs.Lists.{found_apart, found_length, in_flat_map, in_found}
 use Rattle.csdl_meaning.proofs.Props.{declared_in, has_at, prop_at}
 
@@ -54,10 +54,11 @@ module _ (raw : RawModel) where
   pub named_own : (i : ℕ) (name : List ℕ) (prop : PropId) → prop_named raw i name ≡ Some prop → Contains (own_props raw i) prop
   named_own i name prop is =
       let n = named i name prop is in
-      let inside = slice_get_within (declared_by raw i) n.place n.declared n.here in
-      (n.place,
-      subst (λ count. n.place < count) (sym (length-map-range_with_len prop_numbered (declared_before raw i) (length (declared_by raw i)))) inside,
-      get_or-map-range_with_len prop_numbered (declared_before raw i) (length (declared_by raw i)) n.place (declared_before raw i + n.place) prop inside refl ∙ n.is_id)
+      let inside = slice_get_within (declared_by raw i) n.place n.declared n.here in (
+        n.place,
+        subst (λ count. n.place < count) (sym (length-map-range_with_len prop_numbered (declared_before raw i) (length (declared_by raw i)))) inside,
+        get_or-map-range_with_len prop_numbered (declared_before raw i) (length (declared_by raw i)) n.place (declared_before raw i + n.place) prop inside refl ∙ n.is_id,
+      )
 
   -- different names have different properties
   named_once : (i : ℕ) (one other : List ℕ) (prop : PropId) → prop_named raw i one ≡ Some prop → prop_named raw i other ≡ Some prop → one ≡ other
@@ -140,7 +141,7 @@ module _ (raw : RawModel) where
 
     -- V10: each property of a key is what a property of a key has to be
     pub key_props_sound : ((i : ℕ) (type : RawType) (prop : RawProp) → At raw.types i type → Contains (key_names type) prop.name → Contains type.props prop
-          → IsKeyKind (kind_of raw prop) × (prop.nullable ≡ false))
+        → IsKeyKind (kind_of raw prop) × (prop.nullable ≡ false))
         → (t : TypeId) (type : EntityType) → At model.types t.index type → All (IsKeyProp model) type.key
     key_props_sound good t type here =
         let from = raw_at raw model meant t.index type here in

@@ -1,5 +1,5 @@
 -- Lists put behind one another, filtered, numbered and mapped, and what stands in them.
-use Rattle.std.proofs.Common.{◌≡◌, ◌≢◌, ◌⊎◌, ⊎_elim, inl, inr, ℕ, zero, suc, ◌+◌, ◌<◌, ◌≤◌, Bool, true, false, cond, List, [], ◌∷◌, ◌++◌, length, map, filter, get_or, slice_get, All, AllPairs, Contains, Option, Some, None, option_map, refl, sym, ap, subst, ◌∙◌, arith}
+use Rattle.std.proofs.Common.{◌≡◌, ◌≢◌, ⊎_elim, ℕ, zero, suc, ◌+◌, List, [], ◌∷◌, ◌++◌, length, map, get_or, All, AllPairs, Contains, Option, Some, None, option_map, refl, sym, ap, subst, ◌∙◌, arith}
 use Rattle.std.specs.List.{cons_option, enumerate_from, filter_map, flat_map}
 use Rattle.std.proofs.lemmas.List.Elements.{All-append, All-head, All-map, All-tail, Contains-append_cases}
 use Rattle.std.proofs.lemmas.List.Kept.{AllPairs-cons}
@@ -34,19 +34,6 @@ module _ {X : Type 0} where
   in_enumerated n (x ∷ xs) entry (suc i, within, is) =
       let later = in_enumerated (n + 1) xs entry (i, omega arith, is) in
       (suc later.0, (let number : (n + 1) + later.0 ≡ entry.0 = later.1 in omega arith), later.2)
-
-  -- what a filter leaves of items that all pass, or none of which does
-  pub filter-all : (p : X → Bool) (xs : List X) → ((x : X) → Contains xs x → p x ≡ true) → filter p xs ≡ xs
-  filter-all p [] pass = refl
-  filter-all p (x ∷ xs) pass =
-      ap (λ passes. cond passes (x ∷ filter p xs) (filter p xs)) (pass x (contains_head x xs))
-      ∙ ap (λ ys. x ∷ ys) (filter-all p xs (λ y has. pass y (contains_tail x xs y has)))
-
-  pub filter-none : (p : X → Bool) (xs : List X) → ((x : X) → Contains xs x → p x ≡ false) → filter p xs ≡ []
-  filter-none p [] fail = refl
-  filter-none p (x ∷ xs) fail =
-      ap (λ passes. cond passes (x ∷ filter p xs) (filter p xs)) (fail x (contains_head x xs))
-      ∙ filter-none p xs (λ y has. fail y (contains_tail x xs y has))
 
   -- from what holds of each item at its place
   pub all_from_places : (P : X → Type 0) (xs : List X) → ((i : ℕ) (x : X) → At xs i x → P x) → All P xs

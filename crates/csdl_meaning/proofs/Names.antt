@@ -1,5 +1,5 @@
 -- Names: those of types, and those of the members of a type. V6, V11.
-use Rattle.std.proofs.Common.{◌≡◌, ◌≢◌, ◌⊎◌, ⊎_elim, inl, inr, ◌==◌, ℕ, ◌+◌, ◌<◌, List, [], ◌∷◌, ◌++◌, length, map, filter, slice_get, All, AllPairs, Contains, Option, Some, None, refl, sym, ap, subst, ◌∙◌, arith}
+use Rattle.std.proofs.Common.{◌≡◌, ◌≢◌, ◌==◌, ℕ, List, [], ◌++◌, map, filter, All, Contains, Option, sym, ap, subst, ◌∙◌}
 use Rattle.std.specs.List.{enumerate_from}
 use Rattle.std.specs.Option.{option_map_or}
 use Rattle.std.proofs.lemmas.Simd.{map-map}
@@ -9,7 +9,6 @@ use Rattle.emc_base.proofs.Lists.{all_from_members}
 use Rattle.emc_base.proofs.Mapped.{map-enumerated}
 use Rattle.round_trip.specs.Words.{EntityModel, EntityType, Prop, TypeId}
 use Rattle.soundness.specs.Lists.{AreApart}
-use Rattle.soundness.specs.Lookups.{IsAncestor as IsAbove}
 use Rattle.soundness.specs.ModelNames.{HasDistinctMembers, own_names}
 use Rattle.base_chains.specs.Chains.{IsAncestor}
 use Rattle.name_places.specs.GivenNames.{IsGivenBefore}
@@ -18,7 +17,7 @@ use Rattle.csdl_lists.specs.declared.raw.RawModel.{RawModel}
 use Rattle.csdl_lists.specs.declared.raw.RawNav.{RawNav}
 use Rattle.csdl_lists.specs.declared.raw.RawProp.{RawProp}
 use Rattle.csdl_lists.specs.declared.raw.RawType.{RawType}
-use Rattle.csdl_meaning.specs.Meaning.{IsMeant, base_in, declared_by, nav_of, prop_of, props_in, type_of, types_in}
+use Rattle.csdl_meaning.specs.Meaning.{IsMeant, base_in, nav_of, type_of}
 use Rattle.csdl_meaning.proofs.Bases.{above, raw_at}
 use Rattle.csdl_meaning.proofs.Lists.{all_from_places, apart-append, apart-map}
 use Rattle.csdl_meaning.proofs.Props.{own_prop_names}
@@ -68,7 +67,7 @@ module _ (raw : RawModel) (model : EntityModel) (meant : IsMeant raw model) wher
   -- V6, V11
   pub distinct_members : ((i : ℕ) (type : RawType) → At raw.types i type → AreApart (member_names type))
       → ((i j : ℕ) (type other : RawType) → At raw.types i type → At raw.types j other → IsAncestor (base_in raw) i j
-        → (name : List ℕ) → Contains (member_names type) name → ¬ Contains (member_names other) name)
+      → (name : List ℕ) → Contains (member_names type) name → ¬ Contains (member_names other) name)
       → (t : TypeId) (type : EntityType) → At model.types t.index type → HasDistinctMembers model t type
   distinct_members own inherited t type here =
       let from = raw_at raw model meant t.index type here in

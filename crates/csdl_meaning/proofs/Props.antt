@@ -1,5 +1,5 @@
 -- Properties: those that a type declares, those that it inherits, and their ids.
-use Rattle.std.proofs.Common.{◌≡◌, ◌==◌, ℕ, zero, suc, ◌+◌, ◌<◌, ◌≤◌, List, [], ◌∷◌, ◌++◌, length, map, filter, slice_get, sum_by, take, All, Contains, Option, Some, None, option_map, refl, sym, ap, subst, ◌∙◌, arith, zero-add}
+use Rattle.std.proofs.Common.{◌≡◌, ◌==◌, ℕ, ◌+◌, ◌<◌, List, [], ◌∷◌, ◌++◌, length, map, filter, slice_get, All, Contains, Option, Some, None, option_map, refl, sym, ap, subst, ◌∙◌, zero-add}
 use Rattle.std.specs.List.{enumerate_from, flat_map, range_with_len}
 use Rattle.std.specs.Option.{option_map_or}
 use Rattle.std.proofs.lemmas.List.{length-map}
@@ -8,14 +8,14 @@ use Rattle.std.proofs.lemmas.Simd.{map-map}
 use Rattle.emc_base.specs.Lists.{At}
 use Rattle.emc_base.proofs.Lists.{all_from_members, item_at}
 use Rattle.emc_base.proofs.Mapped.{map-enumerated, map-filter_enumerated}
-use Rattle.round_trip.specs.Words.{EntityModel, EntityType, Prop, PropId, TypeId, props_of, key_props}
+use Rattle.round_trip.specs.Words.{EntityModel, EntityType, Prop, TypeId, props_of}
 use Rattle.soundness.specs.Inheritance.{HasInheritedProps, declared_props, prop_numbered, type_numbered}
 use Rattle.soundness.specs.Lists.{places_of}
 use Rattle.base_chains.specs.Chains.{IsAncestor}
 use Rattle.csdl_lists.specs.declared.raw.RawModel.{RawModel}
 use Rattle.csdl_lists.specs.declared.raw.RawProp.{RawProp}
 use Rattle.csdl_lists.specs.declared.raw.RawType.{RawType}
-use Rattle.csdl_meaning.specs.Meaning.{IsMeant, base_in, chain_in, declared_before, declared_by, own_props, prop_of, props_in, type_of, types_in}
+use Rattle.csdl_meaning.specs.Meaning.{IsMeant, base_in, chain_in, declared_before, declared_by, own_props, prop_of, props_in, type_of}
 use Rattle.csdl_meaning.proofs.Bases.{along_chain, base_inside, raw_at, type_at}
 use Rattle.csdl_meaning.proofs.Declared.{declared_place, is_owned, owned}
 use Rattle.csdl_meaning.proofs.Lists.{in_enumerated, in_flat_map, in_map}

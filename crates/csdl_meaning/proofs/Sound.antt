@@ -1,24 +1,21 @@
 -- What a document means is sound, as far as types and properties go, where it keeps the rules.
-use Rattle.std.proofs.Common.{◌≡◌, ◌≢◌, ℕ, ◌<◌, List, [], map, All, Contains, Option, Some, None, false, refl, sym, ap, subst, ◌∙◌, arith}
-use Rattle.std.specs.List.{enumerate_from, filter_map}
+use Rattle.std.proofs.Common.{◌≡◌, ℕ, List, [], All, Option, Some, None, sym, ap, ◌∙◌}
+use Rattle.std.specs.List.{filter_map}
 use Rattle.std.specs.Option.{option_and_then, unwrap_or}
 use Rattle.emc_base.specs.Lists.{At}
-use Rattle.emc_base.proofs.Lists.{all_from_members}
-use Rattle.round_trip.specs.Words.{EntityModel, EntityType, Prop, TypeId}
+use Rattle.round_trip.specs.Words.{EntityModel, TypeId}
 use Rattle.soundness.specs.Inheritance.{IsRootKey}
 use Rattle.soundness.specs.Kinds.{IsSoundKind}
-use Rattle.soundness.specs.Models.{IsSoundType}
 use Rattle.csdl_lists.specs.declared.raw.RawModel.{RawModel}
 use Rattle.csdl_lists.specs.declared.raw.RawType.{RawType}
 use Rattle.csdl_lists.specs.References.{names_in}
-use Rattle.csdl_meaning.specs.Meaning.{IsMeant, base_in, own_key, prop_named, prop_of, props_in}
+use Rattle.csdl_meaning.specs.Meaning.{IsMeant, base_in, own_key, prop_named}
 use Rattle.csdl_meaning.specs.SoundTypes.{HasSoundTypes, KeepsTypeRules}
 use Rattle.csdl_meaning.proofs.Bases.{and_then_some, no_circle}
 use Rattle.csdl_meaning.proofs.Ids.{bases_inside, keys_inside, owners_inside, props_inside}
 use Rattle.csdl_meaning.proofs.Keys.{inherited_key, key_props_sound, own_key_is, root_key}
 use Rattle.csdl_meaning.proofs.KeptNames.{key_declared, members_once, no_reference, types_once}
 use Rattle.csdl_meaning.proofs.KeptTypes.{derived_has_none, fits_bound, fits_enum, fits_key, none_above_itself, none_inherited, root_has_key}
-use Rattle.csdl_meaning.proofs.Lists.{in_flat_map, in_map}
 use Rattle.csdl_meaning.proofs.Names.{distinct_members, types_apart}
 use Rattle.csdl_meaning.proofs.Props.{inherited_props, of_each_prop}
 use Rattle.csdl_meaning.proofs.SoundKinds.{sound_kind}

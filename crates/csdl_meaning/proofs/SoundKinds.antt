@@ -1,8 +1,7 @@
 -- Kinds: those of keys, bounds, and enumerations. V10, V12, V13.
-use Rattle.std.proofs.Common.{◌≡◌, ◌≢◌, ◌⊎◌, ⊎_elim, inl, inr, ℕ, ◌<◌, ◌≤◌, ℤ, pos, negsuc, List, [], ◌∷◌, length, slice_get, All, Contains, Option, Some, None, refl, sym, ap, subst, ◌∙◌, arith}
+use Rattle.std.proofs.Common.{◌≡◌, ◌≢◌, ⊎_elim, inr, ℕ, ◌<◌, ◌≤◌, ℤ, pos, negsuc, List, [], ◌∷◌, slice_get, All, Option, Some, None, refl, sym, ap, subst, arith}
 use Rattle.std.specs.Prelude.{◌<ℤ◌, ◌≤ℤ◌, unwrap_or}
-use Rattle.std.specs.Bool.{⊤}
-use Rattle.std.specs.Option.{MatchOption, option_and_then, option_map_or}
+use Rattle.std.specs.Option.{option_and_then, option_map_or}
 use Rattle.std.proofs.lemmas.Bool.{cases_lt}
 use Rattle.std.proofs.lemmas.Int.{by_lt_z, ints}
 use Rattle.std.proofs.lemmas.List.Elements.{All-weaker}
@@ -12,7 +11,7 @@ use Rattle.emc_base.specs.declared.value.Under.{Under}
 use Rattle.emc_base.specs.declared.value.Under.TheVariants as under
 use Rattle.emc_base.specs.declared.value.Value.TheVariants.{Whole}
 use Rattle.emc_base.specs.declared.value.Kind.TheVariants as kind
-use Rattle.soundness.specs.Kinds.{IsKeyKind, IsSoundBound, IsSoundEnum, IsSoundKind, largest_bound, under_kind}
+use Rattle.soundness.specs.Kinds.{IsKeyKind, IsSoundBound, IsSoundKind, largest_bound, under_kind}
 use Rattle.csdl_lists.specs.declared.raw.RawBound.{RawBound}
 use Rattle.csdl_lists.specs.declared.raw.RawBound.TheVariants.{Absent, Max, Number}
 use Rattle.csdl_lists.specs.declared.raw.RawEnum.{RawEnum}
