@@ -11,3 +11,5 @@ pub mod FaultPlaces
 pub mod KeptNames
 pub mod KeptTypes
 pub mod Sound
+pub mod NoFaults
+pub mod SchoolKeeps

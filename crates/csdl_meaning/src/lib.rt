@@ -13,8 +13,10 @@ pub fn a_document_that_breaks_no_rule_has_sound_types()
     ensures sound { (raw : RawModel) (model : EntityModel) → KeepsTypeRules raw → IsMeant raw model → HasSoundTypes model }
 {}
 
-/// What a small document means: a derived type that stands before its base type, each simple type, bounds, and enumerations.
+/// What a small document means: a derived type that stands before its base type, each simple type, bounds, and enumerations. It breaks
+/// none of the rules.
 pub fn a_school_is_meant()
     ensures types { types_in school ≡ school_types }
     ensures props { props_in school ≡ school_props }
+    ensures keeps { KeepsTypeRules school }
 {}
