@@ -35,6 +35,7 @@ module _ (raw : RawModel) where
       let found = first_has (λ type. type.name) raw.types name.0 j name.2 in
       slice_get_within raw.types j found.0 found.1
 
+  -- what has a base type is a type of the document
   pub has_type : (i j : ℕ) → base_in raw i ≡ Some j → i < length raw.types
   has_type i j is =
       let type = and_then_some (λ type. option_and_then (names_in raw).type_named type.base) (slice_get raw.types i) j is in
@@ -63,6 +64,7 @@ module _ (raw : RawModel) where
     pub raw_at : (i : ℕ) (type : EntityType) → At model.types i type → (from : RawType) × At raw.types i from × (type ≡ type_of raw i from)
     raw_at i type here = numbered_at (type_of raw) 0 raw.types i i type (zero-add i) (let P : List EntityType → Type 0 = λ types. At types i type in subst P meant.types here)
 
+    -- and each type of the document means one of the model
     pub type_at : (i : ℕ) (from : RawType) → At raw.types i from → At model.types i (type_of raw i from)
     type_at i from here = let P : List EntityType → Type 0 = λ types. At types i (type_of raw i from) in
         subst P (sym meant.types) (at_numbered (type_of raw) 0 raw.types i i from (zero-add i) here)
@@ -77,6 +79,7 @@ module _ (raw : RawModel) where
         by None is = absurd cc
         by (Some j) is = let one : type_numbered j ≡ u = same_Some (type_numbered j) u is in λ k. Some (one k).index
 
+    -- a type that is derived from another is it, or has it above
     derived : (t u : TypeId) → IsA model t u → (t.index ≡ u.index) ⊎ IsAncestor (base_in raw) t.index u.index
     derived t u (same _) = inl refl
     derived t u (base _ _ has) = inr (direct t.index u.index (has_base t u has))

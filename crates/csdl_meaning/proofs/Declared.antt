@@ -1,5 +1,5 @@
 -- The declared properties of all types: which of them are those of one type, and where they stand.
-use Rattle.std.proofs.Common.{◌≡◌, ◌≢◌, ◌==◌, ℕ, zero, suc, ◌+◌, ◌<◌, Bool, cond, List, [], ◌∷◌, ◌++◌, append-nil, length, map, filter, take, slice_get, sum_by, Some, refl, sym, ap, subst, ◌∙◌, arith}
+use Rattle.std.proofs.Common.{◌≡◌, ◌≢◌, ◌==◌, ℕ, zero, suc, ◌+◌, ◌<◌, Bool, List, [], ◌∷◌, ◌++◌, append-nil, length, map, filter, take, slice_get, sum_by, Some, refl, sym, ap, subst, ◌∙◌, arith}
 use Rattle.std.specs.List.{enumerate_from, flat_map}
 use Rattle.std.specs.Option.{option_map_or}
 use Rattle.std.proofs.lemmas.Bool.{false_from_ne_true}
@@ -14,13 +14,14 @@ use Rattle.csdl_lists.specs.declared.raw.RawModel.{RawModel}
 use Rattle.csdl_lists.specs.declared.raw.RawProp.{RawProp}
 use Rattle.csdl_lists.specs.declared.raw.RawType.{RawType}
 use Rattle.csdl_meaning.specs.Meaning.{prop_of}
-use Rattle.csdl_meaning.proofs.Lists.{at_left, at_map, at_right, enumerate-append}
+use Rattle.csdl_meaning.proofs.Lists.{at_left, at_map, at_right, enumerate-append, filter-drops, filter-keeps}
 
 module _ (raw : RawModel) where
   -- the properties of these types, the first of which has this number
   abbrev pub props_from : ℕ → List RawType → List Prop
   props_from s types = flat_map (λ place. map (prop_of raw place.0) place.1.props) (enumerate_from s types)
 
+  -- a numbered property is one of this type
   abbrev pub is_owned : ℕ → ℕ × Prop → Bool
   is_owned i entry = entry.1.owner.index == i
 
@@ -28,14 +29,14 @@ module _ (raw : RawModel) where
   owned_here : (n i : ℕ) (props : List RawProp) → filter (is_owned i) (enumerate_from n (map (prop_of raw i) props)) ≡ enumerate_from n (map (prop_of raw i) props)
   owned_here n i [] = refl
   owned_here n i (prop ∷ props) =
-      ap (λ passes. cond passes ((n, prop_of raw i prop) ∷ filter (is_owned i) (enumerate_from (n + 1) (map (prop_of raw i) props))) (filter (is_owned i) (enumerate_from (n + 1) (map (prop_of raw i) props)))) ((Decides-eqb i i).1 refl)
+      filter-keeps (is_owned i) (n, prop_of raw i prop) (enumerate_from (n + 1) (map (prop_of raw i) props)) ((Decides-eqb i i).1 refl)
       ∙ ap (λ entries. (n, prop_of raw i prop) ∷ entries) (owned_here (n + 1) i props)
 
+  -- and those of another
   owned_elsewhere : (n s i : ℕ) (props : List RawProp) → s ≢ i → filter (is_owned i) (enumerate_from n (map (prop_of raw s) props)) ≡ []
   owned_elsewhere n s i [] other = refl
   owned_elsewhere n s i (prop ∷ props) other =
-      ap (λ passes. cond passes ((n, prop_of raw s prop) ∷ filter (is_owned i) (enumerate_from (n + 1) (map (prop_of raw s) props))) (filter (is_owned i) (enumerate_from (n + 1) (map (prop_of raw s) props))))
-      (false_from_ne_true (s == i) (λ same. other ((Decides-eqb s i).0 same)))
+      filter-drops (is_owned i) (n, prop_of raw s prop) (enumerate_from (n + 1) (map (prop_of raw s) props)) (false_from_ne_true (s == i) (λ same. other ((Decides-eqb s i).0 same)))
       ∙ owned_elsewhere (n + 1) s i props other
 
   -- the properties of one type, and then those of the later ones
@@ -71,15 +72,15 @@ module _ (raw : RawModel) where
       (let more : sum_by (λ t. length t.props) (type ∷ take k types) ≡ length type.props + sum_by (λ t. length t.props) (take k types) = sum_by-cons (λ (t : RawType). length t.props) type (take k types) in omega (arith, more, before)) j)
 
   -- a property of the first of these types, and one of the others
-  first_place : (s m i : ℕ) (type : RawType) (types : List RawType) (prop : RawProp) → At (map (prop_of raw s) type.props) m (prop_of raw i prop) → At (props_from s (type ∷ types)) m (prop_of raw i prop)
-  first_place s m i type types prop here =
+  in_first : (s m i : ℕ) (type : RawType) (types : List RawType) (prop : RawProp) → At (map (prop_of raw s) type.props) m (prop_of raw i prop) → At (props_from s (type ∷ types)) m (prop_of raw i prop)
+  in_first s m i type types prop here =
       let P : List Prop → Type 0 = λ props. At props m (prop_of raw i prop) in
       subst P (sym (flat_map-cons (λ (place : ℕ × RawType). map (prop_of raw place.0) place.1.props) (s, type) (enumerate_from (s + 1) types)))
       (at_left (map (prop_of raw s) type.props) (props_from (s + 1) types) m (prop_of raw i prop) here)
 
-  later_place : (s n m i : ℕ) (type : RawType) (types : List RawType) (prop : RawProp) → length type.props + n ≡ m → At (props_from (s + 1) types) n (prop_of raw i prop)
+  in_later : (s n m i : ℕ) (type : RawType) (types : List RawType) (prop : RawProp) → length type.props + n ≡ m → At (props_from (s + 1) types) n (prop_of raw i prop)
       → At (props_from s (type ∷ types)) m (prop_of raw i prop)
-  later_place s n m i type types prop same here =
+  in_later s n m i type types prop same here =
       let P : List Prop → Type 0 = λ props. At props m (prop_of raw i prop) in
       let len : length (map (prop_of raw s) type.props) ≡ length type.props = length-map type.props (prop_of raw s) in
       subst P (sym (flat_map-cons (λ (place : ℕ × RawType). map (prop_of raw place.0) place.1.props) (s, type) (enumerate_from (s + 1) types)))
@@ -92,9 +93,9 @@ module _ (raw : RawModel) where
   declared_place s zero i a j m (type ∷ types) prop place before at here =
       let owner : s ≡ i = omega arith in
       let number : m ≡ j = omega arith in
-      first_place s m i type types prop (ap (slice_get (map (prop_of raw s) type.props)) number ∙ at_map (prop_of raw s) type.props j prop here ∙ ap (λ o. Some (prop_of raw o prop)) owner)
+      in_first s m i type types prop (ap (slice_get (map (prop_of raw s) type.props)) number ∙ at_map (prop_of raw s) type.props j prop here ∙ ap (λ o. Some (prop_of raw o prop)) owner)
   declared_place s (suc k) i a j m (type ∷ types) prop place before at here =
       let rest : ℕ = sum_by (λ type. length type.props) (take k types) in
       let more : sum_by (λ t. length t.props) (type ∷ take k types) ≡ length type.props + rest = sum_by-cons (λ (t : RawType). length t.props) type (take k types) in
-      later_place s (rest + j) m i type types prop (omega (arith, more, before, at))
+      in_later s (rest + j) m i type types prop (omega (arith, more, before, at))
       (declared_place (s + 1) k i rest j (rest + j) types prop (omega arith) refl refl here)

@@ -24,6 +24,7 @@ in_range a n x has =
     let inside : has.0 < n = subst (λ count. has.0 < count) (length-range_with_len a n) has.1 in
     (has.0, inside, sym (get_or-range_with_len a n has.0 x inside) ∙ has.2)
 
+-- less by equal numbers
 less_same : (a b m n : ℕ) → a ≡ b → m ≡ n → a < m → b < n
 less_same a b m n one two less = omega arith
 
@@ -42,6 +43,7 @@ module _ (raw : RawModel) (model : EntityModel) (meant : IsMeant raw model) wher
   key_inside : (i : ℕ) (prop : PropId) → Contains (own_key raw i) prop → IsPropId model prop
   key_inside i prop has = let name = key_named raw i prop has in own_inside i prop (named_own raw i name.0 prop name.1)
 
+  -- what holds of each type that the document means
   of_each : (P : EntityType → Type 0) → ((i : ℕ) (from : RawType) → At raw.types i from → P (type_of raw i from)) → All P model.types
   of_each P holds = all_from_places P model.types (λ i type here. let from = raw_at raw model meant i type here in subst P (sym from.2) (holds i from.0 from.1))
 
@@ -49,6 +51,7 @@ module _ (raw : RawModel) (model : EntityModel) (meant : IsMeant raw model) wher
   types_inside : (i : ℕ) → i < length raw.types → i < length model.types
   types_inside i inside = let from = item_at raw.types i inside in slice_get_within model.types i (type_of raw i from.0) (type_at raw model meant i from.0 from.1)
 
+  -- base types
   pub bases_inside : All (λ type. MatchOption type.base ⊤ (IsTypeId model)) model.types
   bases_inside = of_each (λ type. MatchOption type.base ⊤ (IsTypeId model)) (λ i from here. by i (base_in raw i) refl)
     where
@@ -56,13 +59,16 @@ module _ (raw : RawModel) (model : EntityModel) (meant : IsMeant raw model) wher
       by i None is = tt
       by i (Some j) is = types_inside j (base_inside raw i j is)
 
+  -- properties of keys
   pub keys_inside : All (λ type. All (IsPropId model) type.key) model.types
   keys_inside = of_each (λ type. All (IsPropId model) type.key) (λ i from here. all_from_members (IsPropId model) (flat_map (own_key raw) (chain_in raw i)) (λ prop has.
       let of_one = in_flat_map (own_key raw) (chain_in raw i) prop has in key_inside of_one.0 prop of_one.2))
 
+  -- properties of types
   pub props_inside : All (λ type. All (IsPropId model) type.props) model.types
   props_inside = of_each (λ type. All (IsPropId model) type.props) (λ i from here. all_from_members (IsPropId model) (flat_map (own_props raw) (chain_in raw i)) (λ prop has.
       let of_one = in_flat_map (own_props raw) (chain_in raw i) prop has in own_inside of_one.0 prop of_one.2))
 
+  -- the types that declare properties
   pub owners_inside : All (λ prop. IsTypeId model prop.owner) model.props
   owners_inside = of_each_prop raw model meant (λ prop. IsTypeId model prop.owner) (λ i type declared here has. types_inside i (slice_get_within raw.types i type here))

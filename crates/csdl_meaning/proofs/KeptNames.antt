@@ -32,14 +32,17 @@ repeated_in name_in others member last items i item here given =
 module _ (raw : RawModel) where
   -- V6
   module _ (never : (fault : Fault) → ¬ IsRepeated raw fault) where
+    -- no type has the name of one before it
     pub types_once : (i : ℕ) (type : RawType) → At raw.types i type → ¬ IsGivenBefore (λ type. type.name) raw.types i type
     types_once i type here given = never (fault_at NamedOnce (Member (codes "EntityType") ∷ Item i ∷ Member (codes "Name") ∷ []))
         (inl (inr (inl (repeated_in (λ type. type.name) (map (λ association. association.name) raw.associations) (codes "EntityType") (codes "Name") raw.types i type here (inr given)))))
 
+    -- seen from a type, nothing is repeated
     none_repeated : (i : ℕ) (type : RawType) → At raw.types i type → (fault : Fault) → ¬ IsRepeatedInType i type fault
     none_repeated i type here fault broken = never (fault_at fault.rule (Member (codes "EntityType") ∷ Item i ∷ fault.place))
         (inr (inr (inl (in_list IsRepeatedInType (codes "EntityType") raw.types i type fault.rule fault.place here broken))))
 
+    -- a type's members have different names
     pub members_once : (i : ℕ) (type : RawType) → At raw.types i type → AreApart (member_names type)
     members_once i type here = members_apart type
         (λ k nav at given. none_repeated i type here (fault_at NamedOnce (Member (codes "NavigationProperty") ∷ Item k ∷ Member (codes "Name") ∷ []))
@@ -53,6 +56,7 @@ module _ (raw : RawModel) where
 
   -- V7
   module _ (never : (fault : Fault) → ¬ IsUnresolved raw fault) where
+    -- seen from a type, everything resolves
     none_unresolved : (i : ℕ) (type : RawType) → At raw.types i type → (fault : Fault) → ¬ IsUnresolvedInType (names_in raw) raw i type fault
     none_unresolved i type here fault broken = never (fault_at fault.rule (Member (codes "EntityType") ∷ Item i ∷ fault.place))
         (inr (inl (in_list (IsUnresolvedInType (names_in raw) raw) (codes "EntityType") raw.types i type fault.rule fault.place here broken)))

@@ -37,10 +37,12 @@ use Rattle.csdl_meaning.proofs.Names.{member_names}
 use Rattle.csdl_meaning.proofs.SoundKinds.{key_kind, sound_enum}
 
 module _ (raw : RawModel) (never : (fault : Fault) → ¬ BreaksTypeRules raw fault) where
+  -- seen from a type, nothing is wrong
   none_of_type : (i : ℕ) (type : RawType) → At raw.types i type → (fault : Fault) → ¬ IsTypeFault (names_in raw) raw i type fault
   none_of_type i type here fault broken = never (fault_at fault.rule (Member (codes "EntityType") ∷ Item i ∷ fault.place))
       (inl (in_list (IsTypeFault (names_in raw) raw) (codes "EntityType") raw.types i type fault.rule fault.place here broken))
 
+  -- nor from an enumeration
   none_of_enum : (i : ℕ) (enum : RawEnum) → At raw.enums i enum → (fault : Fault) → ¬ IsEnumFault enum fault
   none_of_enum i enum here fault broken = never (fault_at fault.rule (Member (codes "EnumType") ∷ Item i ∷ fault.place))
       (inr (in_list (λ i. IsEnumFault) (codes "EnumType") raw.enums i enum fault.rule fault.place here broken))
@@ -56,6 +58,7 @@ module _ (raw : RawModel) (never : (fault : Fault) → ¬ BreaksTypeRules raw fa
     fits : ¬ BreaksKey type.base type.key
     fits broken = none_of_type i type here (fault_at TypeKey (Member (codes "Key") ∷ [])) (inr (inl (broken, (refl, refl))))
 
+    -- V9: a type that names no base type has a key
     pub root_has_key : type.base ≡ None → (names : List (List ℕ)) × (type.key ≡ Some names) × IsKey names
     root_has_key none = by type.key refl (let P : Option (List ℕ) → Type 0 = λ base. ¬ BreaksKey base type.key in subst P none fits)
       where
@@ -70,6 +73,7 @@ module _ (raw : RawModel) (never : (fault : Fault) → ¬ BreaksTypeRules raw fa
         by None is good = absurd (good (let P : Option (List (List ℕ)) → Type 0 = λ key. BreaksKey None key in subst P (sym is) tt))
         by (Some names) is good = (names, is, some_names names (let P : Option (List (List ℕ)) → Type 0 = λ key. ¬ BreaksKey None key in subst P is good))
 
+    -- V9: a type that names one has none
     pub derived_has_none : (base : List ℕ) → type.base ≡ Some base → type.key ≡ None
     derived_has_none base is = by type.key refl
       where

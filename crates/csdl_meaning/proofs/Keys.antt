@@ -44,6 +44,7 @@ pub record IsNamed (raw : RawModel) (i : ℕ) (name : List ℕ) (prop : PropId) 
   pub is_id : prop_numbered (declared_before raw i + place) ≡ prop
 
 module _ (raw : RawModel) where
+  -- what a name of a key finds
   pub named : (i : ℕ) (name : List ℕ) (prop : PropId) → prop_named raw i name ≡ Some prop → IsNamed raw i name prop
   named i name prop is =
       let found = map_some (λ k. prop_numbered (declared_before raw i + k)) (first_place (λ prop. prop.name) (declared_by raw i) name) prop is in

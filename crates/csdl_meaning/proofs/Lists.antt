@@ -1,5 +1,5 @@
 -- Lists put behind one another, filtered, numbered and mapped, and what stands in them.
-use Rattle.std.proofs.Common.{◌≡◌, ◌≢◌, ⊎_elim, ℕ, zero, suc, ◌+◌, List, [], ◌∷◌, ◌++◌, length, map, get_or, All, AllPairs, Contains, Option, Some, None, option_map, refl, sym, ap, subst, ◌∙◌, arith}
+use Rattle.std.proofs.Common.{Bool, true, false, cond, filter, ◌≡◌, ◌≢◌, ⊎_elim, ℕ, zero, suc, ◌+◌, List, [], ◌∷◌, ◌++◌, length, map, get_or, All, AllPairs, Contains, Option, Some, None, option_map, refl, sym, ap, subst, ◌∙◌, arith}
 use Rattle.std.specs.List.{cons_option, enumerate_from, filter_map, flat_map}
 use Rattle.std.proofs.lemmas.List.Elements.{All-append, All-head, All-map, All-tail, Contains-append_cases}
 use Rattle.std.proofs.lemmas.List.Kept.{AllPairs-cons}
@@ -34,6 +34,13 @@ module _ {X : Type 0} where
   in_enumerated n (x ∷ xs) entry (suc i, within, is) =
       let later = in_enumerated (n + 1) xs entry (i, omega arith, is) in
       (suc later.0, (let number : (n + 1) + later.0 ≡ entry.0 = later.1 in omega arith), later.2)
+
+  -- a filter keeps what passes, and drops the rest
+  pub filter-keeps : (p : X → Bool) (x : X) (xs : List X) → p x ≡ true → filter p (x ∷ xs) ≡ x ∷ filter p xs
+  filter-keeps p x xs passes = ap (λ kept. cond kept (x ∷ filter p xs) (filter p xs)) passes
+
+  pub filter-drops : (p : X → Bool) (x : X) (xs : List X) → p x ≡ false → filter p (x ∷ xs) ≡ filter p xs
+  filter-drops p x xs fails = ap (λ kept. cond kept (x ∷ filter p xs) (filter p xs)) fails
 
   -- from what holds of each item at its place
   pub all_from_places : (P : X → Type 0) (xs : List X) → ((i : ℕ) (x : X) → At xs i x → P x) → All P xs

@@ -27,6 +27,7 @@ module _ {X : Type 0} where
   EachFrom Q n [] = ⊤
   EachFrom Q n (x ∷ xs) = Q n x × EachFrom Q (n + 1) xs
 
+  -- and so it is of the item at a place
   pub each_at : (Q : ℕ → X → Type 0) (n m i : ℕ) (xs : List X) (x : X) → n + i ≡ m → EachFrom Q n xs → At xs i x → Q m x
   each_at Q n m i [] x same each here = absurd cc
   each_at Q n m zero (y ∷ xs) x same each here =
@@ -53,6 +54,7 @@ module _ {X : Type 0} (name_in : X → List ℕ) where
   differ [] = true
   differ (x ∷ xs) = not (list_any (λ other. bytes_eq (name_in other) (name_in x)) xs) && differ xs
 
+  -- as the test tells
   pub differ_tells : (items : List X) → differ items ≡ true → AllPairs (λ one other. name_in one ≢ name_in other) items
   differ_tells = apart_by_test (λ one other. name_in one ≢ name_in other) (λ one other. bytes_eq (name_in one) (name_in other)) differ (λ x xs. refl)
       (λ one other clash same. both_ways (bytes_eq (name_in other) (name_in one)) clash ((bytes_eq-Decides (name_in other) (name_in one)).1 (sym same)))

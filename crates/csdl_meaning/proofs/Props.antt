@@ -49,6 +49,7 @@ module _ (raw : RawModel) where
   prop_at i k prop here = declared_place raw 0 i i (declared_before raw i) k (declared_before raw i + k) raw.types prop (zero-add i) refl refl here
 
   module _ (model : EntityModel) (meant : IsMeant raw model) where
+    -- the properties that a type declares, in the model
     pub declared_in : (t : TypeId) → declared_props model t ≡ own_props raw t.index
     declared_in t = ap (λ (props : List Prop). map prop_numbered (places_of (λ prop. prop.owner.index == t.index) props)) meant.props ∙ own_places t.index
 

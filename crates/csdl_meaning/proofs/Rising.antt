@@ -21,6 +21,7 @@ with_number_all P number (first ∷ rest) here all = by (int_cmp number first) (
     by Equal later = all
     by Greater later = All-cons P first (with_number number rest) (All-head P first rest all) later
 
+-- what holds of all numbers holds of them in rising order
 pub rising_all : (P : ℤ → Type 0) (numbers : List ℤ) → All P numbers → All P (rising numbers)
 rising_all P [] all = all
 rising_all P (number ∷ numbers) all = with_number_all P number (rising numbers) (All-head P number numbers all) (rising_all P numbers (All-tail P number numbers all))
@@ -42,6 +43,7 @@ with_number_rises number (first ∷ rest) up =
         (with_number_all (λ next. first <ℤ next) number rest greater (pairs_head (λ one next. one <ℤ next) first rest up))
         later
 
+-- numbers in rising order rise
 pub rising_rises : (numbers : List ℤ) → AllPairs (λ one next. one <ℤ next) (rising numbers)
 rising_rises [] = λ i j d below within. absurd (omega arith)
 rising_rises (number ∷ numbers) = with_number_rises number (rising numbers) (rising_rises numbers)

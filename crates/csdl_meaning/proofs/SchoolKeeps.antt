@@ -36,6 +36,7 @@ use Rattle.csdl_meaning.specs.School.{giving, lessons, levels, parts, persons, s
 use Rattle.csdl_meaning.specs.SoundTypes.{KeepsTypeRules}
 use Rattle.csdl_meaning.proofs.NoFaults.{differ, differ_tells, is_new, none_above_root, none_again, none_in, none_under, not_among, root_above}
 
+-- what names stand for
 abbrev names : Names
 names = names_in school
 
@@ -84,10 +85,12 @@ declares type name test =
     let found = Any-from_list_any (λ (prop : RawProp). bytes_eq prop.name name) type.props test in
     (found.0, found.1, found.2, found.3, (bytes_eq-Decides found.1.name name).0 found.4)
 
+-- a type doesn't lack what it declares
 not_lacked : (name : List ℕ) (i : ℕ) (type : RawType) → At school.types i type → Declares type name → ¬ LacksProp names school name i
 not_lacked name i type here has (root _ other there _ lacks) = lacks (subst (λ type. Declares type name) (at_once school.types i type other here there) has)
 not_lacked name i type here has (derived _ _ other there _ lacks _) = lacks (subst (λ type. Declares type name) (at_once school.types i type other here there) has)
 
+-- the association has this role
 not_role : (role : List ℕ) → is_some (end_of_role giving role) ≡ true → ¬ ((association : RawAssociation) × At school.associations 0 association × (end_of_role association role ≡ None))
 not_role role has lacks = not_none (end_of_role giving role) has
     (subst (λ association. end_of_role association role ≡ None) (sym (at_once school.associations 0 giving lacks.0 refl lacks.1)) lacks.2)
@@ -244,5 +247,6 @@ keeps_types fault = ⊎_elim
     (none_in (IsTypeFault names school) (codes "EntityType") school.types (teachers_keep, (persons_keep, (lessons_keep, tt))) fault)
     (none_in (λ i. IsEnumFault) (codes "EnumType") school.enums (levels_keep, (parts_keep, tt)) fault)
 
+-- the school breaks no rule
 pub school_keeps : KeepsTypeRules school
 school_keeps = record { repeats_none = repeats_none; resolves_all = resolves_all; keeps_types = keeps_types }

@@ -35,10 +35,12 @@ module _ (raw : RawModel) (model : EntityModel) (keeps : KeepsTypeRules raw) (me
       let none = derived_has_none raw keeps.keeps_types i type here reference.0 reference.1 in
       own_key_is raw i type here ∙ ap (λ (key : Option (List (List ℕ))). filter_map (prop_named raw i) (unwrap_or key [])) none
 
+  -- all kinds are sound
   all_kinds : All (λ prop. IsSoundKind prop.kind) model.props
   all_kinds = of_each_prop raw model meant (λ prop. IsSoundKind prop.kind)
       (λ i type declared here has. sound_kind raw declared (fits_enum raw keeps.keeps_types) (fits_bound raw keeps.keeps_types i type here declared has))
 
+  -- and so are the types
   pub sound : HasSoundTypes model
   sound = record {
     bases = no_circle raw model meant (none_above_itself raw keeps.keeps_types);

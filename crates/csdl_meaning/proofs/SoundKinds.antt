@@ -52,6 +52,7 @@ sound_number (pos most) fine = (
   ⊎_elim (λ (large : largest_bound < most). absurd (fine (λ within. let top : pos most ≤ℤ pos largest_bound = within.1 in absurd (omega (arith, ints))))) (λ (enough : most ≤ largest_bound). enough) (cases_lt largest_bound most),
 )
 
+-- a bound that V13 allows
 sound_bound : (simple : Option Simple) (bound : RawBound) → ¬ BreaksBound simple bound → IsSoundBound (most_of bound)
 sound_bound simple Absent fine = tt
 sound_bound simple Max fine = tt
@@ -74,6 +75,7 @@ between low high number fine = (
   by_lt_z high number (λ (more : high <ℤ number). absurd (fine (λ within. let most : number ≤ℤ high = within.1 in absurd (omega (arith, ints))))) (λ (enough : number ≤ℤ high). enough),
 )
 
+-- the same by the underlying type
 inside : (u : Under) (number : ℤ) → ¬ (¬ InDomain (Whole number) (under_kind u)) → InDomain (Whole number) (under_kind u)
 inside under.Byte number = between (pos 0) (pos 255) number
 inside under.Int16 number = between (negsuc 32767) (pos 32767) number
