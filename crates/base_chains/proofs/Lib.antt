@@ -1,3 +1,4 @@
+pub mod Ascents
 pub mod Chains
 pub mod Climbs
 pub mod Members

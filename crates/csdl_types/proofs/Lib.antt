@@ -1,2 +1,5 @@
+pub mod Cycles
+pub mod Inheriting
 pub mod Names
+pub mod Bases
 pub mod Counting

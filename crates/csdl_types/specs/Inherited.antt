@@ -9,30 +9,33 @@ use Rattle.rule_places.specs.Places.{IsAt, InList}
 use Rattle.base_chains.specs.Chains.{IsAncestor}
 use Rattle.csdl_lists.specs.declared.raw.RawType.{RawType}
 
+-- V8: the type is its own ancestor
+abbrev pub IsAncestorFault : (ℕ → Option ℕ) → ℕ → Fault → Type 0
+IsAncestorFault base i fault = IsAncestor base i i × IsAt Ancestors (Member (codes "BaseType") ∷ []) fault
+
 -- the type has a property or a navigation property of this name
 abbrev pub HasName : RawType → List ℕ → Type 0
 HasName type name = Any (λ prop. prop.name ≡ name) type.props ⊎ Any (λ nav. nav.name ≡ name) type.navs
 
-module _ (base : ℕ → Option ℕ) where
-  -- V8: the type is its own ancestor
-  abbrev pub IsAncestorFault : ℕ → Fault → Type 0
-  IsAncestorFault i fault = IsAncestor base i i × IsAt Ancestors (Member (codes "BaseType") ∷ []) fault
+module _ (IsAbove : ℕ → Type 0) (types : List RawType) where
+  -- a type that stands above has the name
+  pub record IsInherited (name : List ℕ) : Type 0 where
+    pub ancestor : ℕ
+    pub above : IsAbove ancestor
+    pub type : RawType
+    pub is_type : At types ancestor type
+    pub has : HasName type name
 
-  module _ (types : List RawType) where
-    -- a type above this one has the name
-    pub record IsInherited (i : ℕ) (name : List ℕ) : Type 0 where
-      pub ancestor : ℕ
-      pub above : IsAncestor base i ancestor
-      pub type : RawType
-      pub is_type : At types ancestor type
-      pub has : HasName type name
+  -- a property, or a navigation property, has the name of an inherited one
+  abbrev pub IsInheritedFault : List ℕ → Fault → Type 0
+  IsInheritedFault name fault = IsInherited name × IsAt InheritedName (Member (codes "Name") ∷ []) fault
 
-    -- a property, or a navigation property, has the name of an inherited one
-    abbrev pub IsInheritedFault : ℕ → List ℕ → Fault → Type 0
-    IsInheritedFault i name fault = IsInherited i name × IsAt InheritedName (Member (codes "Name") ∷ []) fault
+  -- the same, seen from the type
+  abbrev pub IsInNamesFault : RawType → Fault → Type 0
+  IsInNamesFault type fault =
+      InList (codes "Property") (λ k prop. IsInheritedFault prop.name) type.props fault
+      ⊎ InList (codes "NavigationProperty") (λ k nav. IsInheritedFault nav.name) type.navs fault
 
-    -- V11, seen from the type
-    abbrev pub IsInheritedNameFault : ℕ → RawType → Fault → Type 0
-    IsInheritedNameFault i type fault =
-        InList (codes "Property") (λ k prop. IsInheritedFault i prop.name) type.props fault
-        ⊎ InList (codes "NavigationProperty") (λ k nav. IsInheritedFault i nav.name) type.navs fault
+-- V11, seen from the type: above stand its ancestors
+abbrev pub IsInheritedNameFault : (ℕ → Option ℕ) → List RawType → ℕ → RawType → Fault → Type 0
+IsInheritedNameFault base types i = IsInNamesFault (IsAncestor base i) types

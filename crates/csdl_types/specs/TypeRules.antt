@@ -18,12 +18,14 @@ IsLaterFault names model i type fault =
     ⊎ IsPropTypeFault names.enum_named type fault
     ⊎ IsBoundFault type fault
 
--- a type breaks one of the rules
-abbrev pub IsTypeFault : Names → RawModel → ℕ → RawType → Fault → Type 0
-IsTypeFault names model i type fault = IsAncestorFault (base_of names model) i fault ⊎ IsLaterFault names model i type fault
+-- V9 to V13
+abbrev pub BreaksLaterRules : RawModel → Fault → Type 0
+BreaksLaterRules model fault =
+    InList (codes "EntityType") (IsLaterFault (names_in model) model) model.types fault
+    ⊎ InList (codes "EnumType") (λ i. IsEnumFault) model.enums fault
 
 -- V8 to V13
 abbrev pub BreaksTypeRules : RawModel → Fault → Type 0
 BreaksTypeRules model fault =
-    InList (codes "EntityType") (IsTypeFault (names_in model) model) model.types fault
-    ⊎ InList (codes "EnumType") (λ i. IsEnumFault) model.enums fault
+    InList (codes "EntityType") (λ i type. IsAncestorFault (base_of (names_in model) model) i) model.types fault
+    ⊎ BreaksLaterRules model fault

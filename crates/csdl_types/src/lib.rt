@@ -1,12 +1,18 @@
 //! The rules of CSDL on types, on their properties and on enumeration types: which one is broken where.
 #![tactic(auto)]
 
+mod ancestors;
 mod bounds;
 mod enums;
+mod inherited;
 mod keys;
 mod numbers;
 mod prop_types;
 mod simple;
+mod sizes;
+mod type_rules;
 
+pub use ancestors::bases_of;
 pub use numbers::under_of;
 pub use simple::{Simple, simple_of};
+pub use type_rules::first_type_fault;

@@ -48,8 +48,46 @@ pub least_of_lower : (P Q : Fault → Type 0) (found : Fault) → IsLeast fault_
 least_of_lower P Q found least greater = (inl least.0, λ fault. ⊎_elim (least.1 fault) (λ holds. lower_first (rule_number found.rule) (rule_number fault.rule) _ (greater fault holds)))
 
 -- a number that isn't greater by the order of numbers
-not_greater : (one other : ℕ) → nat_cmp one other ≢ Greater → one ≤ other
+pub not_greater : (one other : ℕ) → nat_cmp one other ≢ Greater → one ≤ other
 not_greater one other not = ⊎_elim (λ (less : other < one). absurd (not (sym (nat_cmp_is one other Greater less)))) (λ (fine : one ≤ other). fine) (cases_lt other one)
+
+-- and back
+pub upto_not_greater : (one other : ℕ) → one ≤ other → nat_cmp one other ≢ Greater
+upto_not_greater one other upto = ⊎_elim
+    (λ (less : one < other). subst (λ (order : Ordering). order ≢ Greater) (nat_cmp_is one other Less less) (λ is. absurd cc))
+    (λ (late : other ≤ one). subst (λ (order : Ordering). order ≢ Greater) (nat_cmp_is one other Equal (let is : one ≡ other = omega arith in is)) (λ is. absurd cc))
+    (cases_lt one other)
+
+-- the least of two properties of places, of which one holds only of places at or behind those of the other
+pub least_by_first : (P Q : ℕ → Type 0) (found : Option ℕ) → ((k : ℕ) → P k → Q k) → ((k : ℕ) → Q k → (j : ℕ) × P j × (j ≤ k)) → IsLeast nat_cmp P found
+    → IsLeast nat_cmp Q found
+least_by_first P Q None to back none = λ k holds. let first = back k holds in none first.0 first.1
+least_by_first P Q (Some one) to back is = (
+  to one is.0,
+  λ k holds.
+      let first = back k holds in
+      let before : one ≤ first.0 = not_greater one first.0 (is.1 first.0 first.1) in
+      let behind : first.0 ≤ k = first.2 in
+      upto_not_greater one k (omega arith),
+)
+
+-- what holds of items may be weakened
+pub in_list_map : {X : Type 0} (member : List ℕ) (P Q : ℕ → X → Fault → Type 0) (items : List X) → ((i : ℕ) (item : X) (fault : Fault) → P i item fault → Q i item fault)
+    → (fault : Fault) → InList member P items fault → InList member Q items fault
+in_list_map member P Q items to fault some = record {
+  rest = some.rest;
+  reached = some.reached;
+  holds = record {
+    i = some.holds.i;
+    item = some.holds.item;
+    here = some.holds.here;
+    holds = record {
+      rest = some.holds.holds.rest;
+      reached = some.holds.holds.reached;
+      holds = to some.holds.i some.holds.item (record { rule = fault.rule; place = some.holds.holds.rest }) some.holds.holds.holds;
+    };
+  };
+}
 
 module _ {X : Type 0} (rule : Rule) (rest : List Step) (P : ℕ → X → Type 0) (items : List X) where
   -- the fault at the item of this place, seen from the list
