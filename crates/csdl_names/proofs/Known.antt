@@ -3,7 +3,7 @@ use Rattle.std.proofs.Common.{◌≡◌, ◌⊎◌, ⊎_elim, inl, inr, ◌↔�
 use Rattle.std.specs.Option.{is_some}
 use Rattle.std.proofs.lemmas.List.{get_or-map, length-map}
 use Rattle.std.proofs.lemmas.List.Elements.{Contains-append_cases, Contains-append_left, Contains-append_right}
-use Rattle.std.proofs.lemmas.Option.{get_or_from_slice_get}
+use Rattle.std.proofs.lemmas.Option.{get_or_from_slice_get, slice_get-get_or, slice_get_within}
 use Rattle.json_form.specs.declared.pointer.Step.TheVariants.{Member}
 use Rattle.emc_base.proofs.Lists.{item_at}
 use Rattle.emc_base.proofs.Mapped.{contains_at, contains_map}
@@ -52,6 +52,19 @@ module _ {X : Type 0} (name_in : X → List ℕ) (items : List X) (name : List �
       let item = item_at items has.0 within in
       let same : name_in item.0 ≡ name = sym (get_or-map name_in items has.0 item.0 name within ∙ ap name_in (get_or_from_slice_get items has.0 item.0 item.0 item.1)) ∙ has.2 in
       ap is_some (first_upto name_in items name has.0 item.0 item.1 same).1
+
+  -- and so it is said of some item
+  pub some_named : is_some (first_place name_in items name) ≡ true ↔ Any (λ item. name_in item ≡ name) items
+  some_named = (λ known. by (first_place name_in items name) refl known, back)
+    where
+      by : (place : Option ℕ) → first_place name_in items name ≡ place → is_some place ≡ true → Any (λ item. name_in item ≡ name) items
+      by None none is = absurd cc
+      by (Some i) found is =
+          let first = first_has name_in items name i found in
+          (i, first.0, slice_get_within items i first.0 first.1, get_or_from_slice_get items i first.0 first.0 first.1, first.2)
+
+      back : Any (λ item. name_in item ≡ name) items → is_some (first_place name_in items name) ≡ true
+      back (k, item, within, is, same) = ap is_some (first_upto name_in items name k item (slice_get-get_or items k item within ∙ ap Some is) same).1
 
 -- no list knows no name
 pub of_none : AreNames [] []

@@ -1,14 +1,15 @@
 -- The least of what was found: by an answer, in a list, and of two or three searches.
-use Rattle.std.proofs.Common.{◌≡◌, ◌⊎◌, ◌↔◌, ℕ, List, Option, Bool, IsTrue, sym, subst}
+use Rattle.std.proofs.Common.{◌≡◌, ◌≢◌, ◌⊎◌, ⊎_elim, inl, ◌↔◌, ℕ, List, MatchOption, Option, Some, None, Bool, true, false, not, Bor, IsTrue, refl, sym, subst}
+use Rattle.std.specs.Option.{is_some, option_copied}
 use Rattle.json_form.specs.declared.pointer.Step.{Step}
-use Rattle.least_fault.specs.Least.{Among, IsLeast, earlier}
+use Rattle.least_fault.specs.Least.{IsLeast, earlier}
 use Rattle.least_fault.proofs.Leasts.{least_of_both, least_same}
 use Rattle.layouts.specs.declared.fault.Fault.{Fault}
 use Rattle.layouts.specs.declared.rule.Rule.{Rule}
 use Rattle.layouts.specs.FaultOrder.{fault_cmp_total}
 use Rattle.layouts.specs.Faults.{fault_cmp}
-use Rattle.layouts.specs.Inside.{Under}
 use Rattle.rule_places.specs.Places.{IsAt, InItem, InItems, InList}
+use Rattle.csdl_names.specs.Unresolved.{NamesNothing}
 
 -- an answer stands for what it tells
 pub by_answer : (answer : Bool) (P : Type 0) (rule : Rule) (place : List Step) (found : Option Fault) → (IsTrue answer ↔ P)
@@ -44,3 +45,39 @@ pub both : (P Q : Fault → Type 0) (one other found : Option Fault) → found �
     → IsLeast fault_cmp (λ fault. P fault ⊎ Q fault) found
 both P Q one other found is first second = subst (IsLeast fault_cmp (λ fault. P fault ⊎ Q fault)) (sym is)
     (least_of_both fault_cmp fault_cmp_total P Q one other first second)
+
+-- where the second search finds nothing for sure, the first is enough
+pub first_only : (P Q : Fault → Type 0) (found : Option Fault) → ((fault : Fault) → ¬ Q fault) → IsLeast fault_cmp P found → IsLeast fault_cmp (λ fault. P fault ⊎ Q fault) found
+first_only P Q found never = least_same fault_cmp P (λ fault. P fault ⊎ Q fault) found (λ fault holds. inl holds)
+    (λ fault. ⊎_elim (λ (holds : P fault). holds) (λ (no : Q fault). absurd (never fault no)))
+
+module _ {X : Type 0} (place : Option X) (Q : X → Fault → Type 0) where
+  -- of what is there
+  pub at_some : (x : X) (found : Option Fault) → place ≡ Some x → IsLeast fault_cmp (Q x) found → IsLeast fault_cmp (λ fault. MatchOption place ⊥ (λ y. Q y fault)) found
+  at_some x found is = subst (λ (o : Option X). IsLeast fault_cmp (λ fault. MatchOption o ⊥ (λ y. Q y fault)) found) (sym is)
+
+  -- of what isn't there
+  pub at_none : place ≡ None → (fault : Fault) → ¬ MatchOption place ⊥ (λ y. Q y fault)
+  at_none is fault some = subst (λ (o : Option X). MatchOption o ⊥ (λ y. Q y fault)) is some
+
+-- an answer that there is nothing
+pub none_tells : {X : Type 0} (answer : Bool) (o : Option X) → is_some o ≡ not answer → (IsTrue answer ↔ (o ≡ None))
+none_tells true None is = (λ yes. refl, λ none. refl)
+none_tells false None is = absurd cc
+none_tells true (Some x) is = absurd cc
+none_tells false (Some x) is = (λ no. absurd cc, λ no. absurd cc)
+
+-- what is lent is there where what it is lent of is
+pub lent_some : {X : Type 0} (o : Option (Bor X)) → is_some (option_copied o) ≡ is_some o
+lent_some None = refl
+lent_some (Some x) = refl
+
+-- what is no item is none
+pub none_of : {X : Type 0} (o : Option X) → ((x : X) → o ≢ Some x) → o ≡ None
+none_of None not = refl
+none_of (Some x) not = absurd (not x refl)
+
+-- a name that stands for the same, or for nothing
+pub names_nothing : (one other : Option ℕ) (member : List ℕ) (found : Option Fault) → one ≡ other → IsLeast fault_cmp (NamesNothing one member) found
+    → IsLeast fault_cmp (NamesNothing other member) found
+names_nothing one other member found = subst (λ (o : Option ℕ). IsLeast fault_cmp (NamesNothing o member) found)

@@ -1,3 +1,4 @@
 pub mod KnownNames
+pub mod PropPlaces
 pub mod Repeated
 pub mod Unresolved

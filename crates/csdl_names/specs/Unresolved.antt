@@ -2,7 +2,7 @@
 -- only where the association is, of a property only where the type is, and each type above it.
 -- Source: CSDL version 3, the references and names of EntitySet, AssociationSet, EntityType, Key, NavigationProperty, Association and
 -- ReferentialConstraint.
-use Rattle.std.specs.Prelude.{◌≡◌, ◌⊎◌, ℕ, List, [], ◌∷◌, codes, Any, Option, Some, None, MatchOption, find, option_and_then}
+use Rattle.std.specs.Prelude.{◌≡◌, ◌⊎◌, ℕ, List, [], ◌∷◌, codes, Any, Option, Some, None, MatchOption, find, option_and_then, slice_get}
 use Rattle.std.specs.Str.{bytes_eq}
 use Rattle.emc_base.specs.Lists.{At}
 use Rattle.json_form.specs.declared.pointer.Step.TheVariants.{Member}
@@ -43,9 +43,13 @@ module _ (names : Names) (model : RawModel) where
     derived : (i base : ℕ) (type : RawType) → At model.types i type → base_of names model i ≡ Some base → ¬ Declares type name → LacksProp name base
         → LacksProp name i
 
+  -- the association itself that a reference names
+  abbrev pub association_of : List ℕ → Option RawAssociation
+  association_of reference = option_and_then (slice_get model.associations) (names.association_named reference)
+
   -- the reference names an association, and it has no end of this role
   abbrev pub LacksRole : List ℕ → List ℕ → Type 0
-  LacksRole reference role = MatchOption (names.association_named reference) ⊥ (λ place. (association : RawAssociation) × At model.associations place association × (end_of_role association role ≡ None))
+  LacksRole reference role = MatchOption (association_of reference) ⊥ (λ association. end_of_role association role ≡ None)
 
   -- an entity set: its element type
   abbrev pub IsUnresolvedInSet : ℕ → RawSet → Fault → Type 0
@@ -78,10 +82,14 @@ module _ (names : Names) (model : RawModel) where
   abbrev pub IsUnresolvedInKey : ℕ → Option (List (List ℕ)) → Fault → Type 0
   IsUnresolvedInKey type key fault = MatchOption key ⊥ (λ names. InList (codes "Key") (IsUnresolvedProp type) names fault)
 
+  -- the base type of a type, where it has one
+  abbrev pub IsUnresolvedBase : Option (List ℕ) → Fault → Type 0
+  IsUnresolvedBase base fault = MatchOption base ⊥ (λ reference. NamesNothing (names.type_named reference) (codes "BaseType") fault)
+
   -- a type: its base type, its key, and its navigation properties
   abbrev pub IsUnresolvedInType : ℕ → RawType → Fault → Type 0
   IsUnresolvedInType i type fault =
-      MatchOption type.base ⊥ (λ base. NamesNothing (names.type_named base) (codes "BaseType") fault)
+      IsUnresolvedBase type.base fault
       ⊎ IsUnresolvedInKey i type.key fault
       ⊎ InList (codes "NavigationProperty") IsUnresolvedInNav type.navs fault
 

@@ -2,7 +2,12 @@
 #![tactic(auto)]
 
 mod again;
+mod climbs;
 mod findings;
+mod lookups;
 mod repeated;
+mod tables;
+mod unresolved;
 
 pub use repeated::first_repeated;
+pub use unresolved::first_unresolved;

@@ -1,4 +1,4 @@
-use Rattle.std.proofs.Common.{◌↔◌, ⊎_elim, inl, inr, IsTrue, sym, subst}
+use Rattle.std.proofs.Common.{⊎_elim, inr, sym, subst}
 use Rattle.std.proofs.lemmas.Bool.{both_ways}
 use Rattle.name_places.specs.GivenNames.{IsGivenBefore}
 use Rattle.csdl_names.specs.KnownNames.{IsKnown}

@@ -1,0 +1,38 @@
+-- What tables of types say at a place: where a type declares its properties, and what its base type is.
+use Rattle.std.proofs.Common.{◌≡◌, ℕ, List, map, Option, Some, None, slice_get, refl, sym, ap, ◌∙◌}
+use Rattle.std.specs.Option.{option_and_then, option_map}
+use Rattle.std.proofs.lemmas.Option.{none-some, same_Some, slice_get-map}
+use Rattle.emc_base.specs.Lists.{At}
+use Rattle.name_places.specs.declared.places.Places.{Places}
+use Rattle.name_places.specs.PlacesIn.{place_in}
+use Rattle.base_chains.specs.Chains.{base_at}
+use Rattle.csdl_lists.specs.declared.raw.RawModel.{RawModel}
+use Rattle.csdl_lists.specs.declared.raw.RawType.{RawType}
+use Rattle.csdl_lists.specs.References.{Names, base_of}
+use Rattle.csdl_names.specs.PropPlaces.{place_of_prop}
+
+module _ (props : List Places) (types : List RawType) (same : map place_in props ≡ map place_of_prop types) (i : ℕ) (type : RawType) (here : At types i type) where
+  declared_at : option_map place_in (slice_get props i) ≡ Some (place_of_prop type)
+  declared_at = sym (slice_get-map place_in props i) ∙ ap (λ (places : List (List ℕ → Option ℕ)). slice_get places i) same ∙ slice_get-map place_of_prop types i ∙ ap (option_map place_of_prop) here
+
+  -- the places at a type's place are those of its properties
+  pub places_at : (places : Places) → At props i places → place_in places ≡ place_of_prop type
+  places_at places at = same_Some (place_in places) (place_of_prop type) (sym (ap (option_map place_in) at) ∙ declared_at)
+
+  -- and there are some
+  pub some_places : ¬ (slice_get props i ≡ None)
+  some_places none = none-some (place_of_prop type) (sym (ap (option_map place_in) none) ∙ declared_at)
+
+-- bases that were made type by type
+pub bases_made : (known names : Names) (model : RawModel) (bases : List (Option ℕ)) → known ≡ names
+    → bases ≡ map (λ (type : RawType). option_and_then known.type_named type.base) model.types → base_at bases ≡ base_of names model
+bases_made known names model bases same made = λ k i.
+    (ap (λ (places : List (Option ℕ)). base_at places i) made
+    ∙ ap (option_and_then (λ (base : Option ℕ). base)) (slice_get-map (λ (type : RawType). option_and_then known.type_named type.base) model.types i)
+    ∙ by (slice_get model.types i)
+    ∙ (λ j. base_of (same j) model i)) k
+  where
+    by : (found : Option RawType) → option_and_then (λ (base : Option ℕ). base) (option_map (λ (type : RawType). option_and_then known.type_named type.base) found)
+        ≡ option_and_then (λ (type : RawType). option_and_then known.type_named type.base) found
+    by None = refl
+    by (Some type) = refl

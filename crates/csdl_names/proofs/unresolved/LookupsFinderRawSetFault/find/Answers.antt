@@ -1,0 +1,7 @@
+use Rattle.std.proofs.Common.{codes}
+use Rattle.csdl_lists.specs.References.{names_in}
+use Rattle.csdl_names.proofs.LeastFound.{names_nothing}
+use Rattle.csdl_names.proofs.unresolved.LookupsFinderRawSetFault.find.Goals as goal
+
+pub returns : goal.returns
+returns c = names_nothing c.type_named-ty.result ((names_in c.args.self.now.model.now).type_named c.args.item.now.element) (codes "EntityType") c.in_ok-found.found c.type_named-ty.ensures c.in_ok-found.ensures

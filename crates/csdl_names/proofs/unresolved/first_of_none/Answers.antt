@@ -1,0 +1,9 @@
+use Rattle.std.proofs.Common.{◌≡◌, ◌∷◌, [], None}
+use Rattle.json_form.specs.declared.pointer.Step.TheVariants.{Member}
+use Rattle.layouts.specs.declared.rule.Rule.TheVariants.{Resolves}
+use Rattle.csdl_names.proofs.LeastFound.{by_answer, none_tells}
+use Rattle.csdl_names.proofs.unresolved.first_of_none.Goals as goal
+
+pub returns : goal.returns
+returns c = by_answer c.is_none.result (c.args.named ≡ None) Resolves (Member c.args.member.now ∷ []) c.in_ok-found.found
+    (none_tells c.is_none.result c.args.named c.is_none.ensures) c.in_ok-found.ensures
