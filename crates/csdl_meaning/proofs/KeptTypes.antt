@@ -21,12 +21,12 @@ use Rattle.csdl_lists.specs.declared.raw.RawType.{RawType}
 use Rattle.csdl_lists.specs.References.{names_in}
 use Rattle.csdl_types.specs.declared.simple.Simple.{Simple}
 use Rattle.csdl_types.specs.declared.simple.Simple.TheVariants.{Byte, Int16, Int32, Int64, Boolean, Text, Binary}
-use Rattle.csdl_types.specs.Inherited.{HasName, IsInherited, IsInheritedFault}
+use Rattle.csdl_types.specs.Inherited.{HasName, IsAncestorFault, IsInherited, IsInheritedFault}
 use Rattle.csdl_types.specs.Keys.{BreaksKey, CanBeKey, IsKey, IsKeySimple, IsNoKeyPropFault}
 use Rattle.csdl_types.specs.Numbers.{numbers_of, under_of}
 use Rattle.csdl_types.specs.PropTypes.{BreaksBound, IsEnumFault, IsNumberFault, IsOutside, IsPropBoundFault}
 use Rattle.csdl_types.specs.Simple.{simple_of}
-use Rattle.csdl_types.specs.TypeRules.{BreaksTypeRules, IsTypeFault}
+use Rattle.csdl_types.specs.TypeRules.{BreaksTypeRules, IsLaterFault}
 use Rattle.csdl_meaning.specs.Kinds.{enum_kind, kind_of}
 use Rattle.csdl_meaning.specs.Meaning.{base_in}
 use Rattle.csdl_meaning.proofs.Bases.{above_inside}
@@ -37,26 +37,27 @@ use Rattle.csdl_meaning.proofs.Names.{member_names}
 use Rattle.csdl_meaning.proofs.SoundKinds.{key_kind, sound_enum}
 
 module _ (raw : RawModel) (never : (fault : Fault) → ¬ BreaksTypeRules raw fault) where
-  -- seen from a type, nothing is wrong
-  none_of_type : (i : ℕ) (type : RawType) → At raw.types i type → (fault : Fault) → ¬ IsTypeFault (names_in raw) raw i type fault
-  none_of_type i type here fault broken = never (fault_at fault.rule (Member (codes "EntityType") ∷ Item i ∷ fault.place))
-      (inl (in_list (IsTypeFault (names_in raw) raw) (codes "EntityType") raw.types i type fault.rule fault.place here broken))
-
-  -- nor from an enumeration
-  none_of_enum : (i : ℕ) (enum : RawEnum) → At raw.enums i enum → (fault : Fault) → ¬ IsEnumFault enum fault
-  none_of_enum i enum here fault broken = never (fault_at fault.rule (Member (codes "EnumType") ∷ Item i ∷ fault.place))
-      (inr (in_list (λ i. IsEnumFault) (codes "EnumType") raw.enums i enum fault.rule fault.place here broken))
-
   -- V8
   pub none_above_itself : (i : ℕ) → ¬ IsAncestor (base_in raw) i i
   none_above_itself i above =
       let type = item_at raw.types i (above_inside raw i i above) in
-      none_of_type i type.0 type.1 (fault_at Ancestors (Member (codes "BaseType") ∷ [])) (inl (above, (refl, refl)))
+      never (fault_at Ancestors (Member (codes "EntityType") ∷ Item i ∷ Member (codes "BaseType") ∷ []))
+      (inl (in_list (λ i type. IsAncestorFault (base_in raw) i) (codes "EntityType") raw.types i type.0 Ancestors (Member (codes "BaseType") ∷ []) type.1 (above, (refl, refl))))
+
+  -- seen from a type, no later rule is broken
+  none_of_type : (i : ℕ) (type : RawType) → At raw.types i type → (fault : Fault) → ¬ IsLaterFault (names_in raw) raw i type fault
+  none_of_type i type here fault broken = never (fault_at fault.rule (Member (codes "EntityType") ∷ Item i ∷ fault.place))
+      (inr (inl (in_list (IsLaterFault (names_in raw) raw) (codes "EntityType") raw.types i type fault.rule fault.place here broken)))
+
+  -- nor from an enumeration
+  none_of_enum : (i : ℕ) (enum : RawEnum) → At raw.enums i enum → (fault : Fault) → ¬ IsEnumFault enum fault
+  none_of_enum i enum here fault broken = never (fault_at fault.rule (Member (codes "EnumType") ∷ Item i ∷ fault.place))
+      (inr (inr (in_list (λ i. IsEnumFault) (codes "EnumType") raw.enums i enum fault.rule fault.place here broken)))
 
   module _ (i : ℕ) (type : RawType) (here : At raw.types i type) where
     -- V9
     fits : ¬ BreaksKey type.base type.key
-    fits broken = none_of_type i type here (fault_at TypeKey (Member (codes "Key") ∷ [])) (inr (inl (broken, (refl, refl))))
+    fits broken = none_of_type i type here (fault_at TypeKey (Member (codes "Key") ∷ [])) (inl (broken, (refl, refl)))
 
     -- V9: a type that names no base type has a key
     pub root_has_key : type.base ≡ None → (names : List (List ℕ)) × (type.key ≡ Some names) × IsKey names
@@ -92,9 +93,9 @@ module _ (raw : RawModel) (never : (fault : Fault) → ¬ BreaksTypeRules raw fa
             by : (key : Option (List (List ℕ))) → type.key ≡ key → ⊥
             by None none = contains_nil prop.name (let P : Option (List (List ℕ)) → Type 0 = λ key. Contains (unwrap_or key []) prop.name in subst P none named)
             by (Some names) is = none_of_type i type here (fault_at KeyProperty (Member (codes "Property") ∷ Item has.0 ∷ []))
-                (inr (inr (inl (let P : Option (List (List ℕ)) → Type 0 = λ key. MatchOption key ⊥ (λ names. InList (codes "Property") (λ k. IsNoKeyPropFault names) type.props (fault_at KeyProperty (Member (codes "Property") ∷ Item has.0 ∷ []))) in
+                (inr (inl (let P : Option (List (List ℕ)) → Type 0 = λ key. MatchOption key ⊥ (λ names. InList (codes "Property") (λ k. IsNoKeyPropFault names) type.props (fault_at KeyProperty (Member (codes "Property") ∷ Item has.0 ∷ []))) in
                 subst P (sym is) (in_list (λ k. IsNoKeyPropFault names) (codes "Property") type.props has.0 prop KeyProperty [] (place_of_member type.props prop has)
-                (let Q : Option (List (List ℕ)) → Type 0 = λ key. Contains (unwrap_or key []) prop.name in (subst Q is named, bad), (refl, refl)))))))
+                (let Q : Option (List (List ℕ)) → Type 0 = λ key. Contains (unwrap_or key []) prop.name in (subst Q is named, bad), (refl, refl))))))
 
         not_null : (nullable : Bool) → prop.nullable ≡ nullable → prop.nullable ≡ false
         not_null false is = is
@@ -121,13 +122,13 @@ module _ (raw : RawModel) (never : (fault : Fault) → ¬ BreaksTypeRules raw fa
         (λ (in_props : Contains (map (λ prop. prop.name) type.props) name).
         let prop = in_map (λ prop. prop.name) type.props name in_props in
         none_of_type i type here (fault_at InheritedName (Member (codes "Property") ∷ Item prop.1.0 ∷ Member (codes "Name") ∷ []))
-        (inr (inr (inr (inl (inl (in_list (λ k prop. IsInheritedFault (base_in raw) raw.types i prop.name) (codes "Property") type.props prop.1.0 prop.0 InheritedName (Member (codes "Name") ∷ [])
-        (place_of_member type.props prop.0 prop.1) (of_name prop.0.name prop.2, (refl, refl)))))))))
+        (inr (inr (inl (inl (in_list (λ k prop. IsInheritedFault (IsAncestor (base_in raw) i) raw.types prop.name) (codes "Property") type.props prop.1.0 prop.0 InheritedName (Member (codes "Name") ∷ [])
+        (place_of_member type.props prop.0 prop.1) (of_name prop.0.name prop.2, (refl, refl))))))))
         (λ (in_navs : Contains (map (λ nav. nav.name) type.navs) name).
         let nav = in_map (λ nav. nav.name) type.navs name in_navs in
         none_of_type i type here (fault_at InheritedName (Member (codes "NavigationProperty") ∷ Item nav.1.0 ∷ Member (codes "Name") ∷ []))
-        (inr (inr (inr (inl (inr (in_list (λ k nav. IsInheritedFault (base_in raw) raw.types i nav.name) (codes "NavigationProperty") type.navs nav.1.0 nav.0 InheritedName (Member (codes "Name") ∷ [])
-        (place_of_member type.navs nav.0 nav.1) (of_name nav.0.name nav.2, (refl, refl)))))))))
+        (inr (inr (inl (inr (in_list (λ k nav. IsInheritedFault (IsAncestor (base_in raw) i) raw.types nav.name) (codes "NavigationProperty") type.navs nav.1.0 nav.0 InheritedName (Member (codes "Name") ∷ [])
+        (place_of_member type.navs nav.0 nav.1) (of_name nav.0.name nav.2, (refl, refl))))))))
         (Contains-append_cases (map (λ prop. prop.name) type.props) (map (λ nav. nav.name) type.navs) name has)
       where
         -- a member has a name that stands among the names of members
@@ -140,7 +141,7 @@ module _ (raw : RawModel) (never : (fault : Fault) → ¬ BreaksTypeRules raw fa
             (λ (in_navs : Contains (map (λ nav. nav.name) other.navs) name). inr (any_named (λ nav. nav.name) other.navs in_navs))
             (Contains-append_cases (map (λ prop. prop.name) other.props) (map (λ nav. nav.name) other.navs) name has_too)
 
-        of_name : (mine : List ℕ) → mine ≡ name → IsInherited (base_in raw) raw.types i mine
+        of_name : (mine : List ℕ) → mine ≡ name → IsInherited (IsAncestor (base_in raw) i) raw.types mine
         of_name mine same = let P : List ℕ → Type 0 = λ name. HasName other name in
             record { ancestor = j; above = above; type = other; is_type = there; has = subst P (sym same) has_name }
 
@@ -148,8 +149,8 @@ module _ (raw : RawModel) (never : (fault : Fault) → ¬ BreaksTypeRules raw fa
     pub fits_bound : (prop : RawProp) → Contains type.props prop → ¬ BreaksBound (simple_of prop.kind) prop.bound
     fits_bound prop has broken =
         none_of_type i type here (fault_at Bound (Member (codes "Property") ∷ Item has.0 ∷ Member (codes "MaxLength") ∷ []))
-        (inr (inr (inr (inr (inr (in_list (λ k. IsPropBoundFault) (codes "Property") type.props has.0 prop Bound (Member (codes "MaxLength") ∷ [])
-        (place_of_member type.props prop has) (broken, (refl, refl))))))))
+        (inr (inr (inr (inr (in_list (λ k. IsPropBoundFault) (codes "Property") type.props has.0 prop Bound (Member (codes "MaxLength") ∷ [])
+        (place_of_member type.props prop has) (broken, (refl, refl)))))))
 
   -- V12
   pub fits_enum : (i : ℕ) (enum : RawEnum) → At raw.enums i enum → IsSoundKind (enum_kind enum)

@@ -1,10 +1,10 @@
 -- The school keeps the rules V6 to V13.
-use Rattle.std.proofs.Common.{◌≡◌, ◌≢◌, ⊎_elim, ℕ, ◌<◌, ◌≤◌, ◌&&◌, ◌||◌, ℤ, pos, Bool, true, false, length, get_or, List, [], ◌∷◌, ◌++◌, map, Any, Option, Some, None, codes, refl, sym, ap, subst, ◌∙◌, arith}
+use Rattle.std.proofs.Common.{◌+◌, drop, ◌≡◌, ◌≢◌, ⊎_elim, ℕ, ◌<◌, ◌≤◌, ◌&&◌, ◌||◌, ℤ, pos, Bool, true, false, length, get_or, List, [], ◌∷◌, ◌++◌, map, Any, Option, Some, None, codes, refl, ap, subst, ◌∙◌, arith}
 use Rattle.std.specs.Prelude.{◌≤ℤ◌}
 use Rattle.std.specs.List.{list_all, list_any}
 use Rattle.std.specs.Option.{is_some}
 use Rattle.std.specs.Str.{bytes_eq}
-use Rattle.std.proofs.lemmas.Bool.{and_parts, both_ways}
+use Rattle.std.proofs.lemmas.Bool.{and_parts, both_ways, not-true}
 use Rattle.std.proofs.lemmas.Int.{ints}
 use Rattle.std.proofs.lemmas.List.Folds.{Any-from_list_any, list_any_at}
 use Rattle.std.proofs.lemmas.Slice.Eq.{bytes_eq-Decides}
@@ -12,12 +12,12 @@ use Rattle.emc_base.specs.Lists.{At}
 use Rattle.emc_base.proofs.Lists.{at_once, passes_at}
 use Rattle.json_form.specs.declared.pointer.Step.TheVariants.{Member}
 use Rattle.layouts.specs.declared.fault.Fault.{Fault}
-use Rattle.layouts.specs.declared.rule.Rule.TheVariants.{Bound}
-use Rattle.rule_places.specs.Places.{IsAt}
+use Rattle.rule_places.specs.Places.{InList}
 use Rattle.soundness.specs.Kinds.{largest_bound}
 use Rattle.emc_base.specs.declared.value.Under.TheVariants as under
-use Rattle.csdl_lists.specs.declared.raw.RawBound.TheVariants.{Number}
-use Rattle.csdl_lists.specs.declared.raw.RawAssociation.{RawAssociation}
+use Rattle.base_chains.specs.Chains.{IsAncestor}
+use Rattle.csdl_lists.specs.declared.raw.RawBound.{RawBound}
+use Rattle.csdl_lists.specs.declared.raw.RawBound.TheVariants.{Absent, Max, Number}
 use Rattle.csdl_lists.specs.declared.raw.RawProp.{RawProp}
 use Rattle.csdl_lists.specs.declared.raw.RawType.{RawType}
 use Rattle.csdl_lists.specs.References.{Names, names_in}
@@ -26,15 +26,15 @@ use Rattle.csdl_names.specs.Unresolved.{Declares, IsUnresolved, IsUnresolvedInAs
 use Rattle.csdl_types.specs.declared.simple.Simple.{Simple}
 use Rattle.csdl_types.specs.declared.simple.Simple.TheVariants.{Text, Binary}
 use Rattle.csdl_types.specs.Numbers.{numbers_of, under_of}
-use Rattle.csdl_types.specs.Inherited.{HasName, IsInherited, IsInheritedFault, IsInheritedNameFault}
+use Rattle.csdl_types.specs.Inherited.{HasName, IsAncestorFault, IsInherited, IsInheritedFault, IsInheritedNameFault}
 use Rattle.csdl_types.specs.Keys.{CanBeKey, IsKey, IsNoKeyPropFault}
 use Rattle.csdl_types.specs.PropTypes.{BreaksBound, HasLength, IsEnumFault, IsNumberFault, IsPropBoundFault, IsPropTypeFault}
 use Rattle.csdl_types.specs.Simple.{simple_of}
-use Rattle.csdl_types.specs.TypeRules.{BreaksTypeRules, IsTypeFault}
+use Rattle.csdl_types.specs.TypeRules.{BreaksTypeRules, IsLaterFault}
 use Rattle.csdl_meaning.specs.Meaning.{base_in}
 use Rattle.csdl_meaning.specs.School.{giving, lessons, levels, parts, persons, school, teachers}
 use Rattle.csdl_meaning.specs.SoundTypes.{KeepsTypeRules}
-use Rattle.csdl_meaning.proofs.NoFaults.{differ, differ_tells, is_new, none_above_root, none_again, none_in, none_under, not_among, root_above}
+use Rattle.csdl_meaning.proofs.NoFaults.{EachFrom, differ, differ_tells, is_new, none_above_root, none_again, none_in, none_under, not_among, root_above}
 
 -- what names stand for
 abbrev names : Names
@@ -90,17 +90,12 @@ not_lacked : (name : List ℕ) (i : ℕ) (type : RawType) → At school.types i 
 not_lacked name i type here has (root _ other there _ lacks) = lacks (subst (λ type. Declares type name) (at_once school.types i type other here there) has)
 not_lacked name i type here has (derived _ _ other there _ lacks _) = lacks (subst (λ type. Declares type name) (at_once school.types i type other here there) has)
 
--- the association has this role
-not_role : (role : List ℕ) → is_some (end_of_role giving role) ≡ true → ¬ ((association : RawAssociation) × At school.associations 0 association × (end_of_role association role ≡ None))
-not_role role has lacks = not_none (end_of_role giving role) has
-    (subst (λ association. end_of_role association role ≡ None) (sym (at_once school.associations 0 giving lacks.0 refl lacks.1)) lacks.2)
-
 resolved_teachers : (fault : Fault) → ¬ IsUnresolvedInType names school 0 teachers fault
 resolved_teachers fault = ⊎_elim (λ nothing. not_none (names.type_named (codes "S.Person")) refl nothing.0) (⊎_elim (λ no. no)
     (none_in (IsUnresolvedInNav names school) (codes "NavigationProperty") teachers.navs (
       (λ fault. ⊎_elim (λ nothing. not_none (names.association_named (codes "School.Gives")) refl nothing.0) (⊎_elim
-          (λ lacks. not_role (codes "Giver") refl lacks.0)
-          (λ lacks. not_role (codes "Lesson") refl lacks.0))),
+          (λ lacks. not_none (end_of_role giving (codes "Giver")) refl lacks.0)
+          (λ lacks. not_none (end_of_role giving (codes "Lesson")) refl lacks.0))),
       tt,
     ) fault))
 
@@ -141,9 +136,14 @@ key_by : (key : List (List ℕ)) → key ≢ [] → length key ≤ 4 → differ 
 key_by key some few apart = record { some = some; few = few; once = differ_tells (λ name. name) key apart }
 
 -- V10: no property that isn't of the key is asked for
-not_in_key : (key : List (List ℕ)) {prop : RawProp} → list_any (bytes_eq prop.name) key ≡ false → (fault : Fault) → ¬ IsNoKeyPropFault key prop fault
-not_in_key key {prop} none fault broken = not_among prop.name key none broken.0.0
+others_not_in_key : (key : List (List ℕ)) (n : ℕ) (props : List RawProp) → list_all (is_new (λ prop. prop.name) key) props ≡ true
+    → EachFrom (λ i prop. (fault : Fault) → ¬ IsNoKeyPropFault key prop fault) n props
+others_not_in_key key n [] test = tt
+others_not_in_key key n (prop ∷ props) test =
+    let parts = and_parts (is_new (λ prop. prop.name) key prop) (list_all (is_new (λ prop. prop.name) key) props) test in
+    ((λ fault broken. not_among prop.name key (not-true (list_any (bytes_eq prop.name) key) parts.0) broken.0.0), others_not_in_key key (n + 1) props parts.1)
 
+-- and one that can be of a key breaks nothing
 in_key : (key : List (List ℕ)) {prop : RawProp} → CanBeKey prop → (fault : Fault) → ¬ IsNoKeyPropFault key prop fault
 in_key key {prop} fits fault broken = broken.0.1 fits
 
@@ -167,7 +167,7 @@ none_inherited i type none fault = ⊎_elim
     (λ broken. none_above_root (base_in school) i broken.holds.holds.holds.0.ancestor none broken.holds.holds.holds.0.above)
 
 -- and teachers have no name of a person's
-not_of_persons : (name : List ℕ) → list_any (λ prop. bytes_eq prop.name name) persons.props ≡ false → ¬ IsInherited (base_in school) school.types 0 name
+not_of_persons : (name : List ℕ) → list_any (λ prop. bytes_eq prop.name name) persons.props ≡ false → ¬ IsInherited (IsAncestor (base_in school) 0) school.types name
 not_of_persons name none inherited =
     let above : inherited.ancestor ≡ 1 = root_above (base_in school) 0 1 inherited.ancestor refl refl inherited.above in
     let type : inherited.type ≡ persons = at_once school.types 1 inherited.type persons (subst (λ i. At school.types i inherited.type) above inherited.is_type) refl in
@@ -182,52 +182,63 @@ not_of_persons name none inherited =
 fits : (simple : Option Simple) (number : ℤ) → HasLength simple → pos 1 ≤ℤ number → number ≤ℤ pos largest_bound → ¬ BreaksBound simple (Number number)
 fits simple number long some few = ⊎_elim (λ short. short long) (λ wrong. wrong (some, few))
 
-teachers_keep : (fault : Fault) → ¬ IsTypeFault names school 0 teachers fault
-teachers_keep fault = ⊎_elim (λ above. absurd (let one : 0 ≡ 1 = root_above (base_in school) 0 1 0 refl refl above.0 in omega arith)) (⊎_elim (λ key. key.0) (⊎_elim (λ none. none) (⊎_elim
-    (⊎_elim
-    (none_in (λ k prop. IsInheritedFault (base_in school) school.types 0 prop.name) (codes "Property") teachers.props ((λ fault broken. not_of_persons (codes "Salary") refl broken.0), tt) fault)
-    (none_in (λ k nav. IsInheritedFault (base_in school) school.types 0 nav.name) (codes "NavigationProperty") teachers.navs ((λ fault broken. not_of_persons (codes "Lessons") refl broken.0), tt) fault))
-    (⊎_elim (all_typed teachers refl fault)
-    (none_in (λ k. IsPropBoundFault) (codes "Property") teachers.props ((λ fault wrong. wrong.0), tt) fault)))))
+-- and none where there is none
+abbrev is_unbounded : RawBound → Bool
+is_unbounded Absent = true
+is_unbounded Max = false
+is_unbounded (Number number) = false
 
-persons_keep : (fault : Fault) → ¬ IsTypeFault names school 1 persons fault
-persons_keep fault = ⊎_elim (λ above. none_above_root (base_in school) 1 1 refl above.0) (⊎_elim
+unbounded : (n : ℕ) (props : List RawProp) → list_all (λ prop. is_unbounded prop.bound) props ≡ true → EachFrom (λ i prop. (fault : Fault) → ¬ IsPropBoundFault prop fault) n props
+unbounded n [] test = tt
+unbounded n (prop ∷ props) test =
+    let parts = and_parts (is_unbounded prop.bound) (list_all (λ prop. is_unbounded prop.bound) props) test in
+    ((λ fault wrong. by prop.bound parts.0 wrong.0), unbounded (n + 1) props parts.1)
+  where
+    by : (bound : RawBound) → is_unbounded bound ≡ true → ¬ BreaksBound (simple_of prop.kind) bound
+    by Absent absent wrong = wrong
+    by Max absent wrong = absurd cc
+    by (Number number) absent wrong = absurd cc
+
+teachers_keep : (fault : Fault) → ¬ IsLaterFault names school 0 teachers fault
+teachers_keep fault = ⊎_elim (λ key. key.0) (⊎_elim (λ none. none) (⊎_elim
+    (⊎_elim
+    (none_in (λ k prop. IsInheritedFault (IsAncestor (base_in school) 0) school.types prop.name) (codes "Property") teachers.props ((λ fault broken. not_of_persons (codes "Salary") refl broken.0), tt) fault)
+    (none_in (λ k nav. IsInheritedFault (IsAncestor (base_in school) 0) school.types nav.name) (codes "NavigationProperty") teachers.navs ((λ fault broken. not_of_persons (codes "Lessons") refl broken.0), tt) fault))
+    (⊎_elim (all_typed teachers refl fault)
+    (none_in (λ k. IsPropBoundFault) (codes "Property") teachers.props ((λ fault wrong. wrong.0), tt) fault))))
+
+persons_keep : (fault : Fault) → ¬ IsLaterFault names school 1 persons fault
+persons_keep fault = ⊎_elim
     (λ key. key.0 (key_by (codes "Id" ∷ []) (λ none. absurd cc) (omega arith) refl))
     (⊎_elim
     (none_in (λ k. IsNoKeyPropFault (codes "Id" ∷ [])) (codes "Property") persons.props
-    (not_in_key (codes "Id" ∷ []) refl, (in_key (codes "Id" ∷ []) (record { needed = refl; simple = tt }), tt)) fault)
+    ((λ fault broken. not_among (codes "Name") (codes "Id" ∷ []) refl broken.0.0), (in_key (codes "Id" ∷ []) (record { needed = refl; simple = tt }), tt)) fault)
     (⊎_elim (none_inherited 1 persons refl fault)
     (⊎_elim (all_typed persons refl fault)
     (none_in (λ k. IsPropBoundFault) (codes "Property") persons.props
-    ((λ fault wrong. fits (Some Text) (pos 40) tt (omega (arith, ints)) (omega (arith, ints)) wrong.0), ((λ fault wrong. wrong.0), tt)) fault)))))
+    ((λ fault wrong. fits (Some Text) (pos 40) tt (omega (arith, ints)) (omega (arith, ints)) wrong.0), ((λ fault wrong. wrong.0), tt)) fault))))
 
 abbrev lesson_key : List (List ℕ)
 lesson_key = codes "Room" ∷ codes "Hour" ∷ []
 
-lessons_keep : (fault : Fault) → ¬ IsTypeFault names school 2 lessons fault
-lessons_keep fault = ⊎_elim (λ above. none_above_root (base_in school) 2 2 refl above.0) (⊎_elim
+lessons_keep : (fault : Fault) → ¬ IsLaterFault names school 2 lessons fault
+lessons_keep fault = ⊎_elim
     (λ key. key.0 (key_by lesson_key (λ none. absurd cc) (omega arith) refl))
     (⊎_elim
-    (none_in (λ k. IsNoKeyPropFault lesson_key) (codes "Property") lessons.props (
-      in_key lesson_key (record { needed = refl; simple = tt }),
-      (
-        in_key lesson_key (record { needed = refl; simple = tt }),
-        (
-          not_in_key lesson_key refl,
-          (
-            not_in_key lesson_key refl,
-            (not_in_key lesson_key refl, (not_in_key lesson_key refl, (not_in_key lesson_key refl, (not_in_key lesson_key refl, tt)))),
-          ),
-        ),
-      ),
-    ) fault)
+    (none_in (λ k. IsNoKeyPropFault lesson_key) (codes "Property") lessons.props
+    (in_key lesson_key (record { needed = refl; simple = tt }), (in_key lesson_key (record { needed = refl; simple = tt }), others_not_in_key lesson_key 2 (drop 2 lessons.props) refl)) fault)
     (⊎_elim (none_inherited 2 lessons refl fault)
     (⊎_elim (all_typed lessons refl fault)
-    (none_in (λ k. IsPropBoundFault) (codes "Property") lessons.props
-    (absent, (absent, ((λ fault wrong. wrong.0 tt), ((λ fault wrong. fits (Some Binary) (pos 9) tt (omega (arith, ints)) (omega (arith, ints)) wrong.0), (absent, (absent, (absent, (absent, tt)))))))) fault)))))
-  where
-    absent : (fault : Fault) → ¬ (⊥ × IsAt Bound (Member (codes "MaxLength") ∷ []) fault)
-    absent fault wrong = wrong.0
+    (none_in (λ k. IsPropBoundFault) (codes "Property") lessons.props (
+      (λ fault wrong. wrong.0),
+      (
+        (λ fault wrong. wrong.0),
+        (
+          (λ fault wrong. wrong.0 tt),
+          ((λ fault wrong. fits (Some Binary) (pos 9) tt (omega (arith, ints)) (omega (arith, ints)) wrong.0), unbounded 4 (drop 4 lessons.props) refl),
+        ),
+      ),
+    ) fault))))
 
 -- V12: enumerations
 levels_keep : (fault : Fault) → ¬ IsEnumFault levels fault
@@ -242,10 +253,17 @@ parts_keep fault = ⊎_elim (λ nothing. not_none (under_of parts) refl nothing.
     (none_in (λ k. IsNumberFault under.Int32) (codes "Member") (numbers_of parts)
     ((λ fault outside. outside.0 (omega (arith, ints), omega (arith, ints))), ((λ fault outside. outside.0 (omega (arith, ints), omega (arith, ints))), tt)) fault))
 
+-- V8: no type is its own ancestor
+bases_keep : (fault : Fault) → ¬ InList (codes "EntityType") (λ i type. IsAncestorFault (base_in school) i) school.types fault
+bases_keep = none_in (λ i type. IsAncestorFault (base_in school) i) (codes "EntityType") school.types (
+  (λ fault above. absurd (let one : 0 ≡ 1 = root_above (base_in school) 0 1 0 refl refl above.0 in omega arith)),
+  ((λ fault above. none_above_root (base_in school) 1 1 refl above.0), ((λ fault above. none_above_root (base_in school) 2 2 refl above.0), tt)),
+)
+
 keeps_types : (fault : Fault) → ¬ BreaksTypeRules school fault
-keeps_types fault = ⊎_elim
-    (none_in (IsTypeFault names school) (codes "EntityType") school.types (teachers_keep, (persons_keep, (lessons_keep, tt))) fault)
-    (none_in (λ i. IsEnumFault) (codes "EnumType") school.enums (levels_keep, (parts_keep, tt)) fault)
+keeps_types fault = ⊎_elim (bases_keep fault) (⊎_elim
+    (none_in (IsLaterFault names school) (codes "EntityType") school.types (teachers_keep, (persons_keep, (lessons_keep, tt))) fault)
+    (none_in (λ i. IsEnumFault) (codes "EnumType") school.enums (levels_keep, (parts_keep, tt)) fault))
 
 -- the school breaks no rule
 pub school_keeps : KeepsTypeRules school
