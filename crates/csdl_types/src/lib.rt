@@ -10,6 +10,8 @@ mod numbers;
 mod prop_types;
 mod simple;
 mod sizes;
+#[cfg(test)]
+mod tests;
 mod type_rules;
 
 pub use ancestors::bases_of;

@@ -7,16 +7,13 @@ use csdl_lists::RawType;
 use emc_base::Memory;
 use std::alloc::Global;
 
-/// How many names all types may inherit together, their own names and themselves included. Each type inherits what stands
-/// above it, so without a bound a long chain of types would take the square of its length, in time here and in memory
-/// later.
+/// How many names all types may have together, each with those of all types above it, a type itself counting as one more. Without
+/// a bound, a document that is one long chain of types would take the square of its length: in time here, and in memory where
+/// inherited lists are made. Nor does a type stand deeper than 11,585 then, since one that stands n deep makes n (n + 1) / 2
+/// with those above it; so a tree of types may be dropped by recursion.
 const MOST_INHERITED: u64 = 67_108_864;
 
-/// How deep a type may stand, a root at 1. The tree of types is dropped by recursion later, for which a deeper one would
-/// need too much stack.
-const MOST_LEVELS: u64 = 16_384;
-
-/// Answers `Memory` where types inherit too much or stand too deep.
+/// Answers `Memory` where types inherit too much.
 pub(crate) fn keep_small(
     alloc: Global,
     types: &[RawType],
@@ -29,9 +26,7 @@ pub(crate) fn keep_small(
 {
     let counts = own_counts(alloc, types)?;
     let inherited = chain_sizes(alloc, bases, counts.as_slice(), order)?;
-    let ones = vec![in alloc; 1u32; bases.len()]?;
-    let levels = chain_sizes(alloc, bases, ones.as_slice(), order)?;
-    if sum(inherited.as_slice()) > MOST_INHERITED || largest(levels.as_slice()) > MOST_LEVELS {
+    if sum(inherited.as_slice()) > MOST_INHERITED {
         return Err(Memory);
     }
     Ok(())
@@ -57,8 +52,4 @@ fn sum(sizes: &[u64]) -> u64 {
     sizes
         .iter()
         .fold(0u64, |sum, size| sum.saturating_add(*size))
-}
-
-fn largest(sizes: &[u64]) -> u64 {
-    sizes.iter().fold(0u64, |most, size| most.max(*size))
 }
