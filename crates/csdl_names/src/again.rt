@@ -14,7 +14,7 @@ use name_places::{Named, Places};
 use rule_places::fault_if;
 use std::alloc::Global;
 
-/// A list in a scope, whose items may have names that are given before.
+/// A list in a scope, some of whose names may be given before.
 #[derive(Drop)]
 pub struct Again<'a, T: Named> {
     /// The places of the lists that stand before it in the scope.
@@ -45,7 +45,7 @@ impl<'a, T: Named> Finder<T, Fault> for Again<'a, T> {
 
 impl<'a, T: Named> Again<'a, T> {
     /// The first of the items, which stand at this member, whose name is given before.
-    pub fn first_at(&self, alloc: Global, member: &str) -> Result<Option<Fault>, Memory>
+    pub fn first_again(&self, alloc: Global, member: &str) -> Result<Option<Fault>, Memory>
         ensures { (names : List (List ℕ)) → AreNames self.now.others.now names → IfOk result (λ found. IsLeast fault_cmp (IsRepeatedIn T.name_in names member.now self.now.last.now self.now.items.now) found) }
     {
         let found = first_at(alloc, member, self, self.items)?;
@@ -77,7 +77,7 @@ pub fn first_twice<T: Named>(
         own: places,
         last,
     };
-    let found = search.first_at(alloc, member)?;
+    let found = search.first_again(alloc, member)?;
     Ok(found)
 }
 

@@ -7,6 +7,8 @@ mod findings;
 mod lookups;
 mod repeated;
 mod tables;
+#[cfg(test)]
+mod tests;
 mod unresolved;
 
 pub use repeated::first_repeated;

@@ -23,13 +23,9 @@ impl Finder<RawType, Fault> for Inside {
     ghost wrong = { λ _. IsRepeatedInType };
 
     fn find(&self, alloc: Global, _: usize, item: &RawType) -> Result<Option<Fault>, Memory> {
-        let found = first_in_both(
-            alloc,
-            "NavigationProperty",
-            &item.navs,
-            "Property",
-            &item.props,
-        )?;
+        let navs = &item.navs;
+        let props = &item.props;
+        let found = first_in_both(alloc, "NavigationProperty", navs, "Property", props)?;
         Ok(found)
     }
 }
@@ -82,7 +78,7 @@ fn first_in_both<T: Named, U: Named>(
         own: &own,
         last: "Name",
     };
-    let other = search.first_at(alloc, second)?;
+    let other = search.first_again(alloc, second)?;
     Ok(earlier(found, other))
 }
 
@@ -104,14 +100,14 @@ fn first_in_schema(alloc: Global, model: &RawModel, scope: &Scope) -> Result<Opt
         own: &scope.types,
         last: "Name",
     };
-    let of_types = types.first_at(alloc, "EntityType")?;
+    let of_types = types.first_again(alloc, "EntityType")?;
     let enums = Again {
         others: &[&scope.associations, &scope.types],
         items: &model.enums,
         own: &scope.enums,
         last: "Name",
     };
-    let of_enums = enums.first_at(alloc, "EnumType")?;
+    let of_enums = enums.first_again(alloc, "EnumType")?;
     Ok(earlier(of_associations, earlier(of_types, of_enums)))
 }
 

@@ -1,5 +1,5 @@
 use Rattle.csdl_names.proofs.Known.{again_by_names}
-use Rattle.csdl_names.proofs.again.Again.first_at.Goals as goal
+use Rattle.csdl_names.proofs.again.Again.first_again.Goals as goal
 
 pub returns : goal.returns
 returns g c = λ names are.
