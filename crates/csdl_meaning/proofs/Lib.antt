@@ -1,0 +1,15 @@
+pub mod Lists
+pub mod Rising
+pub mod SoundKinds
+pub mod Declared
+pub mod Bases
+pub mod Props
+pub mod Names
+pub mod Keys
+pub mod Ids
+pub mod FaultPlaces
+pub mod KeptNames
+pub mod KeptTypes
+pub mod Sound
+pub mod NoFaults
+pub mod SchoolKeeps

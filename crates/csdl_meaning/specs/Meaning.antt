@@ -1,0 +1,82 @@
+-- What a CSDL document means, as far as its types and their properties go. What doesn't resolve is left out or empty, so that each document
+-- means something.
+-- Source: CSDL version 3, EntityType, BaseType, Key, Property and NavigationProperty.
+use Rattle.std.specs.Prelude.{◌≡◌, ℕ, ◌+◌, List, [], length, map, take, slice_get, sum_by, Option, option_map, unwrap_or}
+use Rattle.std.specs.List.{enumerate_from, filter_map, flat_map, range_with_len}
+use Rattle.std.specs.Option.{option_and_then, option_map_or}
+use Rattle.round_trip.specs.Words.{EntityModel, EntityType, Nav, Prop, PropId}
+use Rattle.soundness.specs.Inheritance.{prop_numbered, type_numbered}
+use Rattle.base_chains.specs.Chains.{chain}
+use Rattle.name_places.specs.GivenNames.{first_place}
+use Rattle.csdl_lists.specs.declared.raw.RawModel.{RawModel}
+use Rattle.csdl_lists.specs.declared.raw.RawNav.{RawNav}
+use Rattle.csdl_lists.specs.declared.raw.RawProp.{RawProp}
+use Rattle.csdl_lists.specs.declared.raw.RawType.{RawType}
+use Rattle.csdl_lists.specs.References.{base_of, names_in}
+use Rattle.csdl_meaning.specs.Kinds.{kind_of}
+
+module _ (raw : RawModel) where
+  -- the base type of the type at a place
+  abbrev pub base_in : ℕ → Option ℕ
+  base_in = base_of (names_in raw) raw
+
+  -- a type after all that stand above it, the root first
+  abbrev pub chain_in : ℕ → List ℕ
+  chain_in i = chain base_in (length raw.types) i
+
+  -- the properties that a type declares
+  abbrev pub declared_by : ℕ → List RawProp
+  declared_by i = option_map_or (λ type. type.props) (slice_get raw.types i) []
+
+  -- how many properties the types before a type declare
+  abbrev pub declared_before : ℕ → ℕ
+  declared_before i = sum_by (λ type. length type.props) (take i raw.types)
+
+  -- the ids of the properties that a type declares: their places among the declared properties of all types
+  abbrev pub own_props : ℕ → List PropId
+  own_props i = map prop_numbered (range_with_len (declared_before i) (length (declared_by i)))
+
+  -- the id of the property with this name that a type declares
+  abbrev pub prop_named : ℕ → List ℕ → Option PropId
+  prop_named i name = option_map (λ k. prop_numbered (declared_before i + k)) (first_place (λ prop. prop.name) (declared_by i) name)
+
+  -- the key that a type declares
+  abbrev pub own_key : ℕ → List PropId
+  own_key i = filter_map (prop_named i) (unwrap_or (option_and_then (λ type. type.key) (slice_get raw.types i)) [])
+
+  -- a navigation property, by the name of its association without Namespace or Alias
+  abbrev pub nav_of : RawNav → Nav
+  nav_of nav = record {
+    name = nav.name;
+    assoc_name = option_map_or (λ association. association.name) (option_and_then (slice_get raw.associations) ((names_in raw).association_named nav.relationship)) [];
+    from_role = nav.from_role;
+    to_role = nav.to_role;
+  }
+
+  -- a type: its key and its properties are those of all in its chain
+  abbrev pub type_of : ℕ → RawType → EntityType
+  type_of i type = record {
+    name = type.name;
+    base = option_map type_numbered (base_in i);
+    is_abstract = type.is_abstract;
+    key = flat_map own_key (chain_in i);
+    props = flat_map own_props (chain_in i);
+    navs = map nav_of type.navs;
+  }
+
+  -- a property of the type at a place
+  abbrev pub prop_of : ℕ → RawProp → Prop
+  prop_of i prop = record { owner = type_numbered i; name = prop.name; kind = kind_of raw prop; nullable = prop.nullable }
+
+  -- the types of the document
+  abbrev pub types_in : List EntityType
+  types_in = map (λ place. type_of place.0 place.1) (enumerate_from 0 raw.types)
+
+  -- the declared properties of all types
+  abbrev pub props_in : List Prop
+  props_in = flat_map (λ place. map (prop_of place.0) place.1.props) (enumerate_from 0 raw.types)
+
+  -- the model has the types and the properties of the document
+  pub record IsMeant (model : EntityModel) : Type 0 where
+    pub types : model.types ≡ types_in
+    pub props : model.props ≡ props_in
