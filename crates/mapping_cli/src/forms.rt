@@ -19,10 +19,7 @@ const NO_KEY_PROPERTY: (&str, u8) = ("rule V10 csdl \"/EntityType/0/Property/0\"
 
 const NO_MEMBERS: (&str, u8) = ("rule V12 csdl \"/EnumType/0/Member\"\n", 1);
 
-const NO_BOUND: (&str, u8) = (
-    "rule V13 csdl \"/EntityType/0/Property/1/MaxLength\"\n",
-    1,
-);
+const NO_BOUND: (&str, u8) = ("rule V13 csdl \"/EntityType/0/Property/1/MaxLength\"\n", 1);
 
 const LEFT_OUT: (&str, u8) = (
     "rule V5 csdl \"/EntityType/0/Property/0/DefaultValue\"\n",
@@ -305,7 +302,11 @@ pub(crate) const FORMS: [(&str, &[Edit], (&str, u8)); 31] = [
     ),
     (
         "an enumeration without members",
-        &[("M", r#"20}]}]}"#, r#"20}]}],"EnumType":[{"Name":"Color","Member":[]}]}"#)],
+        &[(
+            "M",
+            r#"20}]}]}"#,
+            r#"20}]}],"EnumType":[{"Name":"Color","Member":[]}]}"#,
+        )],
         NO_MEMBERS,
     ),
     (
