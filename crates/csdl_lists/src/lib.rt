@@ -1,12 +1,14 @@
 //! What is written in a CSDL document, as lists, and what the names in it stand for.
 #![tactic(auto)]
 
+mod bases;
 mod named;
 mod raw;
 mod scope;
 #[cfg(test)]
 mod tests;
 
+pub use bases::bases_of;
 pub use raw::{
     RawAssociation, RawAssociationSet, RawBound, RawConstraint, RawContainer, RawEnd, RawEnum,
     RawMember, RawModel, RawNav, RawProp, RawRole, RawSet, RawSetEnd, RawType,

@@ -1,4 +1,4 @@
--- What tables of types say at a place: where a type declares its properties, and what its base type is.
+-- What a table of types says at a place: where the type declares its properties.
 use Rattle.std.proofs.Common.{◌≡◌, ℕ, List, map, Option, Some, None, slice_get, refl, sym, ap, ◌∙◌}
 use Rattle.std.specs.Option.{option_and_then, option_map}
 use Rattle.std.proofs.lemmas.Option.{none-some, same_Some, slice_get-map}
@@ -22,17 +22,3 @@ module _ (props : List Places) (types : List RawType) (same : map place_in props
   -- and there are some
   pub some_places : ¬ (slice_get props i ≡ None)
   some_places none = none-some (place_of_prop type) (sym (ap (option_map place_in) none) ∙ declared_at)
-
--- bases that were made type by type
-pub bases_made : (known names : Names) (model : RawModel) (bases : List (Option ℕ)) → known ≡ names
-    → bases ≡ map (λ (type : RawType). option_and_then known.type_named type.base) model.types → base_at bases ≡ base_of names model
-bases_made known names model bases same made = λ k i.
-    (ap (λ (places : List (Option ℕ)). base_at places i) made
-    ∙ ap (option_and_then (λ (base : Option ℕ). base)) (slice_get-map (λ (type : RawType). option_and_then known.type_named type.base) model.types i)
-    ∙ by (slice_get model.types i)
-    ∙ (λ j. base_of (same j) model i)) k
-  where
-    by : (found : Option RawType) → option_and_then (λ (base : Option ℕ). base) (option_map (λ (type : RawType). option_and_then known.type_named type.base) found)
-        ≡ option_and_then (λ (type : RawType). option_and_then known.type_named type.base) found
-    by None = refl
-    by (Some type) = refl

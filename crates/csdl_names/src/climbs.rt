@@ -1,14 +1,12 @@
 use crate::lookups::Lookups;
 use csdl_lists::RawAssociation;
-use emc_base::Memory;
+use emc_base::{Memory, Seq, Txt};
 
-/// The most steps from a type to its base type that the look-ups of properties may take. Where they may take more, that counts
-/// as want of memory: a document of some MiB can ask for billions of steps, by a long list of names in the last type of a long
-/// chain. The same number bounds how many inherited properties a reader may write down.
-const MOST_STEPS: u64 = 67_108_864;
+/// The most types that the look-ups of properties may look at, as many as the largest document has bytes. More counts as want of memory:
+/// a document of some MiB can ask for billions, by a long list of names in the last type of a long chain.
+const MOST_STEPS: u64 = 16_777_216;
 
-/// Refuses a model in which the look-ups of properties may take more than so many steps. A list of names takes as many for each
-/// name, and for this count, as its type has types above it, with itself.
+/// Refuses a model in which the look-ups of properties look at more than so many types.
 pub fn allow_climbs(lookups: &Lookups<'_>) -> Result<(), Memory> {
     let left = left_by_keys(lookups, MOST_STEPS)?;
     let _left = left_by_constraints(lookups, left)?;
@@ -20,7 +18,7 @@ fn left_by_keys(lookups: &Lookups<'_>, most: u64) -> Result<u64, Memory> {
     let mut left = most;
     for (place, ty) in lookups.model.types.as_slice().iter().enumerate() {
         if let Some(key) = &ty.key {
-            left = left_by_names(lookups, place, key.len(), left)?;
+            left = left_by_names(lookups, place, key, left)?;
         }
     }
     Ok(left)
@@ -45,27 +43,38 @@ fn left_by_constraint(
     if let Some(constraint) = &association.constraint {
         for role in [&constraint.principal, &constraint.dependent] {
             if let Some(ty) = lookups.type_of_role(association, &role.role) {
-                left = left_by_names(lookups, ty, role.props.len(), left)?;
+                left = left_by_names(lookups, ty, &role.props, left)?;
             }
         }
     }
     Ok(left)
 }
 
-// What is left when so many names are looked up in a type.
-fn left_by_names(lookups: &Lookups<'_>, ty: usize, count: usize, most: u64) -> Result<u64, Memory> {
-    let climbs = (count as u64).saturating_add(1);
-    let steps = depth_of(lookups, ty).saturating_mul(climbs);
-    most.checked_sub(steps).ok_or(Memory)
+// What is left when these names are looked up in a type.
+fn left_by_names(
+    lookups: &Lookups<'_>,
+    ty: usize,
+    names: &Seq<Txt>,
+    most: u64,
+) -> Result<u64, Memory> {
+    let mut left = most;
+    for name in names.as_slice() {
+        left = left.checked_sub(steps_to(lookups, ty, name)).ok_or(Memory)?;
+    }
+    Ok(left)
 }
 
-// How many types stand above a type, with itself; as many as there are types where they come round in a circle.
-fn depth_of(lookups: &Lookups<'_>, ty: usize) -> u64 {
+// How many types are looked at, from this one up, until one declares the property or none stands above; as many as there are types where
+// they come round in a circle.
+fn steps_to(lookups: &Lookups<'_>, ty: usize, name: &Txt) -> u64 {
     let count = lookups.model.types.len() as u64;
     let mut place = ty;
-    for depth in 1..count {
+    for steps in 1..count {
+        if lookups.declares(place, name) {
+            return steps;
+        }
         let Some(base) = lookups.base(place) else {
-            return depth;
+            return steps;
         };
         place = base;
     }

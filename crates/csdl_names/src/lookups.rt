@@ -21,7 +21,7 @@ pub struct Lookups<'a> {
     /// The places of the properties of each type.
     pub props: &'a Seq<Places>,
     /// The base type of each type, where it is found.
-    pub bases: &'a Seq<Option<usize>>,
+    pub bases: &'a [Option<usize>],
     ghost named: { names_of scope.now ≡ names_in model.now },
     ghost declared: { map place_in props.now ≡ map place_of_prop model.now.types },
     ghost based: { base_at bases.now ≡ base_of (names_in model.now) model.now },
@@ -100,8 +100,8 @@ impl<'a> Lookups<'a> {
         *self.bases.get(ty)?
     }
 
-    // Whether the type at a place declares the property.
-    fn declares(&self, place: usize, name: &Txt) -> bool
+    /// Whether the type at a place declares the property.
+    pub fn declares(&self, place: usize, name: &Txt) -> bool
         ensures { (type : RawType) → At self.now.model.now.types place type → (IsTrue result ↔ Declares type name.now) }
     {
         let Some(props) = self.props.get(place) else {

@@ -4,17 +4,18 @@ ghost use Rattle.layouts.specs.declared.rule.Rule.TheVariants.{Resolves};
 ghost use Rattle.layouts.specs.Faults.{fault_cmp};
 ghost use Rattle.least_fault.specs.Least.{IsLeast};
 ghost use Rattle.rule_places.specs.Places.{IsAt};
-ghost use Rattle.csdl_lists.specs.References.{names_in};
+ghost use Rattle.base_chains.specs.Chains.{base_at};
+ghost use Rattle.csdl_lists.specs.References.{base_of, names_in};
 ghost use Rattle.csdl_lists.specs.Scopes.{IsScopeOf};
 ghost use Rattle.csdl_names.specs.Unresolved.{IsUnresolved, IsUnresolvedBase, IsUnresolvedInConstraint, IsUnresolvedInContainer, IsUnresolvedInKey, IsUnresolvedInRole, LacksRole, NamesNothing};
 
 use crate::climbs::allow_climbs;
 use crate::findings::{behind_member, first_at};
 use crate::lookups::{Lookups, end_of_role};
-use crate::tables::{bases_of, props_of};
+use crate::tables::props_of;
 use csdl_lists::{
     RawAssociation, RawAssociationSet, RawConstraint, RawContainer, RawEnd, RawModel, RawNav,
-    RawRole, RawSet, RawSetEnd, RawType, Scope,
+    RawRole, RawSet, RawSetEnd, RawType, Scope, bases_of,
 };
 use emc_base::{Memory, Seq, Txt};
 use layouts::{Fault, Rule};
@@ -286,13 +287,28 @@ pub fn first_unresolved(
     requires { IsScopeOf model.now scope.now }
     ensures { IfOk result (λ found. IsLeast fault_cmp (IsUnresolved model.now) found) }
 {
-    let props = props_of(alloc, &model.types)?;
     let bases = bases_of(alloc, model, scope)?;
+    let found = first_by_bases(alloc, model, scope, bases.as_slice())?;
+    Ok(found)
+}
+
+// The same, where the bases of types are known.
+fn first_by_bases(
+    alloc: Global,
+    model: &RawModel,
+    scope: &Scope,
+    bases: &[Option<usize>],
+) -> Result<Option<Fault>, Memory>
+    requires known { IsScopeOf model.now scope.now }
+    requires based { base_at bases.now ≡ base_of (names_in model.now) model.now }
+    ensures { IfOk result (λ found. IsLeast fault_cmp (IsUnresolved model.now) found) }
+{
+    let props = props_of(alloc, &model.types)?;
     let lookups = Lookups {
         model,
         scope,
         props: &props,
-        bases: &bases,
+        bases,
     };
     allow_climbs(&lookups)?;
     let inside = first_in_container(alloc, &lookups, &model.container)?;

@@ -24,7 +24,7 @@ use Rattle.csdl_types.specs.Keys.{IsNoKeyPropFault}
 use Rattle.csdl_types.specs.PropTypes.{IsEnumFault, IsNoTypeFault, IsNumberFault, IsPropBoundFault}
 use Rattle.csdl_types.specs.Numbers.{numbers_of, under_of}
 use Rattle.csdl_types.specs.TypeRules.{BreaksLaterRules, BreaksTypeRules, IsLaterFault}
-use Rattle.csdl_types.proofs.Bases.{is_type}
+use Rattle.csdl_lists.proofs.BaseTypes.{is_type}
 
 -- the rule comes after V8
 abbrev IsLater : Rule → Type 0

@@ -1,5 +1,4 @@
 pub mod Cycles
 pub mod Inheriting
 pub mod Names
-pub mod Bases
 pub mod Counting

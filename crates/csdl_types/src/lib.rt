@@ -1,7 +1,6 @@
 //! The rules of CSDL on types, on their properties and on enumeration types: which one is broken where.
 #![tactic(auto)]
 
-mod ancestors;
 mod bounds;
 mod enums;
 mod inherited;
@@ -14,7 +13,6 @@ mod sizes;
 mod tests;
 mod type_rules;
 
-pub use ancestors::bases_of;
 pub use numbers::under_of;
 pub use simple::{Simple, simple_of};
 pub use type_rules::first_type_fault;

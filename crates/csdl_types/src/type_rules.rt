@@ -6,7 +6,6 @@ ghost use Rattle.csdl_lists.specs.References.{base_of, names_in};
 ghost use Rattle.csdl_lists.specs.Scopes.{IsScopeOf};
 ghost use Rattle.csdl_types.specs.TypeRules.{BreaksTypeRules, BreaksLaterRules};
 
-use crate::ancestors::bases_of;
 use crate::bounds::first_bound_fault;
 use crate::enums::first_enum_fault;
 use crate::inherited::first_inherited_fault;
@@ -14,7 +13,7 @@ use crate::keys::{first_key_fault, first_key_prop_fault};
 use crate::prop_types::first_prop_type_fault;
 use crate::sizes::keep_small;
 use base_chains::{Walk, walk_bases};
-use csdl_lists::{RawEnum, RawModel, RawType, Scope};
+use csdl_lists::{RawEnum, RawModel, RawType, Scope, bases_of};
 use emc_base::Memory;
 use layouts::{Fault, Rule};
 use least_fault::{Finder, earlier};

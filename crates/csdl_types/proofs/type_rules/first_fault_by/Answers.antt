@@ -6,7 +6,7 @@ use Rattle.base_chains.specs.Chains.{base_at}
 use Rattle.base_chains.specs.Walks.{IsWalk}
 use Rattle.base_chains.specs.declared.walking.Walk.{Walk}
 use Rattle.csdl_types.specs.TypeRules.{BreaksTypeRules}
-use Rattle.csdl_types.proofs.Bases.{bases_within}
+use Rattle.csdl_lists.proofs.BaseTypes.{bases_within}
 use Rattle.csdl_types.proofs.Cycles.{cycle_least, rooted_least}
 use Rattle.csdl_types.proofs.type_rules.first_fault_by.Goals as goal
 

@@ -5,8 +5,8 @@ use Rattle.base_chains.specs.Chains.{base_at}
 use Rattle.csdl_lists.specs.declared.raw.RawType.{RawType}
 use Rattle.csdl_lists.specs.References.{Names, base_of}
 use Rattle.csdl_lists.specs.Scopes.{names_of}
-use Rattle.csdl_types.proofs.Bases.{bases_are}
-use Rattle.csdl_types.proofs.ancestors.bases_of.Goals as goal
+use Rattle.csdl_lists.proofs.BaseTypes.{bases_are}
+use Rattle.csdl_lists.proofs.bases.bases_of.Goals as goal
 
 pub returns : goal.returns
 returns c =

@@ -7,7 +7,7 @@ use Rattle.rule_places.proofs.Seen.{least_behind}
 use Rattle.csdl_lists.specs.References.{names_in}
 use Rattle.csdl_names.specs.Unresolved.{IsUnresolvedInAssociation, IsUnresolvedInContainer, IsUnresolvedInType}
 use Rattle.csdl_names.proofs.LeastFound.{both}
-use Rattle.csdl_names.proofs.unresolved.first_unresolved.Goals as goal
+use Rattle.csdl_names.proofs.unresolved.first_by_bases.Goals as goal
 
 pub returns : goal.returns
 returns c =

@@ -4,7 +4,8 @@ ghost use Rattle.base_chains.specs.Chains.{base_at};
 ghost use Rattle.csdl_lists.specs.References.{base_of, names_in};
 ghost use Rattle.csdl_lists.specs.Scopes.{IsScopeOf, names_of};
 
-use csdl_lists::{RawModel, RawType, Scope};
+use crate::raw::{RawModel, RawType};
+use crate::scope::Scope;
 use emc_base::Memory;
 use std::alloc::Global;
 
