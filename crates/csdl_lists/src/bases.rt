@@ -6,7 +6,7 @@ ghost use Rattle.csdl_lists.specs.Scopes.{IsScopeOf, names_of};
 
 use crate::raw::{RawModel, RawType};
 use crate::scope::Scope;
-use emc_base::Memory;
+use emc_base::{Memory, Seq};
 use std::alloc::Global;
 
 /// The place of each type's base type in the list of types, where it is found. `Memory` comes where memory ran out.
@@ -14,11 +14,11 @@ pub fn bases_of(
     alloc: Global,
     model: &RawModel,
     scope: &Scope,
-) -> Result<Vec<Option<usize>>, Memory>
+) -> Result<Seq<Option<usize>>, Memory>
     requires { IsScopeOf model.now scope.now }
-    ensures { IfOk result (λ bases. (base_at bases.items ≡ base_of (names_in model.now) model.now) × (length bases.items ≡ length model.now.types)) }
+    ensures { IfOk result (λ bases. (base_at bases ≡ base_of (names_in model.now) model.now) × (length bases ≡ length model.now.types)) }
 {
-    let mut bases = Vec::new(alloc);
+    let mut bases = Seq::empty(alloc);
     for ty in model.types.as_slice() {
         bases.push(base_type(scope, ty))?;
     }

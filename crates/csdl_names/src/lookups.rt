@@ -21,7 +21,7 @@ pub struct Lookups<'a> {
     /// The places of the properties of each type.
     pub props: &'a Seq<Places>,
     /// The base type of each type, where it is found.
-    pub bases: &'a [Option<usize>],
+    pub bases: &'a Seq<Option<usize>>,
     ghost named: { names_of scope.now ≡ names_in model.now },
     ghost declared: { map place_in props.now ≡ map place_of_prop model.now.types },
     ghost based: { base_at bases.now ≡ base_of (names_in model.now) model.now },

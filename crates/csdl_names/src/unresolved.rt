@@ -288,7 +288,7 @@ pub fn first_unresolved(
     ensures { IfOk result (λ found. IsLeast fault_cmp (IsUnresolved model.now) found) }
 {
     let bases = bases_of(alloc, model, scope)?;
-    let found = first_by_bases(alloc, model, scope, bases.as_slice())?;
+    let found = first_by_bases(alloc, model, scope, &bases)?;
     Ok(found)
 }
 
@@ -297,7 +297,7 @@ fn first_by_bases(
     alloc: Global,
     model: &RawModel,
     scope: &Scope,
-    bases: &[Option<usize>],
+    bases: &Seq<Option<usize>>,
 ) -> Result<Option<Fault>, Memory>
     requires known { IsScopeOf model.now scope.now }
     requires based { base_at bases.now ≡ base_of (names_in model.now) model.now }

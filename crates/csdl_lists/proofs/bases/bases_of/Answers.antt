@@ -10,10 +10,10 @@ use Rattle.csdl_lists.proofs.bases.bases_of.Goals as goal
 
 pub returns : goal.returns
 returns c =
-    let P : Names → Type 0 = λ names. base_at c.loop-ty.bases.items ≡ base_of names c.args.model.now in
-    let made : c.loop-ty.bases.items ≡ map (λ type. option_and_then (names_of c.args.scope.now).type_named type.base) c.args.model.now.types =
+    let P : Names → Type 0 = λ names. base_at c.loop-ty.bases ≡ base_of names c.args.model.now in
+    let made : c.loop-ty.bases ≡ map (λ type. option_and_then (names_of c.args.scope.now).type_named type.base) c.args.model.now.types =
     c.loop-ty.invariant ∙ ap (λ (types : List RawType). map (λ type. option_and_then (names_of c.args.scope.now).type_named type.base) types)
     (take_all c.loop-ty.ty-index c.as_slice-ty-items.result.now c.loop-ty-test.false ∙ c.as_slice-ty-items.ensures.items) in (
-      subst P c.requires.names (bases_are (names_of c.args.scope.now) c.args.model.now c.loop-ty.bases.items made),
+      subst P c.requires.names (bases_are (names_of c.args.scope.now) c.args.model.now c.loop-ty.bases made),
       ap (λ (xs : List (Option ℕ)). length xs) made ∙ length-map c.args.model.now.types (λ type. option_and_then (names_of c.args.scope.now).type_named type.base),
     )

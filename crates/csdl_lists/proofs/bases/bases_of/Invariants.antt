@@ -5,4 +5,4 @@ use Rattle.csdl_lists.proofs.bases.bases_of.Given as goal
 
 -- the bases of the types that were passed
 abbrev pub invariant-loop-ty : goal.invariant-loop-ty
-invariant-loop-ty l = l.bases.items ≡ map (λ type. option_and_then (names_of l.scope).type_named type.base) (take l.ty-index l.ty-items)
+invariant-loop-ty l = l.bases ≡ map (λ type. option_and_then (names_of l.scope).type_named type.base) (take l.ty-index l.ty-items)
