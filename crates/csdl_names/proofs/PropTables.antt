@@ -1,14 +1,11 @@
 -- What a table of types says at a place: where the type declares its properties.
-use Rattle.std.proofs.Common.{◌≡◌, ℕ, List, map, Option, Some, None, slice_get, refl, sym, ap, ◌∙◌}
-use Rattle.std.specs.Option.{option_and_then, option_map}
+use Rattle.std.proofs.Common.{◌≡◌, ℕ, List, map, Option, Some, None, slice_get, sym, ap, ◌∙◌}
+use Rattle.std.specs.Option.{option_map}
 use Rattle.std.proofs.lemmas.Option.{none-some, same_Some, slice_get-map}
 use Rattle.emc_base.specs.Lists.{At}
 use Rattle.name_places.specs.declared.places.Places.{Places}
 use Rattle.name_places.specs.PlacesIn.{place_in}
-use Rattle.base_chains.specs.Chains.{base_at}
-use Rattle.csdl_lists.specs.declared.raw.RawModel.{RawModel}
 use Rattle.csdl_lists.specs.declared.raw.RawType.{RawType}
-use Rattle.csdl_lists.specs.References.{Names, base_of}
 use Rattle.csdl_names.specs.PropPlaces.{place_of_prop}
 
 module _ (props : List Places) (types : List RawType) (same : map place_in props ≡ map place_of_prop types) (i : ℕ) (type : RawType) (here : At types i type) where

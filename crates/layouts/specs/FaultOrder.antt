@@ -8,7 +8,6 @@ use Rattle.std.specs.FinMap.{IsAntisymmetric, nat_cmp-IsAntisymmetric}
 use Rattle.std.specs.Ordering.{nat_cmp, ordering_then}
 use Rattle.json_form.specs.PlaceOrder.{steps_cmp_apart, steps_cmp_total}
 use Rattle.json_form.specs.Pointers.{steps_cmp}
-use Rattle.layouts.specs.declared.fault.Fault.{Fault}
 use Rattle.layouts.specs.declared.rule.Rule.{Rule}
 use Rattle.layouts.specs.declared.rule.Rule.TheVariants.{IsJson, HasForm, HasMembers, IsKnown, IsSupported, NamedOnce, Resolves, Ancestors, TypeKey, KeyProperty, InheritedName, PropertyType, Bound, IsBuilt}
 use Rattle.layouts.specs.Faults.{fault_cmp}
