@@ -1,4 +1,4 @@
-use crate::{Walk, chain_sizes, stay_within, walk_bases};
+use crate::{Walk, chain_sizes, places_above, stay_within, walk_bases};
 use std::test::Fail;
 
 #[test]
@@ -11,6 +11,9 @@ fn each_type_follows_its_base(rt: HostRuntime) -> Result<(), Fail> {
     assert_eq!(rt; order.as_slice(), [1usize, 2, 0, 3].as_slice());
     let sizes = chain_sizes(rt.alloc(), &bases, &[3, 5, 0, 7], order.as_slice())?;
     assert_eq!(rt; sizes.as_slice(), [8u64, 5, 5, 12].as_slice());
+    let above = places_above(rt.alloc(), &bases, 0)?;
+    assert_eq!(rt; above.as_slice(), [2usize, 1].as_slice());
+    assert!(rt; places_above(rt.alloc(), &bases, 1)?.is_empty());
     Ok(())
 }
 

@@ -9,7 +9,7 @@ use std::alloc::Global;
 
 /// How many names all types may have together, each with those of all types above it, a type itself counting as one more. Without
 /// a bound, a document that is one long chain of types would take the square of its length: in time here, and in memory where
-/// inherited lists are made. Nor does a type stand deeper than 11,585 then, since one that stands n deep makes n (n + 1) / 2
+/// inherited lists are made. Nor does a type stand deeper than 11,584 then, since one that stands n deep makes n (n + 1) / 2
 /// with those above it; so a tree of types may be dropped by recursion.
 const MOST_INHERITED: u64 = 67_108_864;
 

@@ -211,7 +211,9 @@ fn told(
     types: &str,
     enums: &str,
 ) -> Result<Option<(u8, Txt)>, Memory> {
-    let text = format!(in alloc; "{{\"Namespace\":\"N\",\"EntityType\":[{types}],\"EnumType\":[{enums}]}}")?;
+    let text = format!(in alloc;
+        "{{\"Namespace\":\"N\",\"EntityType\":[{types}],\"EnumType\":[{enums}]}}"
+    )?;
     let bytes = Bin::of(alloc, text.as_bytes())?;
     let doc = Doc::of_bytes(alloc, &bytes).expect(rt, "no document");
     let model = RawModel::read(alloc, doc.root())?;
