@@ -10,8 +10,8 @@ pub(crate) type Case = (&'static str, &'static [Edit], Option<(u8, &'static str)
 pub(crate) const SCHOOL: &str =
     r#"{"Namespace":"N.M","Alias":"Self","EntityContainer":{"Name":"C","EntitySet":[{"Name":"People","EntityType":"N.M.Person"},{"Name":"Courses","EntityType":"Self.Course"}],"AssociationSet":[{"Name":"Owners","Association":"N.M.Owner","End":[{"Role":"Of","EntitySet":"Courses"},{"Role":"By","EntitySet":"People"}]}]},"EntityType":[{"Name":"Teacher","BaseType":"Self.Person","Property":[{"Name":"Salary","Type":"Edm.Int64"}],"NavigationProperty":[{"Name":"Given","Relationship":"N.M.Owner","FromRole":"By","ToRole":"Of"}]},{"Name":"Person","Abstract":true,"Key":["Id"],"Property":[{"Name":"Id","Type":"Int32","Nullable":false},{"Name":"Name","Type":"String","MaxLength":20}]},{"Name":"Course","Key":["Code"],"Property":[{"Name":"Code","Type":"Int32","Nullable":false},{"Name":"Level","Type":"N.M.Level"},{"Name":"Owner","Type":"Int32"}]}],"EnumType":[{"Name":"Level","Member":[{"Name":"Low"},{"Name":"High","Value":7},{"Name":"Top"}]}],"Association":[{"Name":"Owner","End":[{"Role":"Of","Type":"N.M.Course","Multiplicity":"*"},{"Role":"By","Type":"N.M.Person","Multiplicity":"0..1"}],"ReferentialConstraint":{"Principal":{"Role":"By","PropertyRef":["Id"]},"Dependent":{"Role":"Of","PropertyRef":["Owner"]}}}]}"#;
 
-/// Each rule from 6 on, and each two neighbouring numbers in both orders of places.
-pub(crate) const CASES: [Case; 97] = [
+/// Names that are given twice, and some that are not.
+pub(crate) const GIVEN_TWICE: [Case; 16] = [
     ("the school, whole", &[], None),
     (
         "a type with the name of the association",
@@ -119,6 +119,10 @@ pub(crate) const CASES: [Case; 97] = [
         ],
         Some((6, "/EntityType/2/Property/2/Name")),
     ),
+];
+
+/// Names that resolve to nothing.
+pub(crate) const UNRESOLVED: [Case; 27] = [
     (
         "an unknown element type",
         &[(
@@ -317,6 +321,10 @@ pub(crate) const CASES: [Case; 97] = [
         &[(r#""EntitySet":"People""#, r#""EntitySet":"Owners""#)],
         Some((7, "/EntityContainer/AssociationSet/0/End/1/EntitySet")),
     ),
+];
+
+/// Ancestors, keys and inherited names.
+pub(crate) const TYPES: [Case; 17] = [
     (
         "a type that is its own base",
         &[(
@@ -452,6 +460,10 @@ pub(crate) const CASES: [Case; 97] = [
         ],
         Some((11, "/EntityType/2/Property/1/Name")),
     ),
+];
+
+/// Types of properties, enumerations and bounds.
+pub(crate) const KINDS: [Case; 20] = [
     (
         "a property of an unknown type",
         &[(r#""Type":"Edm.Int64""#, r#""Type":"Edm.Double""#)],
@@ -600,6 +612,10 @@ pub(crate) const CASES: [Case; 97] = [
         )],
         None,
     ),
+];
+
+/// Two neighbouring rules, in both orders of places.
+pub(crate) const NEIGHBOURS: [Case; 17] = [
     (
         "a left-out member and a name twice",
         &[

@@ -1,4 +1,4 @@
-use crate::documents::{CASES, Edit, SCHOOL};
+use crate::documents::{Case, Edit, GIVEN_TWICE, KINDS, NEIGHBOURS, SCHOOL, TYPES, UNRESOLVED};
 use crate::first_model_fault;
 use emc_base::{Bin, Txt};
 use json_form::{Doc, pointer_of};
@@ -24,12 +24,45 @@ fn told(rt: &impl Abort, alloc: Global, text: &str) -> Option<(u8, Txt)> {
     Some((fault.rule.number(), place))
 }
 
+// That just this is told of a document.
+fn tells(rt: &impl Abort, alloc: Global, (name, edits, want): Case) {
+    let text = edited(rt, alloc, edits);
+    let told = told(rt, alloc, text.as_str());
+    let got = told.as_ref().map(|(rule, place)| (*rule, place.as_str()));
+    assert_eq!(rt; got, want, "at {name}");
+}
+
 #[test]
-fn the_least_rule_is_told_at_its_first_place(rt: HostRuntime) {
-    for (name, edits, want) in CASES {
-        let text = edited(&rt, rt.alloc(), edits);
-        let told = told(&rt, rt.alloc(), text.as_str());
-        let got = told.as_ref().map(|(rule, place)| (*rule, place.as_str()));
-        assert_eq!(rt; got, want, "at {name}");
+fn tells_names_that_are_given_twice(rt: HostRuntime) {
+    for case in GIVEN_TWICE {
+        tells(&rt, rt.alloc(), case);
+    }
+}
+
+#[test]
+fn tells_names_that_resolve_to_nothing(rt: HostRuntime) {
+    for case in UNRESOLVED {
+        tells(&rt, rt.alloc(), case);
+    }
+}
+
+#[test]
+fn tells_ancestors_keys_and_inherited_names(rt: HostRuntime) {
+    for case in TYPES {
+        tells(&rt, rt.alloc(), case);
+    }
+}
+
+#[test]
+fn tells_types_of_properties_and_bounds(rt: HostRuntime) {
+    for case in KINDS {
+        tells(&rt, rt.alloc(), case);
+    }
+}
+
+#[test]
+fn tells_the_lesser_of_two_rules(rt: HostRuntime) {
+    for case in NEIGHBOURS {
+        tells(&rt, rt.alloc(), case);
     }
 }
