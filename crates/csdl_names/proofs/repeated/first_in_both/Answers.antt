@@ -1,13 +1,13 @@
 use Rattle.std.proofs.Common.{[], map, codes}
 use Rattle.csdl_names.specs.Repeated.{IsRepeatedIn}
 use Rattle.csdl_names.proofs.Known.{of_one}
-use Rattle.csdl_names.proofs.LeastFound.{both}
+use Rattle.rule_places.proofs.Rules.{least_joined}
 use Rattle.csdl_names.proofs.repeated.first_in_both.Goals as goal
 
 pub returns : goal.returns
 returns g c =
     let firsts = c.args.firsts.now in
-    both (IsRepeatedIn g.T.Named.name_in [] c.args.first.now (codes "Name") firsts)
+    least_joined (IsRepeatedIn g.T.Named.name_in [] c.args.first.now (codes "Name") firsts)
     (IsRepeatedIn g.U.Named.name_in (map g.T.Named.name_in firsts) c.args.second.now (codes "Name") c.args.seconds.now)
     c.in_ok-found.found c.in_ok-other.other c.earlier.result c.earlier.ensures c.in_ok-found.ensures
     (c.in_ok-other.ensures (map g.T.Named.name_in firsts) (of_one g.T.Named.name_in firsts _ c.in_ok-known.ensures))

@@ -1,7 +1,7 @@
 use Rattle.std.proofs.Common.{◌⊎◌, [], ◌++◌, map, codes}
 use Rattle.csdl_names.specs.Repeated.{IsRepeatedIn}
 use Rattle.csdl_names.proofs.Known.{of_one, of_two}
-use Rattle.csdl_names.proofs.LeastFound.{both}
+use Rattle.rule_places.proofs.Rules.{least_joined}
 use Rattle.csdl_names.proofs.repeated.first_in_schema.Goals as goal
 
 pub returns : goal.returns
@@ -14,8 +14,8 @@ returns c =
     let Three = IsRepeatedIn (λ enum. enum.name) (associations ++ types) (codes "EnumType") (codes "Name") model.enums in
     let first = of_one (λ association. association.name) model.associations _ c.requires.associations in
     let second = of_one (λ type. type.name) model.types _ c.requires.types in
-    both One (λ fault. Two fault ⊎ Three fault) c.in_ok-of_associations.of_associations c.earlier.result c.earlier-2.result c.earlier-2.ensures
+    least_joined One (λ fault. Two fault ⊎ Three fault) c.in_ok-of_associations.of_associations c.earlier.result c.earlier-2.result c.earlier-2.ensures
     c.in_ok-of_associations.ensures
-    (both Two Three c.in_ok-of_types.of_types c.in_ok-of_enums.of_enums c.earlier.result c.earlier.ensures
+    (least_joined Two Three c.in_ok-of_types.of_types c.in_ok-of_enums.of_enums c.earlier.result c.earlier.ensures
     (c.in_ok-of_types.ensures associations first)
     (c.in_ok-of_enums.ensures (associations ++ types) (of_two _ _ associations types first second)))

@@ -6,7 +6,7 @@ use Rattle.rule_places.specs.Places.{InList}
 use Rattle.rule_places.proofs.Seen.{least_behind}
 use Rattle.csdl_lists.specs.References.{names_in}
 use Rattle.csdl_names.specs.Unresolved.{IsUnresolvedInAssociation, IsUnresolvedInContainer, IsUnresolvedInType}
-use Rattle.csdl_names.proofs.LeastFound.{both}
+use Rattle.rule_places.proofs.Rules.{least_joined}
 use Rattle.csdl_names.proofs.unresolved.first_by_bases.Goals as goal
 
 pub returns : goal.returns
@@ -16,6 +16,6 @@ returns c =
     let Container : Fault → Type 0 = Under (Member (codes "EntityContainer")) Inside in
     let Types : Fault → Type 0 = InList (codes "EntityType") (IsUnresolvedInType (names_in model) model) model.types in
     let Associations : Fault → Type 0 = InList (codes "Association") (IsUnresolvedInAssociation (names_in model) model) model.associations in
-    both Container (λ fault. Types fault ⊎ Associations fault) c.in_ok-container.container c.earlier.result c.earlier-2.result c.earlier-2.ensures
+    least_joined Container (λ fault. Types fault ⊎ Associations fault) c.in_ok-container.container c.earlier.result c.earlier-2.result c.earlier-2.ensures
     (least_behind (Member (codes "EntityContainer")) Inside c.in_ok-inside.inside c.in_ok-container.container c.in_ok-container.ensures c.in_ok-inside.ensures)
-    (both Types Associations c.in_ok-types.types c.in_ok-associations.associations c.earlier.result c.earlier.ensures c.in_ok-types.ensures c.in_ok-associations.ensures)
+    (least_joined Types Associations c.in_ok-types.types c.in_ok-associations.associations c.earlier.result c.earlier.ensures c.in_ok-types.ensures c.in_ok-associations.ensures)

@@ -3,7 +3,7 @@ use Rattle.layouts.specs.declared.fault.Fault.{Fault}
 use Rattle.rule_places.specs.Places.{InList}
 use Rattle.csdl_lists.specs.References.{names_in}
 use Rattle.csdl_names.specs.Unresolved.{IsUnresolvedInAssociationSet, IsUnresolvedInSet}
-use Rattle.csdl_names.proofs.LeastFound.{both}
+use Rattle.rule_places.proofs.Rules.{least_joined}
 use Rattle.csdl_names.proofs.unresolved.first_in_container.Goals as goal
 
 pub returns : goal.returns
@@ -12,4 +12,4 @@ returns c =
     let container = c.args.container.now in
     let Sets : Fault → Type 0 = InList (codes "EntitySet") (IsUnresolvedInSet (names_in model) model) container.sets in
     let Associations : Fault → Type 0 = InList (codes "AssociationSet") (IsUnresolvedInAssociationSet (names_in model) model) container.association_sets in
-    both Sets Associations c.in_ok-sets.sets c.in_ok-associations.associations c.earlier.result c.earlier.ensures c.in_ok-sets.ensures c.in_ok-associations.ensures
+    least_joined Sets Associations c.in_ok-sets.sets c.in_ok-associations.associations c.earlier.result c.earlier.ensures c.in_ok-sets.ensures c.in_ok-associations.ensures

@@ -3,11 +3,11 @@ use Rattle.layouts.specs.declared.fault.Fault.{Fault}
 use Rattle.rule_places.specs.Places.{InList}
 use Rattle.csdl_lists.specs.References.{names_in}
 use Rattle.csdl_names.specs.Unresolved.{IsUnresolvedProp}
-use Rattle.csdl_names.proofs.LeastFound.{at_some}
+use Rattle.rule_places.proofs.Rules.{least_where_some}
 use Rattle.csdl_names.proofs.unresolved.first_in_key.Goals as goal
 
 pub returns : goal.returns
 returns c =
     let model = c.args.lookups.now.model.now in
     let Q : List (List ℕ) → Fault → Type 0 = λ names. InList (codes "Key") (IsUnresolvedProp (names_in model) model c.args.ty) names in
-    at_some c.args.key.now Q c.in-Some.names c.in_ok-found.found c.in-Some.is c.in_ok-found.ensures
+    least_where_some Q c.args.key.now c.in-Some.names c.in_ok-found.found c.in-Some.is c.in_ok-found.ensures

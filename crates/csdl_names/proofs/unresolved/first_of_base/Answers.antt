@@ -2,12 +2,13 @@ use Rattle.std.proofs.Common.{ℕ, List, codes}
 use Rattle.layouts.specs.declared.fault.Fault.{Fault}
 use Rattle.csdl_lists.specs.References.{names_in}
 use Rattle.csdl_names.specs.Unresolved.{NamesNothing}
-use Rattle.csdl_names.proofs.LeastFound.{at_some, names_nothing}
+use Rattle.rule_places.proofs.Rules.{least_where_some}
+use Rattle.csdl_names.proofs.LeastFound.{names_nothing}
 use Rattle.csdl_names.proofs.unresolved.first_of_base.Goals as goal
 
 pub returns : goal.returns
 returns c =
     let names = names_in c.args.lookups.now.model.now in
     let Q : List ℕ → Fault → Type 0 = λ reference. NamesNothing (names.type_named reference) (codes "BaseType") in
-    at_some c.args.base.now Q c.in-Some.base c.in_ok-found.found c.in-Some.is
+    least_where_some Q c.args.base.now c.in-Some.base c.in_ok-found.found c.in-Some.is
     (names_nothing c.type_named-named.result (names.type_named c.in-Some.base) (codes "BaseType") c.in_ok-found.found c.type_named-named.ensures c.in_ok-found.ensures)

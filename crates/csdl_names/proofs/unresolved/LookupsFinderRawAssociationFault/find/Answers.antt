@@ -7,7 +7,8 @@ use Rattle.rule_places.proofs.Seen.{least_behind}
 use Rattle.csdl_lists.specs.declared.raw.RawConstraint.{RawConstraint}
 use Rattle.csdl_lists.specs.References.{names_in}
 use Rattle.csdl_names.specs.Unresolved.{IsUnresolvedInConstraint, IsUnresolvedInEnd}
-use Rattle.csdl_names.proofs.LeastFound.{at_none, at_some, both, first_only, none_of}
+use Rattle.rule_places.proofs.Rules.{least_joined, least_where_some}
+use Rattle.csdl_names.proofs.LeastFound.{at_none, first_only, none_of}
 use Rattle.csdl_names.proofs.unresolved.LookupsFinderRawAssociationFault.find.Goals as goal
 
 pub returns-in_default : goal.returns-in_default
@@ -26,7 +27,7 @@ returns c =
     let Ends : Fault → Type 0 = InList (codes "End") (IsUnresolvedInEnd (names_in model) model) association.ends in
     let Inside : RawConstraint → Fault → Type 0 = IsUnresolvedInConstraint (names_in model) model association in
     let Constraint : RawConstraint → Fault → Type 0 = λ constraint. Under (Member (codes "ReferentialConstraint")) (Inside constraint) in
-    both Ends (λ fault. MatchOption association.constraint ⊥ (λ constraint. Constraint constraint fault)) c.in_ok-ends.ends c.in_ok-seen.seen c.earlier.result c.earlier.ensures
+    least_joined Ends (λ fault. MatchOption association.constraint ⊥ (λ constraint. Constraint constraint fault)) c.in_ok-ends.ends c.in_ok-seen.seen c.earlier.result c.earlier.ensures
     c.in_ok-ends.ensures
-    (at_some association.constraint Constraint c.in-Some.constraint c.in_ok-seen.seen c.in-Some.is
+    (least_where_some Constraint association.constraint c.in-Some.constraint c.in_ok-seen.seen c.in-Some.is
     (least_behind (Member (codes "ReferentialConstraint")) (Inside c.in-Some.constraint) c.in_ok-inside.inside c.in_ok-seen.seen c.in_ok-seen.ensures c.in_ok-inside.ensures))

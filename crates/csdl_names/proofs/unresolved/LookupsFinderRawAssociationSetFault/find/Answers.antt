@@ -3,7 +3,8 @@ use Rattle.layouts.specs.declared.fault.Fault.{Fault}
 use Rattle.rule_places.specs.Places.{InList}
 use Rattle.csdl_lists.specs.References.{names_in}
 use Rattle.csdl_names.specs.Unresolved.{IsUnresolvedInSetEnd, NamesNothing}
-use Rattle.csdl_names.proofs.LeastFound.{both, names_nothing}
+use Rattle.rule_places.proofs.Rules.{least_joined}
+use Rattle.csdl_names.proofs.LeastFound.{names_nothing}
 use Rattle.csdl_names.proofs.unresolved.LookupsFinderRawAssociationSetFault.find.Goals as goal
 
 pub returns : goal.returns
@@ -12,7 +13,7 @@ returns c =
     let set = c.args.item.now in
     let Association : Fault → Type 0 = NamesNothing ((names_in model).association_named set.association) (codes "Association") in
     let Ends : Fault → Type 0 = InList (codes "End") (IsUnresolvedInSetEnd (names_in model) model set) set.ends in
-    both Association Ends c.in_ok-association.association c.in_ok-ends.ends c.earlier.result c.earlier.ensures
+    least_joined Association Ends c.in_ok-association.association c.in_ok-ends.ends c.earlier.result c.earlier.ensures
     (names_nothing c.association_named-named.result ((names_in model).association_named set.association) (codes "Association") c.in_ok-association.association
     c.association_named-named.ensures c.in_ok-association.ensures)
     c.in_ok-ends.ensures

@@ -5,7 +5,8 @@ use Rattle.layouts.specs.declared.rule.Rule.TheVariants.{Resolves}
 use Rattle.rule_places.specs.Places.{IsAt}
 use Rattle.csdl_lists.specs.References.{names_in}
 use Rattle.csdl_names.specs.Unresolved.{LacksRole, NamesNothing}
-use Rattle.csdl_names.proofs.LeastFound.{both, names_nothing}
+use Rattle.rule_places.proofs.Rules.{least_joined}
+use Rattle.csdl_names.proofs.LeastFound.{names_nothing}
 use Rattle.csdl_names.proofs.unresolved.LookupsFinderRawNavFault.find.Goals as goal
 
 pub returns : goal.returns
@@ -15,7 +16,7 @@ returns c =
     let Association : Fault → Type 0 = NamesNothing ((names_in model).association_named nav.relationship) (codes "Relationship") in
     let From : Fault → Type 0 = λ fault. LacksRole (names_in model) model nav.relationship nav.from_role × IsAt Resolves (Member (codes "FromRole") ∷ []) fault in
     let To : Fault → Type 0 = λ fault. LacksRole (names_in model) model nav.relationship nav.to_role × IsAt Resolves (Member (codes "ToRole") ∷ []) fault in
-    both Association (λ fault. From fault ⊎ To fault) c.in_ok-association.association c.earlier.result c.earlier-2.result c.earlier-2.ensures
+    least_joined Association (λ fault. From fault ⊎ To fault) c.in_ok-association.association c.earlier.result c.earlier-2.result c.earlier-2.ensures
     (names_nothing c.association_named-named.result ((names_in model).association_named nav.relationship) (codes "Relationship") c.in_ok-association.association
     c.association_named-named.ensures c.in_ok-association.ensures)
-    (both From To c.in_ok-from.from c.in_ok-to.to c.earlier.result c.earlier.ensures c.in_ok-from.ensures c.in_ok-to.ensures)
+    (least_joined From To c.in_ok-from.from c.in_ok-to.to c.earlier.result c.earlier.ensures c.in_ok-from.ensures c.in_ok-to.ensures)

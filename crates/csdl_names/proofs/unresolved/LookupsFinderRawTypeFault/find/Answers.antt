@@ -3,7 +3,7 @@ use Rattle.layouts.specs.declared.fault.Fault.{Fault}
 use Rattle.rule_places.specs.Places.{InList}
 use Rattle.csdl_lists.specs.References.{names_in}
 use Rattle.csdl_names.specs.Unresolved.{IsUnresolvedBase, IsUnresolvedInKey, IsUnresolvedInNav}
-use Rattle.csdl_names.proofs.LeastFound.{both}
+use Rattle.rule_places.proofs.Rules.{least_joined}
 use Rattle.csdl_names.proofs.unresolved.LookupsFinderRawTypeFault.find.Goals as goal
 
 pub returns : goal.returns
@@ -13,5 +13,5 @@ returns c =
     let Base : Fault → Type 0 = IsUnresolvedBase (names_in model) model type.base in
     let Key : Fault → Type 0 = IsUnresolvedInKey (names_in model) model c.args.place type.key in
     let Navs : Fault → Type 0 = InList (codes "NavigationProperty") (IsUnresolvedInNav (names_in model) model) type.navs in
-    both Base (λ fault. Key fault ⊎ Navs fault) c.in_ok-base.base c.earlier.result c.earlier-2.result c.earlier-2.ensures c.in_ok-base.ensures
-    (both Key Navs c.in_ok-key.key c.in_ok-navs.navs c.earlier.result c.earlier.ensures c.in_ok-key.ensures c.in_ok-navs.ensures)
+    least_joined Base (λ fault. Key fault ⊎ Navs fault) c.in_ok-base.base c.earlier.result c.earlier-2.result c.earlier-2.ensures c.in_ok-base.ensures
+    (least_joined Key Navs c.in_ok-key.key c.in_ok-navs.navs c.earlier.result c.earlier.ensures c.in_ok-key.ensures c.in_ok-navs.ensures)

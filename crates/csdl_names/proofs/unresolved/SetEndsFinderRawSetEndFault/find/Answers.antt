@@ -5,7 +5,8 @@ use Rattle.layouts.specs.declared.rule.Rule.TheVariants.{Resolves}
 use Rattle.rule_places.specs.Places.{IsAt}
 use Rattle.csdl_lists.specs.References.{names_in}
 use Rattle.csdl_names.specs.Unresolved.{LacksRole, NamesNothing}
-use Rattle.csdl_names.proofs.LeastFound.{both, names_nothing}
+use Rattle.rule_places.proofs.Rules.{least_joined}
+use Rattle.csdl_names.proofs.LeastFound.{names_nothing}
 use Rattle.csdl_names.proofs.unresolved.SetEndsFinderRawSetEndFault.find.Goals as goal
 
 pub returns : goal.returns
@@ -14,5 +15,5 @@ returns c =
     let end = c.args.item.now in
     let Role : Fault → Type 0 = λ fault. LacksRole (names_in model) model c.args.self.now.set.now.association end.role × IsAt Resolves (Member (codes "Role") ∷ []) fault in
     let Set : Fault → Type 0 = NamesNothing ((names_in model).set_named end.set) (codes "EntitySet") in
-    both Role Set c.in_ok-role.role c.in_ok-set.set c.earlier.result c.earlier.ensures c.in_ok-role.ensures
+    least_joined Role Set c.in_ok-role.role c.in_ok-set.set c.earlier.result c.earlier.ensures c.in_ok-role.ensures
     (names_nothing c.set_named-named.result ((names_in model).set_named end.set) (codes "EntitySet") c.in_ok-set.set c.set_named-named.ensures c.in_ok-set.ensures)
