@@ -1,5 +1,5 @@
--- Members of lists with no repeats, and what stands first.
-use Rattle.std.proofs.Common.{◌≡◌, ◌≢◌, ◌⊎◌, ⊎_elim, inl, inr, ℕ, zero, suc, ◌<◌, ◌≤◌, Bool, true, false, cond, nat_lt, ltb-false, List, [], ◌∷◌, ◌++◌, append_assoc, append-nil, length, reverse, take, drop, position, AllPairs, Contains, Some, None, refl, sym, ap, subst, ◌∙◌, arith}
+-- Members of lists, of their images, and of lists with no repeats; and what stands first.
+use Rattle.std.proofs.Common.{◌≡◌, ◌≢◌, ◌⊎◌, ⊎_elim, inl, inr, ℕ, zero, suc, ◌<◌, ◌≤◌, Bool, true, false, cond, nat_lt, ltb-false, List, [], ◌∷◌, ◌++◌, append_assoc, append-nil, length, map, reverse, take, drop, position, AllPairs, Contains, Some, None, refl, sym, ap, subst, ◌∙◌, arith}
 use Rattle.std.specs.List.{position_or_len}
 use Rattle.std.proofs.lemmas.Grind.{reverse_onto}
 use Rattle.std.proofs.lemmas.List.{reverse-reverse, take-append-drop}
@@ -65,6 +65,15 @@ module _ {X : Type 0} where
       (λ (last : (k ≡ length xs) × (y ≡ x)). inr (ap suc last.0, last.1))
       (at_push_cases xs x k y is)
 
+  pub at_push_old : (xs : List X) (x : X) (k : ℕ) (y : X) → At xs k y → At (xs ++ x ∷ []) k y
+  at_push_old [] x k y is = absurd cc
+  at_push_old (z ∷ xs) x zero y is = is
+  at_push_old (z ∷ xs) x (suc k) y is = at_push_old xs x k y is
+
+  pub at_push_last : (xs : List X) (x : X) → At (xs ++ x ∷ []) (length xs) x
+  at_push_last [] x = refl
+  at_push_last (z ∷ xs) x = at_push_last xs x
+
   -- two lists with no repeats and no common item, the second the other way round
   pub apart_reversed : (xs ys : List X) → ((x : X) → Contains ys x → ¬ Contains xs x) → AllPairs (λ a b. a ≢ b) ys → AllPairs (λ a b. a ≢ b) xs
       → AllPairs (λ a b. a ≢ b) (xs ++ reverse ys)
@@ -79,3 +88,12 @@ module _ {X : Type 0} where
           (λ (first : Contains xs y). other y (contains_head y ys) first)
           (λ (later : Contains (reverse ys) y). apart_head y ys once (contains_reversed ys y later))
           (Contains-append_cases xs (reverse ys) y has)
+
+module _ {X Y : Type 0} where
+  -- what stands among the images is the image of a member
+  pub in_map : (f : X → Y) (xs : List X) (y : Y) → Contains (map f xs) y → (x : X) × Contains xs x × (f x ≡ y)
+  in_map f [] y has = absurd (contains_nil y has)
+  in_map f (x ∷ xs) y has = ⊎_elim
+      (λ (same : y ≡ f x). (x, contains_head x xs, sym same))
+      (λ (later : Contains (map f xs) y). let found = in_map f xs y later in (found.0, contains_tail x xs found.0 found.1, found.2))
+      (contains_cons_cases (f x) (map f xs) y has)

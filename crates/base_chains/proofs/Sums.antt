@@ -1,20 +1,19 @@
 -- Sums along chains, one place further in an order in which each type follows its base.
-use Rattle.std.proofs.Common.{◌≡◌, ◌≢◌, ⊎_elim, ℕ, ◌+◌, ◌*◌, ◌<◌, ◌≤◌, List, [], ◌∷◌, length, replicate, set, map, slice_index, sum_by, Contains, Option, Some, None, length-set, get_or-set_same, get_or-set_other, refl, sym, ap, subst, zero-add, ◌∙◌, arith}
+use Rattle.std.proofs.Common.{◌≡◌, ◌≢◌, ⊎_elim, ℕ, ◌+◌, ◌*◌, ◌<◌, ◌≤◌, List, [], ◌∷◌, length, replicate, set, map, slice_index, sum_by, Contains, Option, Some, None, get_or-set_same, get_or-set_other, refl, sym, ap, subst, ◌∙◌, arith}
 use Rattle.std.specs.List.{range_with_len}
 use Rattle.std.specs.Option.{option_map_or}
 use Rattle.std.proofs.lemmas.Bool.{cases_eq}
-use Rattle.std.proofs.lemmas.List.{get_or_default, get_or-replicate, same_lists}
+use Rattle.std.proofs.lemmas.List.{get_or-replicate}
 use Rattle.std.proofs.lemmas.List.Elements.{All-contains}
-use Rattle.std.proofs.lemmas.List.FromFn.{get_or-map-range_with_len, length-map-range_with_len}
 use Rattle.std.proofs.lemmas.List.Sums.{sum_by_push, sum_by-cons}
 use Rattle.emc_base.specs.Lists.{At}
-use Rattle.emc_base.proofs.Lists.{at_once}
 use Rattle.emc_base.proofs.Mapped.{contains_at}
 use Rattle.base_chains.specs.Chains.{IsAncestor, StaysWithin, chain, chain_size}
 use Rattle.base_chains.specs.Walks.{IsBasesFirst}
 use Rattle.base_chains.proofs.Chains.{Ends, chain_root, chain_step, closed_ancestors, in_chain}
+use Rattle.base_chains.proofs.Filled.{Is, IsFilled, filled_all, filled_more, made_base, map_of_each}
 use Rattle.base_chains.proofs.Members.{contains_head, contains_tail}
-use Rattle.base_chains.proofs.Orders.{earlier_place, ends_by_order, place_of_member}
+use Rattle.base_chains.proofs.Orders.{ends_by_order}
 
 -- where each counts as one, a sum is a length
 sum_of_ones : (f : ℕ → ℕ) (xs : List ℕ) → ((x : ℕ) → Contains xs x → f x ≡ 1) → sum_by f xs ≡ length xs
@@ -47,20 +46,11 @@ module _ (base : ℕ → Option ℕ) (count : ℕ) (own : List ℕ) where
 
   -- the sizes of the first places of an order are made, and none is great
   pub record IsSizing (order : List ℕ) (n : ℕ) (sizes : List ℕ) : Type 0 where
-    pub size : length sizes ≡ count
-    pub made : (m i : ℕ) → m < n → At order m i → slice_index sizes i ≡ chain_size base count own i
+    pub filled : IsFilled (Is (chain_size base count own)) count order n sizes
     pub few : (i : ℕ) → slice_index sizes i ≤ n * 4294967295
 
   module _ (order : List ℕ) (based : IsBasesFirst base count order) (within : StaysWithin base count) (n : ℕ) (sizes : List ℕ) (sizing : IsSizing order n sizes) where
-    -- the size of a base was made before
-    made_above : (i : ℕ) → At order n i → option_map_or (slice_index sizes) (base i) 0 ≡ option_map_or (chain_size base count own) (base i) 0
-    made_above i here = by (base i) refl
-      where
-        by : (o : Option ℕ) → base i ≡ o → option_map_or (slice_index sizes) o 0 ≡ option_map_or (chain_size base count own) o 0
-        by None is = refl
-        by (Some j) is = let next = earlier_place order n j (based.before n i j here is) in sizing.made next.0 j next.1 next.2
-
-    -- and isn't great
+    -- the size of a base isn't great
     pub few_above : (place : Option ℕ) → option_map_or (slice_index sizes) place 0 ≤ n * 4294967295
     few_above None = omega arith
     few_above (Some j) = sizing.few j
@@ -69,11 +59,9 @@ module _ (base : ℕ → Option ℕ) (count : ℕ) (own : List ℕ) where
     pub sizing_more : (i size : ℕ) → At order n i → slice_index own i ≤ 4294967295
         → size ≡ option_map_or (slice_index sizes) (base i) 0 + slice_index own i → IsSizing order (n + 1) (set sizes i size)
     sizing_more i size here small is = record {
-      size = length-set sizes i size ∙ sizing.size;
-      made = λ m x below at. ⊎_elim
-          (λ (same : x ≡ i). let P : ℕ → Type 0 = λ y. slice_index (set sizes i size) y ≡ chain_size base count own y in subst P (sym same) now)
-          (λ (other : x ≢ i). get_or-set_other sizes i x size 0 other ∙ sizing.made m x (before m x below at other) at)
-          (cases_eq x i);
+      filled = filled_more (Is (chain_size base count own)) count base order based n sizes sizing.filled i size here
+          (is ∙ ap (λ upper. upper + slice_index own i) (made_base (chain_size base count own) base count order based n sizes sizing.filled i 0 here)
+          ∙ sym (size_step i (ends_by_order base count order based within i inside)));
       few = λ x. ⊎_elim
           (λ (same : x ≡ i). let P : ℕ → Type 0 = λ y. slice_index (set sizes i size) y ≤ (n + 1) * 4294967295 in subst P (sym same) few_now)
           (λ (other : x ≢ i).
@@ -86,30 +74,14 @@ module _ (base : ℕ → Option ℕ) (count : ℕ) (own : List ℕ) where
         inside : i < count
         inside = All-contains (λ j. j < count) order i based.within (contains_at order n i here)
 
-        written : slice_index (set sizes i size) i ≡ size
-        written = let within_sizes : i < length sizes = let same : length sizes ≡ count = sizing.size in let below : i < count = inside in omega arith in
-            get_or-set_same sizes i size 0 within_sizes
-
-        now : slice_index (set sizes i size) i ≡ chain_size base count own i
-        now = written ∙ is ∙ ap (λ upper. upper + slice_index own i) (made_above i here) ∙ sym (size_step i (ends_by_order base count order based within i inside))
-
         few_now : slice_index (set sizes i size) i ≤ (n + 1) * 4294967295
-        few_now = let few : option_map_or (slice_index sizes) (base i) 0 ≤ n * 4294967295 = few_above (base i) in omega (arith, written, is, few, small)
-
-        before : (m x : ℕ) → m < n + 1 → At order m x → x ≢ i → m < n
-        before m x below at other = ⊎_elim
-            (λ (last : m ≡ n). let P : ℕ → Type 0 = λ k. At order k x in absurd (other (at_once order n x i (subst P last at) here)))
-            (λ (earlier : m ≢ n). omega arith)
-            (cases_eq m n)
+        few_now =
+            let within_sizes : i < length sizes = let same : length sizes ≡ count = sizing.filled.size in let below : i < count = inside in omega arith in
+            let written : slice_index (set sizes i size) i ≡ size = get_or-set_same sizes i size 0 within_sizes in
+            let few : option_map_or (slice_index sizes) (base i) 0 ≤ n * 4294967295 = few_above (base i) in
+            omega (arith, written, is, few, small)
 
     -- after the last place
     pub sizing_all : length order ≤ n → sizes ≡ map (chain_size base count own) (range_with_len 0 count)
-    sizing_all end = same_lists sizes (map (chain_size base count own) (range_with_len 0 count))
-        (sizing.size ∙ sym (length-map-range_with_len (chain_size base count own) 0 count))
-        (λ k d k_in.
-        let inside : k < count = subst (λ len. k < len) sizing.size k_in in
-        let has = based.each k inside in
-        let passed : has.0 < length order = has.1 in
-        get_or_default sizes k d 0 k_in
-        ∙ sizing.made has.0 k (omega arith) (place_of_member order k has)
-        ∙ sym (get_or-map-range_with_len (chain_size base count own) 0 count k k d inside (zero-add k)))
+    sizing_all end = map_of_each (chain_size base count own) count sizes sizing.filled.size
+        (filled_all (Is (chain_size base count own)) count base order based n sizes sizing.filled end)

@@ -1,10 +1,10 @@
-ghost use Rattle.std.specs.Prelude.{◌≡◌, ◌↔◌, length, Contains, IfOk, ℕ};
-ghost use Rattle.base_chains.specs.Chains.{base_at, IsAncestor, StaysWithin};
+ghost use Rattle.std.specs.Prelude.{◌≡◌, length, IfOk, ℕ};
+ghost use Rattle.base_chains.specs.Chains.{base_at, IsAncestor, StandAbove, StaysWithin};
 
 use emc_base::Memory;
 use std::alloc::Global;
 
-/// The places that stand above one, from its base up to the root. None may stand above itself. `Memory` comes where memory ran out.
+/// The places that stand above one, each once, from its base up to the root. None may stand above itself. `Memory` comes where memory ran out.
 pub fn places_above(
     alloc: Global,
     bases: &[Option<usize>],
@@ -12,7 +12,7 @@ pub fn places_above(
 ) -> Result<Vec<usize>, Memory>
     requires within { StaysWithin (base_at bases.now) (length bases.now) }
     requires rooted { (i : ℕ) → ¬ IsAncestor (base_at bases.now) i i }
-    ensures { IfOk result (λ above. (i : ℕ) → (Contains above.items i ↔ IsAncestor (base_at bases.now) place i)) }
+    ensures { IfOk result (λ above. StandAbove (base_at bases.now) place above.items) }
 {
     let mut above = Vec::new(alloc);
     let mut next = base_at(bases, place);

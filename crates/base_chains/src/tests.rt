@@ -1,4 +1,6 @@
-use crate::{Walk, chain_sizes, places_above, stay_within, walk_bases};
+use crate::{
+    Ancestry, Walk, chain_roots, chain_sizes, marked_below, places_above, stay_within, walk_bases,
+};
 use std::test::Fail;
 
 #[test]
@@ -24,5 +26,51 @@ fn the_first_type_on_a_cycle_is_told(rt: HostRuntime) -> Result<(), Fail> {
     assert!(rt; stay_within(&bases));
     assert!(rt; matches!(walk_bases(rt.alloc(), &bases)?, Walk::Cycle(1)));
     assert!(rt; !stay_within(&[Some(1)]));
+    Ok(())
+}
+
+#[test]
+fn roots_and_marks_are_told(rt: HostRuntime) -> Result<(), Fail> {
+    // 2 stands below 1, 0 and 3 below 2, and 4 alone.
+    let bases = [Some(2), None, Some(1), Some(2), None];
+    assert!(rt; stay_within(&bases));
+    let Walk::Order(order) = walk_bases(rt.alloc(), &bases)? else {
+        return Err("a cycle".into());
+    };
+    let roots = chain_roots(rt.alloc(), &bases, order.as_slice())?;
+    assert_eq!(rt; roots.as_slice(), [1usize, 1, 1, 1, 4].as_slice());
+    let marks = [false, false, false, true, false];
+    let told = marked_below(rt.alloc(), &bases, order.as_slice(), &marks)?;
+    assert_eq!(rt;
+        told.as_slice(),
+        [false, true, true, true, false].as_slice()
+    );
+    Ok(())
+}
+
+#[test]
+fn what_stands_above_is_told(rt: HostRuntime) -> Result<(), Fail> {
+    // Four below one another, 3 the root; 4 has the base 2, and 5 stands alone.
+    let bases = [Some(1), Some(2), Some(3), None, Some(2), None];
+    assert!(rt; stay_within(&bases));
+    let Walk::Order(order) = walk_bases(rt.alloc(), &bases)? else {
+        return Err("a cycle".into());
+    };
+    let ancestry = Ancestry::of(rt.alloc(), &bases, order.as_slice())?;
+    for (lower, upper, expected) in [
+        (0, 0, true),
+        (0, 1, true),
+        (0, 3, true),
+        (3, 0, false),
+        (4, 2, true),
+        (4, 1, false),
+        (1, 4, false),
+        (4, 3, true),
+        (0, 5, false),
+        (5, 5, true),
+    ] {
+        assert!(rt; lower < bases.len() && upper < bases.len());
+        assert_eq!(rt; ancestry.is_up_from(lower, upper), expected);
+    }
     Ok(())
 }

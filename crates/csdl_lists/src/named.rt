@@ -1,5 +1,6 @@
 use crate::raw::{
-    RawAssociation, RawAssociationSet, RawEnd, RawEnum, RawMember, RawNav, RawProp, RawSet, RawType,
+    RawAssociation, RawAssociationSet, RawEnd, RawEnum, RawMember, RawNav, RawProp, RawSet,
+    RawSetEnd, RawType,
 };
 use emc_base::Txt;
 use name_places::Named;
@@ -54,6 +55,15 @@ impl Named for RawAssociation {
 
 /// An end goes by its role.
 impl Named for RawEnd {
+    ghost name_in = { λ end. end.role };
+
+    fn name(&self) -> &Txt {
+        &self.role
+    }
+}
+
+/// An end of an association set goes by its role.
+impl Named for RawSetEnd {
     ghost name_in = { λ end. end.role };
 
     fn name(&self) -> &Txt {

@@ -8,7 +8,8 @@ use Rattle.std.proofs.lemmas.Option.{same_Some, slice_get_within}
 use Rattle.emc_base.specs.Lists.{At}
 use Rattle.edm_types.specs.IsA.{same, base, chain}
 use Rattle.round_trip.specs.Words.{EntityModel, EntityType, TypeId, HasBase, IsA}
-use Rattle.soundness.specs.Inheritance.{HasNoCircle, type_numbered}
+use Rattle.edm_types.specs.Forest.{type_numbered}
+use Rattle.soundness.specs.Inheritance.{HasNoCircle}
 use Rattle.soundness.specs.Lookups.{IsAncestor as IsAbove}
 use Rattle.base_chains.specs.Chains.{IsAncestor, direct, further, StaysWithin}
 use Rattle.base_chains.proofs.Chains.{Ends, above_above, chain_root, chain_step, ends}

@@ -8,14 +8,16 @@ use Rattle.std.proofs.lemmas.Option.{slice_get_within}
 use Rattle.emc_base.specs.Lists.{At}
 use Rattle.emc_base.proofs.Lists.{all_from_members, item_at}
 use Rattle.round_trip.specs.Words.{EntityModel, EntityType, PropId}
-use Rattle.soundness.specs.Inheritance.{prop_numbered, type_numbered}
+use Rattle.edm_types.specs.Forest.{type_numbered}
+use Rattle.soundness.specs.Inheritance.{prop_numbered}
 use Rattle.soundness.specs.ModelIds.{IsPropId, IsTypeId}
+use Rattle.base_chains.proofs.Members.{in_map}
 use Rattle.csdl_lists.specs.declared.raw.RawModel.{RawModel}
 use Rattle.csdl_lists.specs.declared.raw.RawType.{RawType}
 use Rattle.csdl_meaning.specs.Meaning.{IsMeant, base_in, chain_in, declared_before, declared_by, own_key, own_props, prop_of, props_in, type_of}
 use Rattle.csdl_meaning.proofs.Bases.{base_inside, raw_at, type_at}
 use Rattle.csdl_meaning.proofs.Keys.{key_named, named_own}
-use Rattle.csdl_meaning.proofs.Lists.{all_from_places, in_flat_map, in_map}
+use Rattle.csdl_meaning.proofs.Lists.{all_from_places, in_flat_map}
 use Rattle.csdl_meaning.proofs.Props.{of_each_prop, prop_at}
 
 -- a number of a range

@@ -1,9 +1,8 @@
 -- What V6 and V7 give of types, where they are kept.
 use Rattle.std.proofs.Common.{◌≡◌, inl, inr, ℕ, List, [], ◌∷◌, map, Contains, Option, Some, None, codes, refl, sym, ap, subst, ◌∙◌}
 use Rattle.std.specs.Option.{MatchOption, option_and_then}
-use Rattle.emc_base.specs.Lists.{At}
+use Rattle.emc_base.specs.Lists.{At, AreApart}
 use Rattle.emc_base.proofs.Mapped.{contains_at}
-use Rattle.soundness.specs.Lists.{AreApart}
 use Rattle.base_chains.proofs.Orders.{place_of_member}
 use Rattle.json_form.specs.declared.pointer.Step.TheVariants.{Item, Member}
 use Rattle.layouts.specs.declared.fault.Fault.{Fault}
@@ -22,7 +21,7 @@ use Rattle.csdl_meaning.proofs.FaultPlaces.{fault_at, in_list}
 use Rattle.csdl_meaning.proofs.Names.{member_names, members_apart}
 
 -- a name is given again
-repeated_in : {X : Type 0} (name_in : X → List ℕ) (others : List (List ℕ)) (member last : List ℕ) (items : List X) (i : ℕ) (item : X)
+pub repeated_in : {X : Type 0} (name_in : X → List ℕ) (others : List (List ℕ)) (member last : List ℕ) (items : List X) (i : ℕ) (item : X)
     → At items i item → IsGivenAgain name_in others items i item
     → IsRepeatedIn name_in others member last items (fault_at NamedOnce (Member member ∷ Item i ∷ Member last ∷ []))
 repeated_in name_in others member last items i item here given =

@@ -12,7 +12,7 @@ use Rattle.layouts.specs.declared.rule.Rule.TheVariants.{Ancestors, Bound, Inher
 use Rattle.rule_places.specs.Places.{InList}
 use Rattle.soundness.specs.Kinds.{IsKeyKind, IsSoundKind}
 use Rattle.base_chains.specs.Chains.{IsAncestor}
-use Rattle.base_chains.proofs.Members.{contains_nil}
+use Rattle.base_chains.proofs.Members.{contains_nil, in_map}
 use Rattle.base_chains.proofs.Orders.{place_of_member}
 use Rattle.csdl_lists.specs.declared.raw.RawEnum.{RawEnum}
 use Rattle.csdl_lists.specs.declared.raw.RawModel.{RawModel}
@@ -32,7 +32,7 @@ use Rattle.csdl_meaning.specs.Meaning.{base_in}
 use Rattle.csdl_meaning.proofs.Bases.{above_inside}
 use Rattle.csdl_meaning.proofs.FaultPlaces.{fault_at, in_list}
 use Rattle.csdl_meaning.proofs.Keys.{key_names}
-use Rattle.csdl_meaning.proofs.Lists.{all_from_places, in_map}
+use Rattle.csdl_meaning.proofs.Lists.{all_from_places}
 use Rattle.csdl_meaning.proofs.Names.{member_names}
 use Rattle.csdl_meaning.proofs.SoundKinds.{key_kind, sound_enum}
 

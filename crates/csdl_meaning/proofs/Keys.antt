@@ -4,13 +4,13 @@ use Rattle.std.specs.List.{filter_map, flat_map}
 use Rattle.std.specs.Option.{MatchOption, option_and_then, option_map_or, unwrap_or}
 use Rattle.std.proofs.lemmas.List.FromFn.{get_or-map-range_with_len, length-map-range_with_len}
 use Rattle.std.proofs.lemmas.Option.{same_Some, slice_get_within}
-use Rattle.emc_base.specs.Lists.{At}
+use Rattle.emc_base.specs.Lists.{At, AreApart}
 use Rattle.emc_base.proofs.Lists.{all_from_members}
 use Rattle.emc_base.proofs.Mapped.{contains_at}
 use Rattle.round_trip.specs.Words.{EntityModel, EntityType, PropId, TypeId, key_props}
 use Rattle.soundness.specs.Kinds.{IsKeyKind}
-use Rattle.soundness.specs.Lists.{AreApart}
-use Rattle.soundness.specs.Inheritance.{HasInheritedKey, IsKeyProp, IsRootKey, declared_props, prop_numbered, type_numbered}
+use Rattle.edm_types.specs.Forest.{type_numbered}
+use Rattle.soundness.specs.Inheritance.{HasInheritedKey, IsKeyProp, IsRootKey, declared_props, prop_numbered}
 use Rattle.base_chains.specs.Chains.{IsAncestor}
 use Rattle.base_chains.proofs.Members.{contains_nil}
 use Rattle.base_chains.proofs.Orders.{place_of_member}
@@ -26,7 +26,7 @@ use Rattle.csdl_meaning.proofs.Lists.{found_apart, found_length, in_flat_map, in
 use Rattle.csdl_meaning.proofs.Props.{declared_in, has_at, prop_at}
 
 -- what is mapped of something found
-map_some : {X Y : Type 0} (f : X → Y) (found : Option X) (y : Y) → option_map f found ≡ Some y → (x : X) × (found ≡ Some x) × (f x ≡ y)
+pub map_some : {X Y : Type 0} (f : X → Y) (found : Option X) (y : Y) → option_map f found ≡ Some y → (x : X) × (found ≡ Some x) × (f x ≡ y)
 map_some f None y is = absurd cc
 map_some f (Some x) y is = (x, refl, same_Some (f x) y is)
 

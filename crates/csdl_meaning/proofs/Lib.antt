@@ -12,4 +12,5 @@ pub mod KeptNames
 pub mod KeptTypes
 pub mod Sound
 pub mod NoFaults
+pub mod NoTypeFaults
 pub mod SchoolKeeps

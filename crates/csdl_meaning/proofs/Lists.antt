@@ -61,14 +61,6 @@ module _ {X : Type 0} where
       (apart-append R xs ys (pairs_tail R x xs first) second (All-tail (λ z. All (R z) ys) x xs both))
 
 module _ {X Y : Type 0} where
-  -- what stands among the images is the image of a member
-  pub in_map : (f : X → Y) (xs : List X) (y : Y) → Contains (map f xs) y → (x : X) × Contains xs x × (f x ≡ y)
-  in_map f [] y has = absurd (contains_nil y has)
-  in_map f (x ∷ xs) y has = ⊎_elim
-      (λ (same : y ≡ f x). (x, contains_head x xs, sym same))
-      (λ (later : Contains (map f xs) y). let found = in_map f xs y later in (found.0, contains_tail x xs found.0 found.1, found.2))
-      (contains_cons_cases (f x) (map f xs) y has)
-
   -- what stands in one of the lists
   pub in_flat_map : (f : X → List Y) (xs : List X) (y : Y) → Contains (flat_map f xs) y → (x : X) × Contains xs x × Contains (f x) y
   in_flat_map f [] y has = absurd (contains_nil y has)

@@ -4,11 +4,10 @@ use Rattle.std.specs.List.{enumerate_from}
 use Rattle.std.specs.Option.{option_map_or}
 use Rattle.std.proofs.lemmas.Simd.{map-map}
 use Rattle.std.proofs.lemmas.List.Elements.{All-map}
-use Rattle.emc_base.specs.Lists.{At}
+use Rattle.emc_base.specs.Lists.{At, AreApart}
 use Rattle.emc_base.proofs.Lists.{all_from_members}
 use Rattle.emc_base.proofs.Mapped.{map-enumerated}
 use Rattle.round_trip.specs.Words.{EntityModel, EntityType, Prop, TypeId}
-use Rattle.soundness.specs.Lists.{AreApart}
 use Rattle.soundness.specs.ModelNames.{HasDistinctMembers, own_names}
 use Rattle.base_chains.specs.Chains.{IsAncestor}
 use Rattle.name_places.specs.GivenNames.{IsGivenBefore}

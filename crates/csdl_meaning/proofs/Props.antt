@@ -5,20 +5,21 @@ use Rattle.std.specs.Option.{option_map_or}
 use Rattle.std.proofs.lemmas.List.{length-map}
 use Rattle.std.proofs.lemmas.Option.{slice_get_within}
 use Rattle.std.proofs.lemmas.Simd.{map-map}
-use Rattle.emc_base.specs.Lists.{At}
+use Rattle.emc_base.specs.Lists.{At, places_of}
 use Rattle.emc_base.proofs.Lists.{all_from_members, item_at}
 use Rattle.emc_base.proofs.Mapped.{map-enumerated, map-filter_enumerated}
 use Rattle.round_trip.specs.Words.{EntityModel, EntityType, Prop, TypeId, props_of}
-use Rattle.soundness.specs.Inheritance.{HasInheritedProps, declared_props, prop_numbered, type_numbered}
-use Rattle.soundness.specs.Lists.{places_of}
+use Rattle.edm_types.specs.Forest.{type_numbered}
+use Rattle.soundness.specs.Inheritance.{HasInheritedProps, declared_props, prop_numbered}
 use Rattle.base_chains.specs.Chains.{IsAncestor}
+use Rattle.base_chains.proofs.Members.{in_map}
 use Rattle.csdl_lists.specs.declared.raw.RawModel.{RawModel}
 use Rattle.csdl_lists.specs.declared.raw.RawProp.{RawProp}
 use Rattle.csdl_lists.specs.declared.raw.RawType.{RawType}
 use Rattle.csdl_meaning.specs.Meaning.{IsMeant, base_in, chain_in, declared_before, declared_by, own_props, prop_of, props_in, type_of}
 use Rattle.csdl_meaning.proofs.Bases.{along_chain, base_inside, raw_at, type_at}
 use Rattle.csdl_meaning.proofs.Declared.{declared_place, is_owned, owned}
-use Rattle.csdl_meaning.proofs.Lists.{in_enumerated, in_flat_map, in_map}
+use Rattle.csdl_meaning.proofs.Lists.{in_enumerated, in_flat_map}
 
 -- the numbers of numbered items
 numbers-enumerated : {X : Type 0} (n : ℕ) (xs : List X) → map (λ (entry : ℕ × X). entry.0) (enumerate_from n xs) ≡ range_with_len n (length xs)

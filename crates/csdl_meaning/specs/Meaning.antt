@@ -1,11 +1,12 @@
--- What a CSDL document means, as far as its types and their properties go. What doesn't resolve is left out or empty, so that each document
--- means something.
--- Source: CSDL version 3, EntityType, BaseType, Key, Property and NavigationProperty.
-use Rattle.std.specs.Prelude.{◌≡◌, ℕ, ◌+◌, List, [], length, map, take, slice_get, sum_by, Option, option_map, unwrap_or}
+-- What a CSDL document means. What doesn't resolve is left out, empty or the first of its list, so that each document means something.
+-- Source: CSDL version 3, Schema, EntityType, BaseType, Key, Property, NavigationProperty, EntitySet, Association and AssociationSet.
+use Rattle.std.specs.Prelude.{◌≡◌, ◌==◌, ℕ, zero, suc, ◌+◌, List, [], length, filter, map, take, slice_get, sum_by, Option, option_map, unwrap_or, is_none, Bool, false}
 use Rattle.std.specs.List.{enumerate_from, filter_map, flat_map, range_with_len}
 use Rattle.std.specs.Option.{option_and_then, option_map_or}
-use Rattle.round_trip.specs.Words.{EntityModel, EntityType, Nav, Prop, PropId}
-use Rattle.soundness.specs.Inheritance.{prop_numbered, type_numbered}
+use Rattle.round_trip.specs.Words.{EntityModel, EntityType, Nav, Prop, PropId, TypeNode}
+use Rattle.edm_types.specs.declared.model.TypeNode.{roll-TypeNode}
+use Rattle.edm_types.specs.Forest.{type_numbered}
+use Rattle.soundness.specs.Inheritance.{prop_numbered}
 use Rattle.base_chains.specs.Chains.{chain}
 use Rattle.name_places.specs.GivenNames.{first_place}
 use Rattle.csdl_lists.specs.declared.raw.RawModel.{RawModel}
@@ -75,6 +76,30 @@ module _ (raw : RawModel) where
   -- the declared properties of all types
   abbrev pub props_in : List Prop
   props_in = flat_map (λ place. map (prop_of place.0) place.1.props) (enumerate_from 0 raw.types)
+
+  -- a type is the base type of another, and has none
+  abbrev pub is_base : ℕ → ℕ → Bool
+  is_base i j = option_map_or (λ base. base == i) (base_in j) false
+
+  abbrev pub is_top : ℕ → Bool
+  is_top i = is_none (base_in i)
+
+  -- the places of the types that pass the test, in their order
+  abbrev pub type_places : (ℕ → Bool) → List ℕ
+  type_places test = filter test (range_with_len 0 (length raw.types))
+
+  -- the type at a place is abstract
+  abbrev pub is_abstract_at : ℕ → Bool
+  is_abstract_at i = option_map_or (λ type. type.is_abstract) (slice_get raw.types i) false
+
+  -- a type with those that are derived from it, so many levels of them at most
+  abbrev pub node_upto : ℕ → ℕ → TypeNode
+  node_upto zero i = roll-TypeNode (record { id = type_numbered i; is_abstract = is_abstract_at i; children = [] })
+  node_upto (suc n) i = roll-TypeNode (record { id = type_numbered i; is_abstract = is_abstract_at i; children = map (λ j. node_upto n j) (type_places (is_base i)) })
+
+  -- the forest of the base types: a tree for each type without a base
+  abbrev pub forest_in : List TypeNode
+  forest_in = map (λ i. node_upto (length raw.types) i) (type_places is_top)
 
   -- the model has the types and the properties of the document
   pub record IsMeant (model : EntityModel) : Type 0 where

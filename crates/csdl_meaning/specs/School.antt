@@ -4,7 +4,8 @@ use Rattle.std.specs.Prelude.{ℕ, ℤ, pos, List, [], ◌∷◌, Option, Some, 
 use Rattle.emc_base.specs.declared.value.Kind.TheVariants as kind
 use Rattle.emc_base.specs.declared.value.Under.TheVariants as under
 use Rattle.round_trip.specs.Words.{EntityType, Kind, Prop}
-use Rattle.soundness.specs.Inheritance.{prop_numbered, type_numbered}
+use Rattle.edm_types.specs.Forest.{type_numbered}
+use Rattle.soundness.specs.Inheritance.{prop_numbered}
 use Rattle.csdl_lists.specs.declared.raw.RawAssociation.{RawAssociation}
 use Rattle.csdl_lists.specs.declared.raw.RawBound.{RawBound}
 use Rattle.csdl_lists.specs.declared.raw.RawBound.TheVariants.{Absent, Max, Number}

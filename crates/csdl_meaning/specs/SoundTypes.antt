@@ -4,7 +4,7 @@ use Rattle.layouts.specs.declared.fault.Fault.{Fault}
 use Rattle.round_trip.specs.Words.{EntityModel, EntityType, TypeId, At}
 use Rattle.soundness.specs.Inheritance.{HasNoCircle}
 use Rattle.soundness.specs.Kinds.{IsSoundKind}
-use Rattle.soundness.specs.Lists.{AreApart}
+use Rattle.emc_base.specs.Lists.{AreApart}
 use Rattle.soundness.specs.ModelIds.{IsPropId, IsTypeId}
 use Rattle.soundness.specs.ModelNames.{HasDistinctMembers}
 use Rattle.soundness.specs.Models.{IsSoundType}

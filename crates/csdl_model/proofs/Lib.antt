@@ -1,3 +1,5 @@
+pub mod Readings
 pub mod RepeatedRule
-pub mod UnresolvedRule
 pub mod RuleNumbers
+pub mod SoundReading
+pub mod UnresolvedRule

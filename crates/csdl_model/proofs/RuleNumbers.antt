@@ -1,19 +1,24 @@
 -- The rules of each search have greater numbers than those of the search before it.
-use Rattle.std.proofs.Common.{◌≡◌, ◌⊎◌, ⊎_elim, ℕ, ◌<◌, sym, ap, subst, arith}
+use Rattle.std.proofs.Common.{◌≡◌, ⊎_elim, ℕ, ◌<◌, ◌≤◌, sym, ap, subst, arith}
 use Rattle.std.specs.Prelude.{codes}
+use Rattle.json_form.specs.declared.pointer.Step.TheVariants.{Member}
 use Rattle.layouts.specs.declared.fault.Fault.{Fault}
 use Rattle.layouts.specs.declared.rule.Rule.{Rule}
-use Rattle.layouts.specs.declared.rule.Rule.TheVariants.{NamedOnce, Resolves, Ancestors}
+use Rattle.layouts.specs.declared.rule.Rule.TheVariants.{Arrows, ConcreteType, Constraint, DependentKey, EndRoles, EndType, Multiplicities, NamedOnce, Resolves}
 use Rattle.layouts.specs.Rules.{rule_number}
-use Rattle.rule_places.proofs.Rules.{rule_inside}
+use Rattle.rule_places.proofs.Rules.{rule_behind, rule_inside}
+use Rattle.csdl_lists.specs.declared.raw.RawContainer.{RawContainer}
 use Rattle.csdl_lists.specs.declared.raw.RawModel.{RawModel}
 use Rattle.csdl_lists.specs.References.{base_of, names_in}
 use Rattle.csdl_names.specs.Repeated.{IsRepeated}
 use Rattle.csdl_names.specs.Unresolved.{IsUnresolved}
 use Rattle.csdl_types.specs.Inherited.{IsAncestorFault}
 use Rattle.csdl_types.specs.TypeRules.{BreaksTypeRules}
-use Rattle.csdl_types.proofs.Cycles.{later_rule}
-use Rattle.csdl_model.specs.ModelFaults.{IsListFault}
+use Rattle.csdl_types.proofs.Cycles.{last_rule, later_rule}
+use Rattle.csdl_constraints.specs.Constraints.{BreaksConstraintRules, IsAssociationFault}
+use Rattle.csdl_association_sets.specs.Concrete.{IsElementFault, IsEndsFault, IsEndTypeFault}
+use Rattle.csdl_association_sets.specs.SetRules.{BreaksSetRules, IsContainerFault, IsSetFault}
+use Rattle.csdl_model.specs.ModelFaults.{BreaksAssociationRules, IsFaultAfterNames, IsFaultAfterReferences, IsListFault}
 use Rattle.csdl_model.proofs.RepeatedRule.{repeated_rule}
 use Rattle.csdl_model.proofs.UnresolvedRule.{unresolved_rule}
 
@@ -21,34 +26,73 @@ use Rattle.csdl_model.proofs.UnresolvedRule.{unresolved_rule}
 after_number : (n : ℕ) (known rule : Rule) → rule ≡ known → n < rule_number known → n < rule_number rule
 after_number n known rule is late = subst (λ (r : Rule). n < rule_number r) (sym is) late
 
-module _ (model : RawModel) (fault : Fault) where
-  -- on types: the eighth and those after it
-  type_rule : BreaksTypeRules model fault → 7 < rule_number fault.rule
-  type_rule = ⊎_elim
-      (rule_inside (λ rule. 7 < rule_number rule) (codes "EntityType") (λ i type. IsAncestorFault (base_of (names_in model) model) i) model.types
-      (λ i type inside is. after_number 7 Ancestors inside.rule is.1.0 (omega arith)) fault)
-      (λ later. let late : 8 < rule_number fault.rule = later_rule model fault later in omega arith)
+-- the rule comes after V13
+abbrev IsOfAssociations : Rule → Type 0
+IsOfAssociations rule = 13 < rule_number rule
 
-  -- on names that resolve to nothing, and on types: the seventh and those after it
-  pub later_number : IsUnresolved model fault ⊎ BreaksTypeRules model fault → 6 < rule_number fault.rule
-  later_number = ⊎_elim
-      (λ unresolved. after_number 6 Resolves fault.rule (unresolved_rule model fault unresolved) (omega arith))
-      (λ broken. let late : 7 < rule_number fault.rule = type_rule broken in omega arith)
+module _ (model : RawModel) where
+  in_container : (container : RawContainer) (fault : Fault) → IsContainerFault (names_in model) model container fault → IsOfAssociations fault.rule
+  in_container container fault = ⊎_elim
+      (rule_inside IsOfAssociations (codes "EntitySet") (IsElementFault (names_in model) model) container.sets (λ i set inside is. after_number 13 ConcreteType inside.rule is.1.0 (omega arith)) fault)
+      (rule_inside IsOfAssociations (codes "AssociationSet") (IsSetFault (names_in model) model) container.association_sets
+      (λ i set inside. ⊎_elim (λ is. after_number 13 EndRoles inside.rule is.1.0 (omega arith))
+      (⊎_elim (λ is. after_number 13 DependentKey inside.rule is.1.0 (omega arith))
+      (⊎_elim (λ is. after_number 13 Arrows inside.rule is.1.0 (omega arith)) (λ is. after_number 13 EndType inside.rule is.1.0 (omega arith)))))
+      fault)
 
-  -- on types alone, after a name that resolves to nothing
-  pub after_unresolved : (found : Fault) → IsUnresolved model found → BreaksTypeRules model fault → rule_number found.rule < rule_number fault.rule
-  after_unresolved found unresolved broken =
-      let is : rule_number found.rule ≡ 7 = ap rule_number (unresolved_rule model found unresolved) in
-      let late : 7 < rule_number fault.rule = type_rule broken in omega arith
+  of_constraints : (fault : Fault) → BreaksConstraintRules model fault → IsOfAssociations fault.rule
+  of_constraints = rule_inside IsOfAssociations (codes "Association") (IsAssociationFault (names_in model) model) model.associations
+      (λ a association inside. ⊎_elim (λ is. after_number 13 Multiplicities inside.rule is.1.0 (omega arith)) (λ is. after_number 13 Constraint inside.rule is.1.0 (omega arith)))
 
-  -- all of these after a name that is given twice
-  pub after_repeated : (found : Fault) → IsRepeated model found → IsUnresolved model fault ⊎ BreaksTypeRules model fault → rule_number found.rule < rule_number fault.rule
-  after_repeated found repeated later =
-      let is : rule_number found.rule ≡ 6 = ap rule_number (repeated_rule model found repeated) in
-      let late : 6 < rule_number fault.rule = later_number later in omega arith
+  of_sets : (fault : Fault) → BreaksSetRules model fault → IsOfAssociations fault.rule
+  of_sets fault = ⊎_elim
+      (rule_behind IsOfAssociations (Member (codes "EntityContainer")) (IsContainerFault (names_in model) model model.container) (in_container model.container) fault)
+      (rule_inside IsOfAssociations (codes "Association") (IsEndsFault (names_in model) model) model.associations
+      (λ a association inside is. rule_inside IsOfAssociations (codes "End") (IsEndTypeFault (names_in model) model) association.ends (λ k end deep holds. after_number 13 ConcreteType deep.rule holds.1.0 (omega arith)) inside is.1)
+      fault)
 
-  -- on what is written: the sixth and those after it
-  pub list_number : IsListFault model fault → 5 < rule_number fault.rule
-  list_number = ⊎_elim
-      (λ repeated. after_number 5 NamedOnce fault.rule (repeated_rule model fault repeated) (omega arith))
-      (λ later. let late : 6 < rule_number fault.rule = later_number later in omega arith)
+  module _ (fault : Fault) where
+    -- on associations and sets: the fourteenth and those after it
+    association_rule : BreaksAssociationRules model fault → 13 < rule_number fault.rule
+    association_rule = ⊎_elim (of_constraints fault) (of_sets fault)
+
+    -- on types: the eighth to the thirteenth
+    type_rule : BreaksTypeRules model fault → (7 < rule_number fault.rule) × (rule_number fault.rule ≤ 13)
+    type_rule = ⊎_elim
+        (rule_inside (λ rule. (7 < rule_number rule) × (rule_number rule ≤ 13)) (codes "EntityType") (λ i type. IsAncestorFault (base_of (names_in model) model) i) model.types
+        (λ i type inside is. let number : rule_number inside.rule ≡ 8 = ap rule_number is.1.0 in (omega (arith, number), omega (arith, number))) fault)
+        (λ later. let late : 8 < rule_number fault.rule = later_rule model fault later in (omega (arith, late), last_rule model fault later))
+
+    -- on types, associations and sets: the eighth and those after it
+    later_rule_number : IsFaultAfterReferences model fault → 7 < rule_number fault.rule
+    later_rule_number = ⊎_elim (λ is. (type_rule is).0) (λ is. let late : 13 < rule_number fault.rule = association_rule is in omega (arith, late))
+
+    -- on names that resolve to nothing, and all after them: the seventh and those after it
+    later_number : IsFaultAfterNames model fault → 6 < rule_number fault.rule
+    later_number = ⊎_elim
+        (λ unresolved. after_number 6 Resolves fault.rule (unresolved_rule model fault unresolved) (omega arith))
+        (λ later. let late : 7 < rule_number fault.rule = later_rule_number later in omega (arith, late))
+
+    -- after a name that resolves to nothing
+    pub after_unresolved : (found : Fault) → IsUnresolved model found → IsFaultAfterReferences model fault → rule_number found.rule < rule_number fault.rule
+    after_unresolved found unresolved later =
+        let is : rule_number found.rule ≡ 7 = ap rule_number (unresolved_rule model found unresolved) in
+        let late : 7 < rule_number fault.rule = later_rule_number later in omega (arith, is, late)
+
+    -- after a name that is given twice
+    pub after_repeated : (found : Fault) → IsRepeated model found → IsFaultAfterNames model fault → rule_number found.rule < rule_number fault.rule
+    after_repeated found repeated later =
+        let is : rule_number found.rule ≡ 6 = ap rule_number (repeated_rule model found repeated) in
+        let late : 6 < rule_number fault.rule = later_number later in omega (arith, is, late)
+
+    -- on what is written: the sixth and those after it
+    pub list_number : IsListFault model fault → 5 < rule_number fault.rule
+    list_number = ⊎_elim
+        (λ repeated. after_number 5 NamedOnce fault.rule (repeated_rule model fault repeated) (omega arith))
+        (λ later. let late : 6 < rule_number fault.rule = later_number later in omega (arith, late))
+
+-- on associations and sets, after a type that breaks a rule
+pub after_types : (model : RawModel) (found fault : Fault) → BreaksTypeRules model found → BreaksAssociationRules model fault → rule_number found.rule < rule_number fault.rule
+after_types model found fault broken later =
+    let few : rule_number found.rule ≤ 13 = (type_rule model found broken).1 in
+    let late : 13 < rule_number fault.rule = association_rule model fault later in omega (arith, few, late)

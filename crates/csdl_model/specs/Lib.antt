@@ -1,1 +1,2 @@
 pub mod ModelFaults
+pub mod ReadsModel

@@ -11,11 +11,24 @@ use Rattle.csdl_lists.specs.Raw.{raw_model}
 use Rattle.csdl_names.specs.Repeated.{IsRepeated}
 use Rattle.csdl_names.specs.Unresolved.{IsUnresolved}
 use Rattle.csdl_types.specs.TypeRules.{BreaksTypeRules}
+use Rattle.csdl_constraints.specs.Constraints.{BreaksConstraintRules}
+use Rattle.csdl_association_sets.specs.SetRules.{BreaksSetRules}
 
--- what is written breaks the rule at the place: a name that is given twice, a name that resolves to nothing, or a type, a property or
--- an enumeration that isn't well-formed
+-- V14 to V20: an association, a constraint, or a set that isn't well-formed
+abbrev pub BreaksAssociationRules : RawModel → Fault → Type 0
+BreaksAssociationRules model fault = BreaksConstraintRules model fault ⊎ BreaksSetRules model fault
+
+-- V8 to V20: the same, or a type, a property or an enumeration that isn't
+abbrev pub IsFaultAfterReferences : RawModel → Fault → Type 0
+IsFaultAfterReferences model fault = BreaksTypeRules model fault ⊎ BreaksAssociationRules model fault
+
+-- V7 to V20: the same, or a name that resolves to nothing
+abbrev pub IsFaultAfterNames : RawModel → Fault → Type 0
+IsFaultAfterNames model fault = IsUnresolved model fault ⊎ IsFaultAfterReferences model fault
+
+-- V6 to V20: what is written breaks the rule at the place
 abbrev pub IsListFault : RawModel → Fault → Type 0
-IsListFault model fault = IsRepeated model fault ⊎ IsUnresolved model fault ⊎ BreaksTypeRules model fault
+IsListFault model fault = IsRepeated model fault ⊎ IsFaultAfterNames model fault
 
 -- the document breaks the rule at the place: one of its layout, or one on what is written in it
 abbrev pub IsModelFault : Data → Fault → Type 0

@@ -285,9 +285,9 @@ pub(crate) const UNRESOLVED: [Case; 27] = [
         )),
     ),
     (
-        "an inherited property of a principal",
+        "an inherited property of a principal, which is derived",
         &[(r#""Type":"N.M.Person""#, r#""Type":"N.M.Teacher""#)],
-        None,
+        Some((17, "/Association/0/ReferentialConstraint")),
     ),
     (
         "a property of an end of an unknown type",
@@ -785,5 +785,587 @@ pub(crate) const NEIGHBOURS: [Case; 17] = [
             r#""Type":"nvarchar","MaxLength":0"#,
         )],
         Some((12, "/EntityType/0/Property/0/Type")),
+    ),
+];
+
+/// Classes: lessons are held in rooms and given by teachers, who have mentors. It breaks no rule.
+pub(crate) const CLASSES: &str =
+    r#"{"Namespace":"N.M","Alias":"Self","EntityContainer":{"Name":"C","EntitySet":[{"Name":"Rooms","EntityType":"N.M.Room"},{"Name":"Lessons","EntityType":"Self.Lesson"},{"Name":"People","EntityType":"N.M.Person"}],"AssociationSet":[{"Name":"HeldIn","Association":"N.M.Held","End":[{"Role":"Lesson","EntitySet":"Lessons"},{"Role":"Room","EntitySet":"Rooms"}]},{"Name":"GivenBy","Association":"Self.Given","End":[{"Role":"By","EntitySet":"People"},{"Role":"Of","EntitySet":"Lessons"}]},{"Name":"MentorOf","Association":"N.M.Mentors","End":[{"Role":"Mentor","EntitySet":"People"},{"Role":"Pupil","EntitySet":"People"}]}]},"EntityType":[{"Name":"Lab","BaseType":"N.M.Room"},{"Name":"Room","Key":["Building","Number"],"Property":[{"Name":"Building","Type":"Int32","Nullable":false},{"Name":"Number","Type":"Int16","Nullable":false}]},{"Name":"Lesson","Key":["Building","Number","Hour"],"Property":[{"Name":"Hour","Type":"Int16","Nullable":false},{"Name":"Number","Type":"Int16","Nullable":false},{"Name":"Building","Type":"Int32","Nullable":false},{"Name":"Level","Type":"N.M.Level"}]},{"Name":"Teacher","BaseType":"Self.Person","Property":[{"Name":"Mentor","Type":"Edm.Int32"},{"Name":"Rank","Type":"N.M.Level"}]},{"Name":"Person","Abstract":true,"Key":["Id"],"Property":[{"Name":"Id","Type":"Int32","Nullable":false},{"Name":"Name","Type":"String","MaxLength":20}]}],"EnumType":[{"Name":"Level","Member":[{"Name":"Low"},{"Name":"High"}]}],"Association":[{"Name":"Held","End":[{"Role":"Room","Type":"N.M.Room","Multiplicity":"1"},{"Role":"Lesson","Type":"N.M.Lesson","Multiplicity":"*"}],"ReferentialConstraint":{"Principal":{"Role":"Room","PropertyRef":["Number","Building"]},"Dependent":{"Role":"Lesson","PropertyRef":["Number","Building"]}}},{"Name":"Given","End":[{"Role":"By","Type":"Self.Teacher","Multiplicity":"0..1"},{"Role":"Of","Type":"N.M.Lesson","Multiplicity":"*"}]},{"Name":"Mentors","End":[{"Role":"Mentor","Type":"N.M.Person","Multiplicity":"0..1"},{"Role":"Pupil","Type":"N.M.Teacher","Multiplicity":"*"}],"ReferentialConstraint":{"Principal":{"Role":"Mentor","PropertyRef":["Id"]},"Dependent":{"Role":"Pupil","PropertyRef":["Mentor"]}}},{"Name":"Spare","End":[{"Role":"A","Type":"N.M.Person","Multiplicity":"1"},{"Role":"B","Type":"N.M.Person","Multiplicity":"1"}],"ReferentialConstraint":{"Principal":{"Role":"A","PropertyRef":["Id"]},"Dependent":{"Role":"A","PropertyRef":["Name"]}}}]}"#;
+
+/// Associations, constraints, and the sets at their ends.
+pub(crate) const ASSOCIATIONS: [Case; 37] = [
+    ("the classes, whole", &[], None),
+    (
+        "no concrete person, so none at three ends and in a set",
+        &[(
+            r#""Name":"Teacher","#,
+            r#""Name":"Teacher","Abstract":true,"#,
+        )],
+        Some((14, "/Association/1/End/0/Type")),
+    ),
+    (
+        "no concrete person, and a set of persons alone",
+        &[
+            (
+                r#""Name":"Teacher","#,
+                r#""Name":"Teacher","Abstract":true,"#,
+            ),
+            (
+                r#""EntityType":"Self.Lesson""#,
+                r#""EntityType":"Self.Lesson""#,
+            ),
+            (
+                r#",{"Name":"GivenBy","Association":"Self.Given","End":[{"Role":"By","EntitySet":"People"},{"Role":"Of","EntitySet":"Lessons"}]},{"Name":"MentorOf","Association":"N.M.Mentors","End":[{"Role":"Mentor","EntitySet":"People"},{"Role":"Pupil","EntitySet":"People"}]}"#,
+                r#""#,
+            ),
+        ],
+        Some((14, "/EntityContainer/EntitySet/2/EntityType")),
+    ),
+    (
+        "an abstract room with a concrete lab below it",
+        &[(r#""Name":"Room","#, r#""Name":"Room","Abstract":true,"#)],
+        None,
+    ),
+    (
+        "an abstract lab below a concrete room",
+        &[(r#""Name":"Lab","#, r#""Name":"Lab","Abstract":true,"#)],
+        None,
+    ),
+    (
+        "an end whose type is an abstract lab",
+        &[
+            (r#""Name":"Lab","#, r#""Name":"Lab","Abstract":true,"#),
+            (
+                r#""Role":"By","Type":"Self.Teacher""#,
+                r#""Role":"By","Type":"Self.Lab""#,
+            ),
+            (
+                r#"{"Role":"By","EntitySet":"People"}"#,
+                r#"{"Role":"By","EntitySet":"Rooms"}"#,
+            ),
+        ],
+        Some((14, "/Association/1/End/0/Type")),
+    ),
+    (
+        "one role at both ends of an association set",
+        &[(
+            r#"{"Role":"Of","EntitySet":"Lessons"}"#,
+            r#"{"Role":"By","EntitySet":"People"}"#,
+        )],
+        Some((15, "/EntityContainer/AssociationSet/1/End")),
+    ),
+    (
+        "one role at both ends, the other's",
+        &[(
+            r#"{"Role":"Lesson","EntitySet":"Lessons"}"#,
+            r#"{"Role":"Room","EntitySet":"Rooms"}"#,
+        )],
+        Some((15, "/EntityContainer/AssociationSet/0/End")),
+    ),
+    (
+        "exactly one opposite at most one",
+        &[(
+            r#""Multiplicity":"0..1"},{"Role":"Of","Type":"N.M.Lesson","Multiplicity":"*"}"#,
+            r#""Multiplicity":"0..1"},{"Role":"Of","Type":"N.M.Lesson","Multiplicity":"1"}"#,
+        )],
+        Some((16, "/Association/1/End")),
+    ),
+    (
+        "exactly one at both ends",
+        &[(
+            r#""Multiplicity":"0..1"},{"Role":"Of","Type":"N.M.Lesson","Multiplicity":"*"}"#,
+            r#""Multiplicity":"1"},{"Role":"Of","Type":"N.M.Lesson","Multiplicity":"1"}"#,
+        )],
+        Some((16, "/Association/1/End")),
+    ),
+    (
+        "exactly one opposite any number",
+        &[(
+            r#""Multiplicity":"0..1"},{"Role":"Of""#,
+            r#""Multiplicity":"1"},{"Role":"Of""#,
+        )],
+        None,
+    ),
+    (
+        "at most one at both ends",
+        &[(
+            r#"{"Role":"Of","Type":"N.M.Lesson","Multiplicity":"*"}"#,
+            r#"{"Role":"Of","Type":"N.M.Lesson","Multiplicity":"0..1"}"#,
+        )],
+        None,
+    ),
+    (
+        "any number of principals",
+        &[(
+            r#""Type":"N.M.Room","Multiplicity":"1""#,
+            r#""Type":"N.M.Room","Multiplicity":"*""#,
+        )],
+        Some((16, "/Association/0/End")),
+    ),
+    (
+        "at most one principal, where no dependent property may be null",
+        &[(
+            r#""Type":"N.M.Room","Multiplicity":"1""#,
+            r#""Type":"N.M.Room","Multiplicity":"0..1""#,
+        )],
+        None,
+    ),
+    (
+        "exactly one principal, where a dependent property may be null",
+        &[(
+            r#"{"Role":"Mentor","Type":"N.M.Person","Multiplicity":"0..1"}"#,
+            r#"{"Role":"Mentor","Type":"N.M.Person","Multiplicity":"1"}"#,
+        )],
+        Some((16, "/Association/2/End")),
+    ),
+    (
+        "exactly one dependent",
+        &[(
+            r#"{"Role":"Lesson","Type":"N.M.Lesson","Multiplicity":"*"}"#,
+            r#"{"Role":"Lesson","Type":"N.M.Lesson","Multiplicity":"1"}"#,
+        )],
+        Some((16, "/Association/0/End")),
+    ),
+    (
+        "at most one dependent, by a part of its key",
+        &[(
+            r#"{"Role":"Lesson","Type":"N.M.Lesson","Multiplicity":"*"}"#,
+            r#"{"Role":"Lesson","Type":"N.M.Lesson","Multiplicity":"0..1"}"#,
+        )],
+        Some((16, "/Association/0/End")),
+    ),
+    (
+        "at most one dependent, by its whole key in another order",
+        &[
+            (
+                r#"{"Role":"Lesson","Type":"N.M.Lesson","Multiplicity":"*"}"#,
+                r#"{"Role":"Lesson","Type":"N.M.Lesson","Multiplicity":"0..1"}"#,
+            ),
+            (
+                r#""Key":["Building","Number","Hour"]"#,
+                r#""Key":["Building","Number"]"#,
+            ),
+        ],
+        None,
+    ),
+    (
+        "a set that names it",
+        &[(
+            r#""AssociationSet":["#,
+            r#""AssociationSet":[{"Name":"Spares","Association":"N.M.Spare","End":[{"Role":"A","EntitySet":"People"},{"Role":"B","EntitySet":"People"}]},"#,
+        )],
+        Some((16, "/Association/3/End")),
+    ),
+    (
+        "a constraint of one role",
+        &[(
+            r#""Dependent":{"Role":"Pupil","PropertyRef":["Mentor"]}"#,
+            r#""Dependent":{"Role":"Mentor","PropertyRef":["Id"]}"#,
+        )],
+        Some((17, "/Association/2/ReferentialConstraint")),
+    ),
+    (
+        "a part of the principal's key",
+        &[(
+            r#"["Number","Building"]},"Dependent":{"Role":"Lesson","PropertyRef":["Number","Building"]}"#,
+            r#"["Number"]},"Dependent":{"Role":"Lesson","PropertyRef":["Number"]}"#,
+        )],
+        Some((17, "/Association/0/ReferentialConstraint")),
+    ),
+    (
+        "a property of the principal's key twice",
+        &[(
+            r#"["Number","Building"]},"Dependent":{"Role":"Lesson","PropertyRef":["Number","Building"]}"#,
+            r#"["Number","Building","Number"]},"Dependent":{"Role":"Lesson","PropertyRef":["Number","Building","Hour"]}"#,
+        )],
+        Some((17, "/Association/0/ReferentialConstraint")),
+    ),
+    (
+        "both lists in another order",
+        &[(
+            r#"["Number","Building"]},"Dependent":{"Role":"Lesson","PropertyRef":["Number","Building"]}"#,
+            r#"["Building","Number"]},"Dependent":{"Role":"Lesson","PropertyRef":["Building","Number"]}"#,
+        )],
+        None,
+    ),
+    (
+        "a dependent list that is shorter",
+        &[(
+            r#""Role":"Lesson","PropertyRef":["Number","Building"]"#,
+            r#""Role":"Lesson","PropertyRef":["Number"]"#,
+        )],
+        Some((17, "/Association/0/ReferentialConstraint")),
+    ),
+    (
+        "a dependent property twice",
+        &[
+            (
+                r#""Role":"Lesson","PropertyRef":["Number","Building"]"#,
+                r#""Role":"Lesson","PropertyRef":["Number","Number"]"#,
+            ),
+            (
+                r#"{"Name":"Building","Type":"Int32","Nullable":false},{"Name":"Number","Type":"Int16","Nullable":false}"#,
+                r#"{"Name":"Building","Type":"Int16","Nullable":false},{"Name":"Number","Type":"Int16","Nullable":false}"#,
+            ),
+        ],
+        Some((17, "/Association/0/ReferentialConstraint")),
+    ),
+    (
+        "two matched properties of other kinds",
+        &[(
+            r#""Role":"Lesson","PropertyRef":["Number","Building"]"#,
+            r#""Role":"Lesson","PropertyRef":["Building","Number"]"#,
+        )],
+        Some((17, "/Association/0/ReferentialConstraint")),
+    ),
+    (
+        "an enumeration in place of its underlying kind",
+        &[(
+            r#""Dependent":{"Role":"Pupil","PropertyRef":["Mentor"]}"#,
+            r#""Dependent":{"Role":"Pupil","PropertyRef":["Rank"]}"#,
+        )],
+        Some((17, "/Association/2/ReferentialConstraint")),
+    ),
+    (
+        "texts of other bounds",
+        &[
+            (
+                r#"{"Name":"Id","Type":"Int32","Nullable":false}"#,
+                r#"{"Name":"Id","Type":"String","MaxLength":9,"Nullable":false}"#,
+            ),
+            (
+                r#"{"Name":"Mentor","Type":"Edm.Int32"}"#,
+                r#"{"Name":"Mentor","Type":"Edm.String"}"#,
+            ),
+        ],
+        None,
+    ),
+    (
+        "a principal that is derived",
+        &[(
+            r#""Type":"N.M.Room","Multiplicity":"1""#,
+            r#""Type":"N.M.Lab","Multiplicity":"1""#,
+        )],
+        Some((17, "/Association/0/ReferentialConstraint")),
+    ),
+    (
+        "a principal's set of a derived type",
+        &[
+            (
+                r#"{"Role":"Room","EntitySet":"Rooms"}"#,
+                r#"{"Role":"Room","EntitySet":"Labs"}"#,
+            ),
+            (
+                r#"{"Name":"Rooms","EntityType":"N.M.Room"}"#,
+                r#"{"Name":"Rooms","EntityType":"N.M.Room"},{"Name":"Labs","EntityType":"N.M.Lab"}"#,
+            ),
+        ],
+        Some((17, "/Association/0/ReferentialConstraint")),
+    ),
+    (
+        "a dependent that is derived, by a part of its key",
+        &[(
+            r#""Dependent":{"Role":"Pupil","PropertyRef":["Mentor"]}"#,
+            r#""Dependent":{"Role":"Pupil","PropertyRef":["Id"]}"#,
+        )],
+        Some((18, "/EntityContainer/AssociationSet/2")),
+    ),
+    (
+        "an arrow from a set to itself",
+        &[
+            (
+                r#""Dependent":{"Role":"Pupil","PropertyRef":["Mentor"]}"#,
+                r#""Dependent":{"Role":"Pupil","PropertyRef":["Id"]}"#,
+            ),
+            (
+                r#""Role":"Pupil","Type":"N.M.Teacher""#,
+                r#""Role":"Pupil","Type":"N.M.Person""#,
+            ),
+        ],
+        Some((19, "/EntityContainer/AssociationSet/2")),
+    ),
+    (
+        "two sets in a circle, and an arrow beside it",
+        &[
+            (
+                r#""AssociationSet":["#,
+                r#""AssociationSet":[{"Name":"Back","Association":"N.M.Back","End":[{"Role":"From","EntitySet":"Rooms"},{"Role":"To","EntitySet":"Extras"}]},"#,
+            ),
+            (
+                r#""AssociationSet":["#,
+                r#""AssociationSet":[{"Name":"Forth","Association":"N.M.Forth","End":[{"Role":"From","EntitySet":"Extras"},{"Role":"To","EntitySet":"Rooms"}]},"#,
+            ),
+            (
+                r#""Association":["#,
+                r#""Association":[{"Name":"Back","End":[{"Role":"From","Type":"N.M.Room","Multiplicity":"*"},{"Role":"To","Type":"N.M.Extra","Multiplicity":"1"}],"ReferentialConstraint":{"Principal":{"Role":"To","PropertyRef":["Building","Number"]},"Dependent":{"Role":"From","PropertyRef":["Building","Number"]}}},"#,
+            ),
+            (
+                r#""Association":["#,
+                r#""Association":[{"Name":"Forth","End":[{"Role":"From","Type":"N.M.Extra","Multiplicity":"*"},{"Role":"To","Type":"N.M.Room","Multiplicity":"1"}],"ReferentialConstraint":{"Principal":{"Role":"To","PropertyRef":["Building","Number"]},"Dependent":{"Role":"From","PropertyRef":["Building","Number"]}}},"#,
+            ),
+            (
+                r#"{"Name":"Rooms","EntityType":"N.M.Room"}"#,
+                r#"{"Name":"Rooms","EntityType":"N.M.Room"},{"Name":"Extras","EntityType":"N.M.Extra"}"#,
+            ),
+            (
+                r#"{"Name":"Lesson","Key""#,
+                r#"{"Name":"Extra","Key":["Building","Number"],"Property":[{"Name":"Building","Type":"Int32","Nullable":false},{"Name":"Number","Type":"Int16","Nullable":false}]},{"Name":"Lesson","Key""#,
+            ),
+        ],
+        Some((19, "/EntityContainer/AssociationSet/0")),
+    ),
+    (
+        "two sets in a circle, where a dependent property may be null",
+        &[
+            (
+                r#""AssociationSet":["#,
+                r#""AssociationSet":[{"Name":"Back","Association":"N.M.Back","End":[{"Role":"From","EntitySet":"Rooms"},{"Role":"To","EntitySet":"Extras"}]},"#,
+            ),
+            (
+                r#""AssociationSet":["#,
+                r#""AssociationSet":[{"Name":"Forth","Association":"N.M.Forth","End":[{"Role":"From","EntitySet":"Extras"},{"Role":"To","EntitySet":"Rooms"}]},"#,
+            ),
+            (
+                r#""Association":["#,
+                r#""Association":[{"Name":"Back","End":[{"Role":"From","Type":"N.M.Room","Multiplicity":"*"},{"Role":"To","Type":"N.M.Extra","Multiplicity":"0..1"}],"ReferentialConstraint":{"Principal":{"Role":"To","PropertyRef":["Building","Number"]},"Dependent":{"Role":"From","PropertyRef":["Building","Maybe"]}}},"#,
+            ),
+            (
+                r#""Association":["#,
+                r#""Association":[{"Name":"Forth","End":[{"Role":"From","Type":"N.M.Extra","Multiplicity":"*"},{"Role":"To","Type":"N.M.Room","Multiplicity":"1"}],"ReferentialConstraint":{"Principal":{"Role":"To","PropertyRef":["Building","Number"]},"Dependent":{"Role":"From","PropertyRef":["Building","Number"]}}},"#,
+            ),
+            (
+                r#"{"Name":"Rooms","EntityType":"N.M.Room"}"#,
+                r#"{"Name":"Rooms","EntityType":"N.M.Room"},{"Name":"Extras","EntityType":"N.M.Extra"}"#,
+            ),
+            (
+                r#"{"Name":"Lesson","Key""#,
+                r#"{"Name":"Extra","Key":["Building","Number"],"Property":[{"Name":"Building","Type":"Int32","Nullable":false},{"Name":"Number","Type":"Int16","Nullable":false}]},{"Name":"Lesson","Key""#,
+            ),
+            (
+                r#""Key":["Building","Number"],"Property":[{"Name":"Building","Type":"Int32","Nullable":false},"#,
+                r#""Key":["Building","Number"],"Property":[{"Name":"Maybe","Type":"Int16"},{"Name":"Building","Type":"Int32","Nullable":false},"#,
+            ),
+        ],
+        None,
+    ),
+    (
+        "an end's type beside the element type of its set",
+        &[(
+            r#"{"Role":"By","EntitySet":"People"}"#,
+            r#"{"Role":"By","EntitySet":"Rooms"}"#,
+        )],
+        Some((20, "/EntityContainer/AssociationSet/1/End")),
+    ),
+    (
+        "an end's type above the element type of its set",
+        &[
+            (
+                r#"{"Role":"By","EntitySet":"People"}"#,
+                r#"{"Role":"By","EntitySet":"Labs"}"#,
+            ),
+            (
+                r#""Role":"By","Type":"Self.Teacher""#,
+                r#""Role":"By","Type":"Self.Room""#,
+            ),
+            (
+                r#"{"Name":"Rooms","EntityType":"N.M.Room"}"#,
+                r#"{"Name":"Rooms","EntityType":"N.M.Room"},{"Name":"Labs","EntityType":"N.M.Lab"}"#,
+            ),
+        ],
+        Some((20, "/EntityContainer/AssociationSet/1/End")),
+    ),
+    (
+        "a navigation property of one role",
+        &[(
+            r#""Property":[{"Name":"Mentor""#,
+            r#""NavigationProperty":[{"Name":"Self","Relationship":"N.M.Mentors","FromRole":"Pupil","ToRole":"Pupil"}],"Property":[{"Name":"Mentor""#,
+        )],
+        None,
+    ),
+];
+
+/// Two rules in one document, of which the lesser is told.
+pub(crate) const ASSOCIATION_NEIGHBOURS: [Case; 13] = [
+    (
+        "13 and 14: a bound, and a set without concrete types",
+        &[
+            (
+                r#""Name":"Teacher","#,
+                r#""Name":"Teacher","Abstract":true,"#,
+            ),
+            (
+                r#"{"Name":"Hour","Type":"Int16","#,
+                r#"{"Name":"Hour","Type":"Int16","MaxLength":3,"#,
+            ),
+        ],
+        Some((13, "/EntityType/2/Property/0/MaxLength")),
+    ),
+    (
+        "14 and 15",
+        &[
+            (
+                r#""Name":"Teacher","#,
+                r#""Name":"Teacher","Abstract":true,"#,
+            ),
+            (
+                r#"{"Role":"Room","EntitySet":"Rooms"}"#,
+                r#"{"Role":"Lesson","EntitySet":"Lessons"}"#,
+            ),
+        ],
+        Some((14, "/Association/1/End/0/Type")),
+    ),
+    (
+        "14 and 16",
+        &[
+            (
+                r#""Name":"Teacher","#,
+                r#""Name":"Teacher","Abstract":true,"#,
+            ),
+            (
+                r#"{"Role":"Of","Type":"N.M.Lesson","Multiplicity":"*"}"#,
+                r#"{"Role":"Of","Type":"N.M.Lesson","Multiplicity":"1"}"#,
+            ),
+        ],
+        Some((14, "/Association/1/End/0/Type")),
+    ),
+    (
+        "15 and 16: the earlier place breaks the greater rule",
+        &[
+            (
+                r#"{"Role":"Of","Type":"N.M.Lesson","Multiplicity":"*"}"#,
+                r#"{"Role":"Of","Type":"N.M.Lesson","Multiplicity":"1"}"#,
+            ),
+            (
+                r#"{"Role":"Of","EntitySet":"Lessons"}"#,
+                r#"{"Role":"By","EntitySet":"People"}"#,
+            ),
+        ],
+        Some((15, "/EntityContainer/AssociationSet/1/End")),
+    ),
+    (
+        "15 and 17",
+        &[
+            (
+                r#""Role":"Lesson","PropertyRef":["Number","Building"]"#,
+                r#""Role":"Lesson","PropertyRef":["Building","Number"]"#,
+            ),
+            (
+                r#"{"Role":"Of","EntitySet":"Lessons"}"#,
+                r#"{"Role":"By","EntitySet":"People"}"#,
+            ),
+        ],
+        Some((15, "/EntityContainer/AssociationSet/1/End")),
+    ),
+    (
+        "16 and 17 of one association",
+        &[
+            (
+                r#""Type":"N.M.Room","Multiplicity":"1""#,
+                r#""Type":"N.M.Room","Multiplicity":"*""#,
+            ),
+            (
+                r#""Role":"Lesson","PropertyRef":["Number","Building"]"#,
+                r#""Role":"Lesson","PropertyRef":["Building","Number"]"#,
+            ),
+        ],
+        Some((16, "/Association/0/End")),
+    ),
+    (
+        "16 and 17, the lesser at the later place",
+        &[
+            (
+                r#"{"Role":"Of","Type":"N.M.Lesson","Multiplicity":"*"}"#,
+                r#"{"Role":"Of","Type":"N.M.Lesson","Multiplicity":"1"}"#,
+            ),
+            (
+                r#""Role":"Lesson","PropertyRef":["Number","Building"]"#,
+                r#""Role":"Lesson","PropertyRef":["Building","Number"]"#,
+            ),
+        ],
+        Some((16, "/Association/1/End")),
+    ),
+    (
+        "17 and 18",
+        &[
+            (
+                r#""Dependent":{"Role":"Pupil","PropertyRef":["Mentor"]}"#,
+                r#""Dependent":{"Role":"Pupil","PropertyRef":["Id"]}"#,
+            ),
+            (
+                r#""Role":"Lesson","PropertyRef":["Number","Building"]"#,
+                r#""Role":"Lesson","PropertyRef":["Building","Number"]"#,
+            ),
+        ],
+        Some((17, "/Association/0/ReferentialConstraint")),
+    ),
+    (
+        "17 and 18 of one association",
+        &[(
+            r#""Principal":{"Role":"Mentor","PropertyRef":["Id"]},"Dependent":{"Role":"Pupil","PropertyRef":["Mentor"]}"#,
+            r#""Principal":{"Role":"Mentor","PropertyRef":["Id"]},"Dependent":{"Role":"Pupil","PropertyRef":["Id","Mentor"]}"#,
+        )],
+        Some((17, "/Association/2/ReferentialConstraint")),
+    ),
+    (
+        "18 and 19",
+        &[(
+            r#""Dependent":{"Role":"Pupil","PropertyRef":["Mentor"]}"#,
+            r#""Dependent":{"Role":"Pupil","PropertyRef":["Id"]}"#,
+        )],
+        Some((18, "/EntityContainer/AssociationSet/2")),
+    ),
+    (
+        "18 and 20, the greater at the earlier place",
+        &[
+            (
+                r#""Dependent":{"Role":"Pupil","PropertyRef":["Mentor"]}"#,
+                r#""Dependent":{"Role":"Pupil","PropertyRef":["Id"]}"#,
+            ),
+            (
+                r#"{"Role":"By","EntitySet":"People"}"#,
+                r#"{"Role":"By","EntitySet":"Rooms"}"#,
+            ),
+        ],
+        Some((18, "/EntityContainer/AssociationSet/2")),
+    ),
+    (
+        "19 and 20, the greater at the earlier place",
+        &[
+            (
+                r#""Dependent":{"Role":"Pupil","PropertyRef":["Mentor"]}"#,
+                r#""Dependent":{"Role":"Pupil","PropertyRef":["Id"]}"#,
+            ),
+            (
+                r#""Role":"Pupil","Type":"N.M.Teacher""#,
+                r#""Role":"Pupil","Type":"N.M.Person""#,
+            ),
+            (
+                r#"{"Role":"By","EntitySet":"People"}"#,
+                r#"{"Role":"By","EntitySet":"Rooms"}"#,
+            ),
+        ],
+        Some((19, "/EntityContainer/AssociationSet/2")),
+    ),
+    (
+        "19 and 20, the greater at the later place",
+        &[
+            (
+                r#""AssociationSet":["#,
+                r#""AssociationSet":[{"Name":"Mentored","Association":"N.M.Mentors","End":[{"Role":"Mentor","EntitySet":"People"},{"Role":"Pupil","EntitySet":"People"}]},"#,
+            ),
+            (
+                r#""Dependent":{"Role":"Pupil","PropertyRef":["Mentor"]}"#,
+                r#""Dependent":{"Role":"Pupil","PropertyRef":["Id"]}"#,
+            ),
+            (
+                r#""Role":"Pupil","Type":"N.M.Teacher""#,
+                r#""Role":"Pupil","Type":"N.M.Person""#,
+            ),
+            (
+                r#"{"Role":"By","EntitySet":"People"}"#,
+                r#"{"Role":"By","EntitySet":"Rooms"}"#,
+            ),
+        ],
+        Some((19, "/EntityContainer/AssociationSet/0")),
     ),
 ];

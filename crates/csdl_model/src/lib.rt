@@ -1,10 +1,11 @@
-//! The reader of CSDL documents: the least rule that a document breaks, at its first place.
+//! The reader of CSDL documents: the model that a document means, or the least rule that it breaks, at its first place.
 #![tactic(auto)]
 
 #[cfg(test)]
 mod documents;
-mod fault;
+mod reading;
+mod stop;
 #[cfg(test)]
 mod tests;
 
-pub use fault::first_model_fault;
+pub use reading::read_csdl;

@@ -18,7 +18,7 @@ use Rattle.name_places.proofs.FirstPlaces.{first_has, first_upto}
 use Rattle.rule_places.specs.Places.{IsAt, InList}
 use Rattle.csdl_names.specs.KnownNames.{AreNames, IsKnown}
 use Rattle.csdl_names.specs.Repeated.{IsGivenAgain, IsRepeatedIn}
-use Rattle.csdl_names.proofs.LeastFound.{least_in_list}
+use Rattle.rule_places.proofs.LeastFound.{least_in_list}
 
 -- some item of a list: none of the empty one, the first or a later one
 module _ {X : Type 0} (P : X → Type 0) where

@@ -11,7 +11,7 @@ use Rattle.csdl_lists.specs.declared.raw.RawModel.{RawModel}
 use Rattle.csdl_lists.specs.declared.raw.RawType.{RawType}
 use Rattle.csdl_lists.specs.References.{Names, base_of}
 use Rattle.csdl_names.specs.Unresolved.{Declares, LacksProp, derived, root}
-use Rattle.csdl_names.proofs.Depths.{HasDepth, depth_root, depth_up, few_deep}
+use Rattle.base_chains.proofs.Depths.{HasDepth, depth_root, depth_up, few_deep}
 
 module _ (names : Names) (model : RawModel) where
   -- the base of a type that is there

@@ -1,5 +1,5 @@
-pub mod Depths
 pub mod Known
 pub mod Lacking
 pub mod LeastFound
+pub mod PropClimbs
 pub mod PropTables

@@ -1,4 +1,5 @@
 pub mod KnownNames
 pub mod PropPlaces
 pub mod Repeated
+pub mod SetRoles
 pub mod Unresolved

@@ -6,12 +6,11 @@ ghost use Rattle.name_places.specs.PlacesIn.{place_in};
 ghost use Rattle.csdl_names.specs.KnownNames.{AreNames, IsKnown};
 ghost use Rattle.csdl_names.specs.Repeated.{IsRepeatedIn};
 
-use crate::findings::first_at;
 use emc_base::{Memory, Seq, Txt};
 use layouts::{Fault, Rule};
 use least_fault::Finder;
 use name_places::{Named, Places};
-use rule_places::fault_if;
+use rule_places::{fault_if, first_at};
 use std::alloc::Global;
 
 /// A list in a scope, some of whose names may be given before.

@@ -3,7 +3,6 @@
 
 mod again;
 mod climbs;
-mod findings;
 mod lookups;
 mod repeated;
 mod tables;
@@ -11,5 +10,7 @@ mod tables;
 mod tests;
 mod unresolved;
 
+pub use lookups::{Lookups, PropPlace, end_of_role};
 pub use repeated::first_repeated;
+pub use tables::props_of;
 pub use unresolved::first_unresolved;

@@ -1,15 +1,25 @@
-ghost use Rattle.std.specs.Prelude.{◌≡◌, ◌↔◌, IsTrue, map};
+ghost use Rattle.std.specs.Prelude.{◌≡◌, ◌↔◌, IsTrue, length, map};
 ghost use Rattle.std.specs.Option.{option_copied};
 ghost use Rattle.name_places.specs.PlacesIn.{place_in};
 ghost use Rattle.base_chains.specs.Chains.{base_at};
 ghost use Rattle.csdl_lists.specs.References.{base_of, names_in};
 ghost use Rattle.csdl_lists.specs.Scopes.{names_of};
-ghost use Rattle.csdl_names.specs.PropPlaces.{place_of_prop};
+ghost use Rattle.csdl_names.specs.PropPlaces.{own_prop, place_of_prop, prop_at, prop_of_type};
+ghost use Rattle.csdl_names.specs.SetRoles.{element_of, element_of_role, set_end_of_role, set_of_role};
 ghost use Rattle.csdl_names.specs.Unresolved.{end_of_role};
 
-use csdl_lists::{RawAssociation, RawEnd, RawModel, Scope};
+use csdl_lists::{RawAssociation, RawAssociationSet, RawEnd, RawModel, RawProp, RawSetEnd, Scope};
 use emc_base::{Seq, Txt};
 use name_places::Places;
+
+/// A declared property: the place of its type in the list of types, and its own place among the properties that this type declares.
+#[derive(Clone, Copy, Debug, PartialEq, Eq)]
+pub struct PropPlace {
+    /// The place of the type.
+    pub owner: usize,
+    /// The place of the property in its type.
+    pub place: usize,
+}
 
 /// A model in which names are looked up.
 #[derive(Drop)]
@@ -25,6 +35,7 @@ pub struct Lookups<'a> {
     ghost named: { names_of scope.now ≡ names_in model.now },
     ghost declared: { map place_in props.now ≡ map place_of_prop model.now.types },
     ghost based: { base_at bases.now ≡ base_of (names_in model.now) model.now },
+    ghost counted: { length bases.now ≡ length model.now.types },
 }
 
 impl<'a> Lookups<'a> {
@@ -93,6 +104,50 @@ impl<'a> Lookups<'a> {
         false
     }
 
+    /// The property of this name that a type has: the one that it declares, or else the one that its base type has.
+    pub fn prop_of_type(&self, ty: usize, name: &Txt) -> Option<PropPlace>
+        ensures { result ≡ prop_of_type (names_in self.now.model.now) self.now.model.now ty name.now }
+    {
+        let mut place = ty;
+        for _ in 0..self.model.types.len() {
+            let found = self.own_prop(place, name);
+            if found.is_some() {
+                return found;
+            }
+            place = self.base(place)?;
+        }
+        None
+    }
+
+    /// The property at a place.
+    pub fn prop_at(&self, found: PropPlace) -> Option<&'a RawProp>
+        ensures { option_copied result ≡ prop_at self.now.model.now found }
+    {
+        let ty = self.model.types.get(found.owner)?;
+        ty.props.get(found.place)
+    }
+
+    /// The place of the entity set at the end of an association set that names this role.
+    pub fn set_of_role(&self, set: &RawAssociationSet, role: &Txt) -> Option<usize>
+        ensures { result ≡ set_of_role (names_in self.now.model.now) self.now.model.now set.now role.now }
+    {
+        self.set_named(&set_end_of_role(set, role)?.set)
+    }
+
+    /// The element type of the entity set at a place.
+    pub fn element_of(&self, set: usize) -> Option<usize>
+        ensures { result ≡ element_of (names_in self.now.model.now) self.now.model.now set }
+    {
+        self.type_named(&self.model.container.sets.get(set)?.element)
+    }
+
+    /// The element type of the entity set at the end of an association set that names this role.
+    pub fn element_of_role(&self, set: &RawAssociationSet, role: &Txt) -> Option<usize>
+        ensures { result ≡ element_of_role (names_in self.now.model.now) self.now.model.now set.now role.now }
+    {
+        self.element_of(self.set_of_role(set, role)?)
+    }
+
     /// The base type of a type, where it is found.
     pub fn base(&self, ty: usize) -> Option<usize>
         ensures { result ≡ base_of (names_in self.now.model.now) self.now.model.now ty }
@@ -110,8 +165,16 @@ impl<'a> Lookups<'a> {
         props.place_of(name.as_str()).is_some()
     }
 
-    // The association itself that a reference names.
-    fn association_of(&self, reference: &Txt) -> Option<&'a RawAssociation>
+    /// The property of this name that the type at a place declares.
+    pub fn own_prop(&self, owner: usize, name: &Txt) -> Option<PropPlace>
+        ensures { result ≡ own_prop (names_in self.now.model.now) self.now.model.now owner name.now }
+    {
+        let place = self.props.get(owner)?.place_of(name.as_str())?;
+        Some(PropPlace { owner, place })
+    }
+
+    /// The association itself that a reference names.
+    pub fn association_of(&self, reference: &Txt) -> Option<&'a RawAssociation>
         ensures { option_copied result ≡ association_of (names_in self.now.model.now) self.now.model.now reference.now }
     {
         let place = self.association_named(reference)?;
@@ -126,6 +189,17 @@ pub fn end_of_role<'a>(association: &'a RawAssociation, role: &Txt) -> Option<&'
     let role = role.as_str();
     association
         .ends
+        .as_slice()
+        .iter()
+        .find(|end| role == end.role.as_str())
+}
+
+// The end of an association set that names a role.
+fn set_end_of_role<'a>(set: &'a RawAssociationSet, role: &Txt) -> Option<&'a RawSetEnd>
+    ensures { option_copied result ≡ set_end_of_role set.now role.now }
+{
+    let role = role.as_str();
+    set.ends
         .as_slice()
         .iter()
         .find(|end| role == end.role.as_str())

@@ -5,12 +5,12 @@ ghost use Rattle.csdl_lists.specs.Scopes.{IsScopeOf};
 ghost use Rattle.csdl_names.specs.Repeated.{IsRepeated, IsRepeatedIn, IsRepeatedInContainer, IsRepeatedInSchema};
 
 use crate::again::{Again, first_twice};
-use crate::findings::{behind_member, first_at, places_of};
 use csdl_lists::{RawAssociation, RawContainer, RawEnum, RawModel, RawType, Scope};
 use emc_base::{Memory, Seq};
 use layouts::Fault;
 use least_fault::{Finder, earlier};
-use name_places::Named;
+use name_places::{Named, places_of};
+use rule_places::{behind_member, first_at};
 use std::alloc::Global;
 
 /// Searches what stands in the items of a list for names that are given twice.

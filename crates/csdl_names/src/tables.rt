@@ -2,10 +2,9 @@ ghost use Rattle.std.specs.Prelude.{◌≡◌, IfOk, map};
 ghost use Rattle.name_places.specs.PlacesIn.{place_in};
 ghost use Rattle.csdl_names.specs.PropPlaces.{place_of_prop};
 
-use crate::findings::places_of;
 use csdl_lists::RawType;
 use emc_base::{Memory, Seq};
-use name_places::Places;
+use name_places::{Places, places_of};
 use std::alloc::Global;
 
 /// The places of the properties of each type.

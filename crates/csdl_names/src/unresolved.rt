@@ -4,23 +4,19 @@ ghost use Rattle.layouts.specs.declared.rule.Rule.TheVariants.{Resolves};
 ghost use Rattle.layouts.specs.Faults.{fault_cmp};
 ghost use Rattle.least_fault.specs.Least.{IsLeast};
 ghost use Rattle.rule_places.specs.Places.{IsAt};
-ghost use Rattle.base_chains.specs.Chains.{base_at};
-ghost use Rattle.csdl_lists.specs.References.{base_of, names_in};
-ghost use Rattle.csdl_lists.specs.Scopes.{IsScopeOf};
+ghost use Rattle.csdl_lists.specs.References.{names_in};
 ghost use Rattle.csdl_names.specs.Unresolved.{IsUnresolved, IsUnresolvedBase, IsUnresolvedInConstraint, IsUnresolvedInContainer, IsUnresolvedInKey, IsUnresolvedInRole, LacksRole, NamesNothing};
 
 use crate::climbs::allow_climbs;
-use crate::findings::{behind_member, first_at};
 use crate::lookups::{Lookups, end_of_role};
-use crate::tables::props_of;
 use csdl_lists::{
-    RawAssociation, RawAssociationSet, RawConstraint, RawContainer, RawEnd, RawModel, RawNav,
-    RawRole, RawSet, RawSetEnd, RawType, Scope, bases_of,
+    RawAssociation, RawAssociationSet, RawConstraint, RawContainer, RawEnd, RawNav, RawRole,
+    RawSet, RawSetEnd, RawType,
 };
 use emc_base::{Memory, Seq, Txt};
 use layouts::{Fault, Rule};
 use least_fault::{Finder, earlier};
-use rule_places::fault_if;
+use rule_places::{behind_member, fault_if, first_at};
 use std::alloc::Global;
 
 /// An entity set: its element type.
@@ -279,41 +275,13 @@ fn first_in_container(
 
 /// The least of the names that resolve to nothing of the sort that is needed. `Memory` comes where memory ran out, and where
 /// the look-ups of properties may take very many steps.
-pub fn first_unresolved(
-    alloc: Global,
-    model: &RawModel,
-    scope: &Scope,
-) -> Result<Option<Fault>, Memory>
-    requires { IsScopeOf model.now scope.now }
-    ensures { IfOk result (λ found. IsLeast fault_cmp (IsUnresolved model.now) found) }
+pub fn first_unresolved(alloc: Global, lookups: &Lookups<'_>) -> Result<Option<Fault>, Memory>
+    ensures { IfOk result (λ found. IsLeast fault_cmp (IsUnresolved lookups.now.model.now) found) }
 {
-    let bases = bases_of(alloc, model, scope)?;
-    let found = first_by_bases(alloc, model, scope, &bases)?;
-    Ok(found)
-}
-
-// The same, where the bases of types are known.
-fn first_by_bases(
-    alloc: Global,
-    model: &RawModel,
-    scope: &Scope,
-    bases: &Seq<Option<usize>>,
-) -> Result<Option<Fault>, Memory>
-    requires known { IsScopeOf model.now scope.now }
-    requires based { base_at bases.now ≡ base_of (names_in model.now) model.now }
-    ensures { IfOk result (λ found. IsLeast fault_cmp (IsUnresolved model.now) found) }
-{
-    let props = props_of(alloc, &model.types)?;
-    let lookups = Lookups {
-        model,
-        scope,
-        props: &props,
-        bases,
-    };
-    allow_climbs(&lookups)?;
-    let inside = first_in_container(alloc, &lookups, &model.container)?;
+    allow_climbs(lookups)?;
+    let inside = first_in_container(alloc, lookups, &lookups.model.container)?;
     let container = behind_member(alloc, "EntityContainer", inside)?;
-    let types = first_at(alloc, "EntityType", &lookups, &model.types)?;
-    let associations = first_at(alloc, "Association", &lookups, &model.associations)?;
+    let types = first_at(alloc, "EntityType", lookups, &lookups.model.types)?;
+    let associations = first_at(alloc, "Association", lookups, &lookups.model.associations)?;
     Ok(earlier(container, earlier(types, associations)))
 }

@@ -1,5 +1,5 @@
 -- A type that is its own ancestor is told before all that is wrong against later rules.
-use Rattle.std.proofs.Common.{◌≡◌, ⊎_elim, inr, ℕ, ◌<◌, List, [], ◌∷◌, codes, MatchOption, Option, Some, None, sym, subst, arith}
+use Rattle.std.proofs.Common.{◌≡◌, ⊎_elim, inr, ℕ, ◌<◌, ◌≤◌, List, [], ◌∷◌, codes, MatchOption, Option, Some, None, sym, subst, arith}
 use Rattle.std.specs.Option.{option_map}
 use Rattle.emc_base.specs.Lists.{At}
 use Rattle.json_form.specs.declared.pointer.Step.TheVariants.{Member, Item}
@@ -26,46 +26,51 @@ use Rattle.csdl_types.specs.Numbers.{numbers_of, under_of}
 use Rattle.csdl_types.specs.TypeRules.{BreaksLaterRules, BreaksTypeRules, IsLaterFault}
 use Rattle.csdl_lists.proofs.BaseTypes.{is_type}
 
--- the rule comes after V8
-abbrev IsLater : Rule → Type 0
-IsLater rule = 8 < rule_number rule
+-- what holds of these rules holds of the rule of each fault against them
+module _ (B : Rule → Type 0) (key : B TypeKey) (part : B KeyProperty) (inherited : B InheritedName) (type_is : B PropertyType) (bound : B Bound) (model : RawModel) where
+  so : (rule other : Rule) → other ≡ rule → B rule → B other
+  so rule other is holds = subst B (sym is) holds
 
-later : (rule other : Rule) → other ≡ rule → IsLater rule → IsLater other
-later rule other is late = subst (λ (r : Rule). IsLater r) (sym is) late
+  in_type : (i : ℕ) (type : RawType) (fault : Fault) → IsLaterFault (names_in model) model i type fault → B fault.rule
+  in_type i type fault = ⊎_elim
+      (λ holds. so TypeKey fault.rule holds.1.0 key)
+      (⊎_elim (key_prop type.key)
+      (⊎_elim (⊎_elim
+      (rule_inside B (codes "Property") (λ k prop. IsInheritedFault (IsAncestor (base_of (names_in model) model) i) model.types prop.name) type.props (λ k prop inside holds. so InheritedName inside.rule holds.1.0 inherited) fault)
+      (rule_inside B (codes "NavigationProperty") (λ k nav. IsInheritedFault (IsAncestor (base_of (names_in model) model) i) model.types nav.name) type.navs (λ k nav inside holds. so InheritedName inside.rule holds.1.0 inherited) fault))
+      (⊎_elim
+      (rule_inside B (codes "Property") (λ k. IsNoTypeFault (names_in model).enum_named) type.props (λ k prop inside holds. so PropertyType inside.rule holds.1.0 type_is) fault)
+      (rule_inside B (codes "Property") (λ k. IsPropBoundFault) type.props (λ k prop inside holds. so Bound inside.rule holds.1.0 bound) fault))))
+    where
+      key_prop : (named : Option (List (List ℕ))) → MatchOption named ⊥ (λ names. InList (codes "Property") (λ k. IsNoKeyPropFault names) type.props fault) → B fault.rule
+      key_prop None none = absurd none
+      key_prop (Some names) some = rule_inside B (codes "Property") (λ k. IsNoKeyPropFault names) type.props (λ k prop inside holds. so KeyProperty inside.rule holds.1.0 part) fault some
+
+  in_enum : (enum : RawEnum) (fault : Fault) → IsEnumFault enum fault → B fault.rule
+  in_enum enum fault = ⊎_elim
+      (λ under. so PropertyType fault.rule under.1.0 type_is)
+      (⊎_elim (λ none. so PropertyType fault.rule none.1.0 type_is) (member (under_of enum)))
+    where
+      member : (known : Option _) → MatchOption known ⊥ (λ under. InList (codes "Member") (λ k. IsNumberFault under) (numbers_of enum) fault) → B fault.rule
+      member None none = absurd none
+      member (Some under) some = rule_inside B (codes "Member") (λ k. IsNumberFault under) (numbers_of enum) (λ k number inside holds. so PropertyType inside.rule holds.1.0 type_is) fault some
+
+  pub by_rules : (fault : Fault) → BreaksLaterRules model fault → B fault.rule
+  by_rules fault = ⊎_elim
+      (rule_inside B (codes "EntityType") (IsLaterFault (names_in model) model) model.types in_type fault)
+      (rule_inside B (codes "EnumType") (λ i. IsEnumFault) model.enums (λ i enum inside holds. in_enum enum inside holds) fault)
 
 module _ (model : RawModel) where
   abbrev base : ℕ → Option ℕ
   base = base_of (names_in model) model
 
-  later_type : (i : ℕ) (type : RawType) (fault : Fault) → IsLaterFault (names_in model) model i type fault → IsLater fault.rule
-  later_type i type fault = ⊎_elim
-      (λ key. later TypeKey fault.rule key.1.0 (omega arith))
-      (⊎_elim (key_prop type.key)
-      (⊎_elim (⊎_elim
-      (rule_inside IsLater (codes "Property") (λ k prop. IsInheritedFault (IsAncestor base i) model.types prop.name) type.props (λ k prop inside holds. later InheritedName inside.rule holds.1.0 (omega arith)) fault)
-      (rule_inside IsLater (codes "NavigationProperty") (λ k nav. IsInheritedFault (IsAncestor base i) model.types nav.name) type.navs (λ k nav inside holds. later InheritedName inside.rule holds.1.0 (omega arith)) fault))
-      (⊎_elim
-      (rule_inside IsLater (codes "Property") (λ k. IsNoTypeFault (names_in model).enum_named) type.props (λ k prop inside holds. later PropertyType inside.rule holds.1.0 (omega arith)) fault)
-      (rule_inside IsLater (codes "Property") (λ k. IsPropBoundFault) type.props (λ k prop inside holds. later Bound inside.rule holds.1.0 (omega arith)) fault))))
-    where
-      key_prop : (key : Option (List (List ℕ))) → MatchOption key ⊥ (λ names. InList (codes "Property") (λ k. IsNoKeyPropFault names) type.props fault) → IsLater fault.rule
-      key_prop None none = absurd none
-      key_prop (Some names) some = rule_inside IsLater (codes "Property") (λ k. IsNoKeyPropFault names) type.props (λ k prop inside holds. later KeyProperty inside.rule holds.1.0 (omega arith)) fault some
+  -- each fault against the later rules comes after V8
+  pub later_rule : (fault : Fault) → BreaksLaterRules model fault → 8 < rule_number fault.rule
+  later_rule = by_rules (λ rule. 8 < rule_number rule) (omega arith) (omega arith) (omega arith) (omega arith) (omega arith) model
 
-  later_enum : (enum : RawEnum) (fault : Fault) → IsEnumFault enum fault → IsLater fault.rule
-  later_enum enum fault = ⊎_elim
-      (λ under. later PropertyType fault.rule under.1.0 (omega arith))
-      (⊎_elim (λ none. later PropertyType fault.rule none.1.0 (omega arith)) (member (under_of enum)))
-    where
-      member : (known : Option _) → MatchOption known ⊥ (λ under. InList (codes "Member") (λ k. IsNumberFault under) (numbers_of enum) fault) → IsLater fault.rule
-      member None none = absurd none
-      member (Some under) some = rule_inside IsLater (codes "Member") (λ k. IsNumberFault under) (numbers_of enum) (λ k number inside holds. later PropertyType inside.rule holds.1.0 (omega arith)) fault some
-
-  -- each fault against the later rules
-  pub later_rule : (fault : Fault) → BreaksLaterRules model fault → IsLater fault.rule
-  later_rule fault = ⊎_elim
-      (rule_inside IsLater (codes "EntityType") (IsLaterFault (names_in model) model) model.types later_type fault)
-      (rule_inside IsLater (codes "EnumType") (λ i. IsEnumFault) model.enums (λ i enum inside holds. later_enum enum inside holds) fault)
+  -- and is one of the rules up to V13
+  pub last_rule : (fault : Fault) → BreaksLaterRules model fault → rule_number fault.rule ≤ 13
+  last_rule = by_rules (λ rule. rule_number rule ≤ 13) (omega arith) (omega arith) (omega arith) (omega arith) (omega arith) model
 
   -- a type that is its own ancestor is a type
   ancestor_type : (i : ℕ) → IsAncestor base i i → (type : RawType) × At model.types i type

@@ -1,8 +1,11 @@
--- The simple types by their names.
+-- The simple types by their names, and what the Type of a property names.
 -- Source: CSDL version 3, the primitive types of the Edm namespace, as far as the profile has them.
-use Rattle.std.specs.Prelude.{ℕ, List, Option, Some, None, unwrap_or, if◌then◌else◌, codes}
+use Rattle.std.specs.Prelude.{ℕ, List, Option, Some, None, option_map, unwrap_or, if◌then◌else◌, codes}
+use Rattle.std.specs.Option.{option_or}
 use Rattle.std.specs.Str.{bytes_eq}
 use Rattle.csdl_lists.specs.References.{rest_after}
+use Rattle.csdl_types.specs.declared.simple.PropType.{PropType}
+use Rattle.csdl_types.specs.declared.simple.PropType.TheVariants as named
 use Rattle.csdl_types.specs.declared.simple.Simple.{Simple}
 use Rattle.csdl_types.specs.declared.simple.Simple.TheVariants.{Byte, Int16, Int32, Int64, Boolean, Text, Binary}
 
@@ -20,3 +23,7 @@ simple_named name =
 -- the simple type that a property's Type names: with or without `Edm.`
 abbrev pub simple_of : List ℕ → Option Simple
 simple_of text = simple_named (unwrap_or (rest_after (codes "Edm.") text) text)
+
+-- what the Type of a property names: a simple type, or else the enumeration type at a place
+abbrev pub prop_type : (List ℕ → Option ℕ) → List ℕ → Option PropType
+prop_type enum_named text = option_or (option_map named.Simple (simple_of text)) (option_map named.Enum (enum_named text))

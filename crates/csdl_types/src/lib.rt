@@ -13,6 +13,6 @@ mod sizes;
 mod tests;
 mod type_rules;
 
-pub use numbers::under_of;
-pub use simple::{Simple, simple_of};
+pub use numbers::{numbers_of, under_of};
+pub use simple::{PropType, Simple, prop_type, simple_of};
 pub use type_rules::first_type_fault;

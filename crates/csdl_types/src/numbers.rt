@@ -30,7 +30,7 @@ fn under_simple(simple: Simple) -> Option<Under>
 }
 
 /// The numbers of an enumeration's members: each is one more than the one before it, from 0, where none is given.
-pub(crate) fn numbers_of(alloc: Global, enumeration: &RawEnum) -> Result<Vec<i128>, Memory>
+pub fn numbers_of(alloc: Global, enumeration: &RawEnum) -> Result<Vec<i128>, Memory>
     ensures { IfOk result (λ numbers. numbers.items ≡ numbers_of enumeration.now) }
 {
     let mut numbers = Vec::new(alloc);

@@ -1,7 +1,8 @@
 ghost use Rattle.std.specs.Prelude.{◌≡◌};
-ghost use Rattle.csdl_types.specs.Simple.{simple_named, simple_of};
+ghost use Rattle.csdl_lists.specs.Scopes.{names_of};
+ghost use Rattle.csdl_types.specs.Simple.{prop_type, simple_named, simple_of};
 
-use csdl_lists::rest_after;
+use csdl_lists::{Scope, rest_after};
 
 /// A simple type of CSDL, its bound aside.
 #[derive(Clone, Copy, Debug, PartialEq, Eq)]
@@ -45,5 +46,24 @@ fn simple_named(name: &str) -> Option<Simple>
         "String" => Some(Simple::Text),
         "Binary" => Some(Simple::Binary),
         _ => None,
+    }
+}
+
+/// What the Type of a property names.
+#[derive(Clone, Copy, Debug, PartialEq, Eq)]
+pub enum PropType {
+    /// A simple type.
+    Simple(Simple),
+    /// The enumeration type at a place in the model's list.
+    Enum(usize),
+}
+
+/// What the Type of a property names; `None` exactly where it names neither a simple type nor an enumeration type.
+pub fn prop_type(scope: &Scope, text: &str) -> Option<PropType>
+    ensures { result ≡ prop_type (names_of scope.now).enum_named text.now }
+{
+    match simple_of(text) {
+        Some(simple) => Some(PropType::Simple(simple)),
+        None => Some(PropType::Enum(scope.enum_named(text)?)),
     }
 }

@@ -1,8 +1,11 @@
 pub mod Types
 pub mod IsA
+pub mod Forest
+pub mod Marks
 pub mod Entities
 pub mod State
 pub mod Rows
 pub mod Selected
 pub mod Names
 pub mod Words
+pub mod Staff

@@ -3,14 +3,20 @@
 
 mod data;
 mod faults;
+mod forest;
+mod keys;
 mod mapping;
 mod model;
 mod names;
 mod schema;
 mod store;
+#[cfg(test)]
+mod tests;
 
 pub use data::{Entity, Hosted, Link, Row};
 pub use faults::{Breach, LimitFault, LimitKind, RuleFault, VocabFault, VocabFile};
+pub use forest::{is_of, subtree};
+pub use keys::key_of;
 pub use mapping::{Cond, CondOn, Fragment, LinkFragment, Mapping, Pair, Pick, Test};
 pub use model::{
     Assoc, Constraint, End, EntityModel, EntitySet, EntityType, Mult, Nav, Prop, TypeNode,

@@ -1,11 +1,10 @@
--- Turns of loops: one more item taken, mapped or folded, and what is so after the last.
-use Rattle.std.proofs.Common.{◌≡◌, ◌+◌, ◌≤◌, ℕ, List, [], ◌∷◌, ◌++◌, map, take, length, get_or, Some, slice_get, sym, ap, ◌∙◌, ◌<◌, fold, zero-add}
+-- Turns of loops: one more item taken or mapped, and what is so after the last.
+use Rattle.std.proofs.Common.{◌≡◌, ◌+◌, ◌≤◌, ℕ, List, [], ◌∷◌, ◌++◌, map, take, length, get_or, Some, slice_get, sym, ap, ◌∙◌, ◌<◌, zero-add}
 use Rattle.std.proofs.lemmas.List.{take_all, take_more}
 use Rattle.std.proofs.lemmas.Simd.{map-map}
 use Rattle.std.specs.List.{enumerate_from}
 use Rattle.std.proofs.lemmas.Option.{slice_get_within, get_or_from_slice_get, slice_get_read}
 use Rattle.std.proofs.lemmas.List.FromFn.{get_or-enumerate_from, length-enumerate_from}
-use Rattle.std.proofs.lemmas.List.Sums.{fold_more}
 
 -- one more item is taken
 pub take_item : {X : Type 0} (items : List X) (i : ℕ) (item : X) → slice_get items i ≡ Some item → take (i + 1) items ≡ take i items ++ item ∷ []
@@ -25,13 +24,6 @@ placed xs i x inside is = let n : i ≡ 0 + i = sym (zero-add i) in let both : (
 -- the place and the item at it
 pub at_enumerated : {X : Type 0} (xs : List X) (i : ℕ) (x : X) → i < length xs → x ≡ get_or xs i x → slice_get (enumerate_from 0 xs) i ≡ Some (i, x)
 at_enumerated xs i x inside is = slice_get_read (enumerate_from 0 xs) (length xs) i (i, x) (sym (length-enumerate_from 0 xs)) inside (placed xs i x inside is)
-
--- one more turn over all items with their places
-pub fold-enumerated : {X Y : Type 0} (f : Y → ℕ × X → Y) (start : Y) (xs : List X) (i : ℕ) (x : X) → i < length xs → x ≡ get_or xs i x
-    → fold f start (take (i + 1) (enumerate_from 0 xs)) ≡ f (fold f start (take i (enumerate_from 0 xs))) (i, x)
-fold-enumerated f start xs i x inside is =
-    fold_more f start (enumerate_from 0 xs) i (i, x) (rw length-enumerate_from inside)
-    ∙ ap (f (fold f start (take i (enumerate_from 0 xs)))) (sym (placed xs i x inside is))
 
 -- after the last turn
 pub take-enumerated : {X : Type 0} (xs : List X) (i : ℕ) → length xs ≤ i → take i (enumerate_from 0 xs) ≡ enumerate_from 0 xs

@@ -48,6 +48,7 @@ by_parts =
     (then_cmp (on flag_in bool_cmp)
     (then_cmp (on text_in (slice_cmp nat_cmp)) (on bytes_in (slice_cmp nat_cmp)))))
 
+-- the order by parts is total
 by_parts_total : IsTotalOrder by_parts
 unfolding by_parts
 by_parts_total =
@@ -56,11 +57,13 @@ by_parts_total =
     (then_total (on_total flag_in bool_cmp_total)
     (then_total (on_total text_in nat_list_cmp_total) (on_total bytes_in nat_list_cmp_total))))
 
+-- what comes after decides nothing where it says Equal
 then_equal : (order : Ordering) → ordering_then order Equal ≡ order
 then_equal Less = refl
 then_equal Equal = refl
 then_equal Greater = refl
 
+-- the order by parts is that of values
 agree : (x y : Value) → by_parts x y ≡ value_cmp x y
 unfolding by_parts whole_in flag_in text_in bytes_in
 agree (Whole a) (Whole b) = then_equal (int_cmp a b)
@@ -89,15 +92,18 @@ agree (Bytes a) (Whole b) = refl
 agree (Bytes a) (Flag b) = refl
 agree (Bytes a) (Text b) = refl
 
+-- the order of values is total
 pub value_cmp_total : IsTotalOrder value_cmp
 value_cmp_total = subst IsTotalOrder (λ i x y. agree x y i) by_parts_total
 
+-- flags that their order doesn't tell apart are one
 bool_apart : IsAntisymmetric bool_cmp
 bool_apart false false same = refl
 bool_apart true true same = refl
 bool_apart false true same = cc
 bool_apart true false same = cc
 
+-- values that it doesn't tell apart are one
 pub value_cmp_apart : IsAntisymmetric value_cmp
 value_cmp_apart (Whole a) (Whole b) same = ap Whole (int_cmp-IsAntisymmetric a b same)
 value_cmp_apart (Flag a) (Flag b) same = ap Flag (bool_apart a b same)
@@ -125,8 +131,10 @@ value_cmp_apart (Bytes a) (Whole b) same = cc
 value_cmp_apart (Bytes a) (Flag b) same = cc
 value_cmp_apart (Bytes a) (Text b) same = cc
 
+-- the order of keys is total
 pub key_cmp_total : IsTotalOrder (slice_cmp value_cmp)
 key_cmp_total = lists_total value_cmp_total
 
+-- keys that it doesn't tell apart are one
 pub key_cmp_apart : IsAntisymmetric (slice_cmp value_cmp)
 key_cmp_apart = slice_cmp-IsAntisymmetric value_cmp_apart

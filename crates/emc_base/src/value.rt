@@ -50,7 +50,7 @@ pub enum Kind {
 pub struct EnumKind {
     /// The kind of its numbers.
     pub under: Under,
-    /// The members' numbers, in their order, without repeats.
+    /// The members' numbers, in rising order, without repeats.
     pub members: Seq<i64>,
 }
 

@@ -8,9 +8,11 @@ use Rattle.json_form.specs.declared.pointer.Step.{Step}
 use Rattle.json_form.specs.declared.pointer.Step.TheVariants.{Member, Item}
 use Rattle.json_form.specs.Pointers.{step_cmp, step_key, steps_cmp}
 
+-- the order of steps is total
 pub step_cmp_total : IsTotalOrder step_cmp
 step_cmp_total = on_total step_key nat_list_cmp_total
 
+-- steps that it doesn't tell apart are one
 pub step_cmp_apart : IsAntisymmetric step_cmp
 step_cmp_apart one two same = by one two (slice_cmp-IsAntisymmetric nat_cmp-IsAntisymmetric (step_key one) (step_key two) same)
   where
@@ -20,8 +22,10 @@ step_cmp_apart one two same = by one two (slice_cmp-IsAntisymmetric nat_cmp-IsAn
     by (Member a) (Item b) is = absurd cc
     by (Item a) (Member b) is = absurd cc
 
+-- the order of places is total
 pub steps_cmp_total : IsTotalOrder steps_cmp
 steps_cmp_total = lists_total step_cmp_total
 
+-- places that it doesn't tell apart are one
 pub steps_cmp_apart : IsAntisymmetric steps_cmp
 steps_cmp_apart = slice_cmp-IsAntisymmetric step_cmp_apart

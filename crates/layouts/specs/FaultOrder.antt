@@ -9,7 +9,7 @@ use Rattle.std.specs.Ordering.{nat_cmp, ordering_then}
 use Rattle.json_form.specs.PlaceOrder.{steps_cmp_apart, steps_cmp_total}
 use Rattle.json_form.specs.Pointers.{steps_cmp}
 use Rattle.layouts.specs.declared.rule.Rule.{Rule}
-use Rattle.layouts.specs.declared.rule.Rule.TheVariants.{IsJson, HasForm, HasMembers, IsKnown, IsSupported, NamedOnce, Resolves, Ancestors, TypeKey, KeyProperty, InheritedName, PropertyType, Bound, IsBuilt}
+use Rattle.layouts.specs.declared.rule.Rule.TheVariants.{IsJson, HasForm, HasMembers, IsKnown, IsSupported, NamedOnce, Resolves, Ancestors, TypeKey, KeyProperty, InheritedName, PropertyType, Bound, ConcreteType, EndRoles, Multiplicities, Constraint, DependentKey, Arrows, EndType, IsBuilt}
 use Rattle.layouts.specs.Faults.{fault_cmp}
 use Rattle.layouts.specs.Rules.{rule_number}
 
@@ -19,7 +19,7 @@ fault_cmp_total = then_total (on_total (λ fault. rule_number fault.rule) nat_cm
 
 -- the rule of a number
 rule_of : ℕ → Rule
-rule_of number = get_or (IsJson ∷ IsJson ∷ HasForm ∷ HasMembers ∷ IsKnown ∷ IsSupported ∷ NamedOnce ∷ Resolves ∷ Ancestors ∷ TypeKey ∷ KeyProperty ∷ InheritedName ∷ PropertyType ∷ Bound ∷ []) number IsBuilt
+rule_of number = get_or (IsJson ∷ IsJson ∷ HasForm ∷ HasMembers ∷ IsKnown ∷ IsSupported ∷ NamedOnce ∷ Resolves ∷ Ancestors ∷ TypeKey ∷ KeyProperty ∷ InheritedName ∷ PropertyType ∷ Bound ∷ ConcreteType ∷ EndRoles ∷ Multiplicities ∷ Constraint ∷ DependentKey ∷ Arrows ∷ EndType ∷ []) number IsBuilt
 
 -- its number has no other rule
 numbered : (rule : Rule) → rule_of (rule_number rule) ≡ rule
@@ -37,6 +37,13 @@ numbered KeyProperty = refl
 numbered InheritedName = refl
 numbered PropertyType = refl
 numbered Bound = refl
+numbered ConcreteType = refl
+numbered EndRoles = refl
+numbered Multiplicities = refl
+numbered Constraint = refl
+numbered DependentKey = refl
+numbered Arrows = refl
+numbered EndType = refl
 numbered IsBuilt = refl
 
 -- rules of one number are one

@@ -1,7 +1,7 @@
 -- The numbers of the rules.
 use Rattle.std.specs.Prelude.{ℕ}
 use Rattle.layouts.specs.declared.rule.Rule.{Rule}
-use Rattle.layouts.specs.declared.rule.Rule.TheVariants.{IsJson, HasForm, HasMembers, IsKnown, IsSupported, NamedOnce, Resolves, Ancestors, TypeKey, KeyProperty, InheritedName, PropertyType, Bound, IsBuilt}
+use Rattle.layouts.specs.declared.rule.Rule.TheVariants.{IsJson, HasForm, HasMembers, IsKnown, IsSupported, NamedOnce, Resolves, Ancestors, TypeKey, KeyProperty, InheritedName, PropertyType, Bound, ConcreteType, EndRoles, Multiplicities, Constraint, DependentKey, Arrows, EndType, IsBuilt}
 
 -- the number that is printed, and by which rules are ordered
 abbrev pub rule_number : Rule → ℕ
@@ -18,4 +18,11 @@ rule_number KeyProperty = 10
 rule_number InheritedName = 11
 rule_number PropertyType = 12
 rule_number Bound = 13
+rule_number ConcreteType = 14
+rule_number EndRoles = 15
+rule_number Multiplicities = 16
+rule_number Constraint = 17
+rule_number DependentKey = 18
+rule_number Arrows = 19
+rule_number EndType = 20
 rule_number IsBuilt = 99

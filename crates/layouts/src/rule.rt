@@ -31,6 +31,20 @@ pub enum Rule {
     PropertyType,
     /// 13: a bound stands at a text or a byte list alone, and is a number from 1 to 1,048,576.
     Bound,
+    /// 14: the element type of each set, and the type of each end, has a concrete type at or below it.
+    ConcreteType,
+    /// 15: the ends of an association set name each role of its association once.
+    EndRoles,
+    /// 16: the multiplicities of an association are among those that are allowed, with a constraint or without.
+    Multiplicities,
+    /// 17: a constraint's principal list is the whole key of the principal type, and the dependent list matches it.
+    Constraint,
+    /// 18: where a property of a key is a dependent one, the dependent type is the element type of its set.
+    DependentKey,
+    /// 19: the constraints that decide a key lead from set to set without coming round in a circle.
+    Arrows,
+    /// 20: the type of an end is the element type of its entity set, or derived from it.
+    EndType,
     /// 99: the documents are of the form that is built so far.
     IsBuilt,
 }
@@ -54,6 +68,13 @@ impl Rule {
             Rule::InheritedName => 11,
             Rule::PropertyType => 12,
             Rule::Bound => 13,
+            Rule::ConcreteType => 14,
+            Rule::EndRoles => 15,
+            Rule::Multiplicities => 16,
+            Rule::Constraint => 17,
+            Rule::DependentKey => 18,
+            Rule::Arrows => 19,
+            Rule::EndType => 20,
             Rule::IsBuilt => 99,
         }
     }

@@ -5,7 +5,8 @@ use Rattle.emc_base.proofs.Orders.{neither_after}
 use Rattle.layouts.specs.FaultOrder.{fault_cmp_apart, fault_cmp_total}
 use Rattle.layouts.specs.Faults.{fault_cmp}
 use Rattle.round_trip.specs.Words.{RuleFault}
-use Rattle.mapping_core.specs.Rules.{Breaks, IsToldRule, told_as}
+use Rattle.told_rules.specs.Told.{told_as}
+use Rattle.mapping_core.specs.Rules.{Breaks, IsToldRule}
 use Rattle.mapping_core.proofs.Told.{same_file}
 
 pub one_told : (csdl ssdl msl : List ℕ) (one two : RuleFault) → IsToldRule csdl ssdl msl one → IsToldRule csdl ssdl msl two → one ≡ two

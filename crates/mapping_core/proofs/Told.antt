@@ -15,8 +15,10 @@ use Rattle.edm_types.specs.declared.faults.VocabFile.TheVariants.{Csdl, Ssdl, Ms
 use Rattle.round_trip.specs.Words.{Schema, VocabFile}
 use Rattle.first_form.specs.Meaning.{first_form_meaning, meaning_of_texts}
 use Rattle.mapping_core.specs.Compiles.{ReadsSchema}
-use Rattle.mapping_core.specs.Reading.{IsFaultOrMemory, ReadsFile}
-use Rattle.mapping_core.specs.Rules.{Breaks, IsFileFault, IsToldRule, Means, bytes_of, file_number, told_as}
+use Rattle.csdl_model.specs.ReadsModel.{ReadsModel}
+use Rattle.mapping_core.specs.Reading.{ReadsFile, TellsTree}
+use Rattle.told_rules.specs.Told.{IsToldOrMemory, told_as}
+use Rattle.mapping_core.specs.Rules.{Breaks, IsFileFault, IsToldRule, Means, bytes_of, file_number}
 
 -- files of one number are one file
 pub same_file : (one two : VocabFile) → file_number one ≡ file_number two → one ≡ two
@@ -101,7 +103,7 @@ module _ (csdl ssdl msl : List ℕ) where
             let same : fault ≡ other = same_fault fault other (rule ∙ sym last.1) (root ∙ sym last.2) in
             subst (λ (else : Fault). fault_cmp fault else ≢ Greater) same (not_after_itself fault)
 
-    pub is_unbuilt : (fault : Fault) → fault.rule ≡ IsBuilt → fault.place ≡ [] → (answer : VocabFault) → None ≡ first_form_meaning c s m → IsFaultOrMemory (told_as Msl fault) answer
+    pub is_unbuilt : (fault : Fault) → fault.rule ≡ IsBuilt → fault.place ≡ [] → (answer : VocabFault) → None ≡ first_form_meaning c s m → IsToldOrMemory (told_as Msl fault) answer
         → ReadsSchema csdl ssdl msl (Err answer)
     is_unbuilt fault rule root (read.Rule told) is answered = subst (IsToldRule csdl ssdl msl) (sym answered) (tells_unbuilt fault rule root is)
     is_unbuilt fault rule root read.Memory is answered = cc
@@ -122,3 +124,12 @@ pub handed_on : (csdl ssdl msl : List ℕ) (told : VocabFault) (result : Result 
     → ReadsSchema csdl ssdl msl (Err told) → ReadsSchema csdl ssdl msl result
 handed_on csdl ssdl msl told (Ok schema) is reads = absurd is
 handed_on csdl ssdl msl told (Err fault) is reads = let P : VocabFault → Type 0 = λ other. ReadsSchema csdl ssdl msl (Err other) in subst P (sym is) reads
+
+-- what stops the reading of a CSDL document is told of its tree
+pub tells_model : (d : Data) (told : VocabFault) (result : Result Unit VocabFault) → IsErrAnd result (λ fault. fault ≡ told) → ReadsModel d (Err told) → TellsTree Csdl d result
+tells_model d told (Ok done) is reads = absurd is
+tells_model d told (Err fault) is reads = let P : VocabFault → Type 0 = λ other. TellsTree Csdl d (Err other) in subst P (sym is) (tells told reads)
+  where
+    tells : (other : VocabFault) → ReadsModel d (Err other) → TellsTree Csdl d (Err other)
+    tells (read.Rule rule) found = found
+    tells read.Memory found = cc

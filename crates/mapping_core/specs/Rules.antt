@@ -4,12 +4,11 @@
 use Rattle.std.specs.Prelude.{◌≡◌, ◌≢◌, ◌⊎◌, ℕ, ◌≤◌, List, [], Some, None}
 use Rattle.std.specs.declared.cmp.Ordering.TheVariants.{Greater}
 use Rattle.serde_json.specs.Data.{Data}
-use Rattle.json_form.specs.Pointers.{pointer_of}
 use Rattle.json_form.specs.TreeParts.{tree_at}
 use Rattle.layouts.specs.declared.fault.Fault.{Fault}
 use Rattle.layouts.specs.declared.rule.Rule.TheVariants.{IsBuilt, IsJson}
 use Rattle.layouts.specs.Faults.{fault_cmp}
-use Rattle.layouts.specs.Rules.{rule_number}
+use Rattle.told_rules.specs.Told.{told_as}
 use Rattle.csdl_model.specs.ModelFaults.{IsModelFault}
 use Rattle.round_trip.specs.Words.{RuleFault, Schema, VocabFile}
 use Rattle.edm_types.specs.declared.faults.VocabFile.TheVariants.{Csdl, Ssdl, Msl}
@@ -32,10 +31,6 @@ abbrev pub IsFileFault : VocabFile → List ℕ → Fault → Type 0
 IsFileFault file bytes fault =
     ((tree_at bytes ≡ None) × (fault.rule ≡ IsJson) × (fault.place ≡ []))
     ⊎ ((d : Data) × (tree_at bytes ≡ Some d) × IsTreeFault file d fault)
-
--- a fault as it is told: the number of the rule, and the pointer of the place
-abbrev pub told_as : VocabFile → Fault → RuleFault
-told_as file fault = record { file = file; rule = rule_number fault.rule; place = pointer_of fault.place }
 
 module _ (csdl ssdl msl : List ℕ) where
   -- the bytes of a file

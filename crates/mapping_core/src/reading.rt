@@ -1,18 +1,17 @@
-ghost use Rattle.std.specs.Prelude.{◌≡◌, ℕ, List, IfOk};
+ghost use Rattle.std.specs.Prelude.{◌≡◌, ℕ, List};
 ghost use Rattle.json_form.specs.Documents.{tree_of};
-ghost use Rattle.least_fault.specs.Least.{IsLeast};
-ghost use Rattle.layouts.specs.Faults.{fault_cmp};
 ghost use Rattle.mapping_core.specs.Compiles.{ReadsSchema};
-ghost use Rattle.mapping_core.specs.Reading.{IsFaultOrMemory, ReadsFile};
-ghost use Rattle.mapping_core.specs.Rules.{IsToldRule, IsTreeFault, told_as};
+ghost use Rattle.mapping_core.specs.Reading.{ReadsFile, TellsTree};
+ghost use Rattle.mapping_core.specs.Rules.{IsToldRule};
 
-use csdl_model::first_model_fault;
+use csdl_model::read_csdl;
 use edm_types::{RuleFault, Schema, VocabFault, VocabFile};
 use emc_base::{Bin, Memory};
 use first_form::read_first_form;
-use json_form::{Doc, DocFault, pointer_of};
+use json_form::{Doc, DocFault};
 use layouts::{Fault, Rule};
 use std::alloc::Global;
+use told_rules::told;
 
 /// The law that no two different rules are told of three documents.
 pub fn one_rule()
@@ -46,30 +45,20 @@ fn read_file(alloc: Global, file: VocabFile, bytes: &Bin) -> Result<Doc, VocabFa
         }
         Err(DocFault::Memory) => return Err(VocabFault::Memory),
     };
-    match first_tree_fault(alloc, file, &doc) {
-        Ok(None) => Ok(doc),
-        Ok(Some(fault)) => Err(told(alloc, file, fault)),
-        Err(Memory) => Err(VocabFault::Memory),
-    }
+    check_tree(alloc, file, &doc)?;
+    Ok(doc)
 }
 
-// The least fault of a document by the rules of its vocabulary.
-fn first_tree_fault(alloc: Global, file: VocabFile, doc: &Doc) -> Result<Option<Fault>, Memory>
-    ensures { IfOk result (λ found. IsLeast fault_cmp (IsTreeFault file (tree_of doc.now)) found) }
+// Whether a document keeps the rules of its vocabulary; or its least fault. The model that a CSDL document means is let go: the first form
+// is asked of the trees.
+fn check_tree(alloc: Global, file: VocabFile, doc: &Doc) -> Result<(), VocabFault>
+    ensures { TellsTree file (tree_of doc.now) result }
 {
     match file {
-        VocabFile::Csdl => first_model_fault(alloc, doc),
-        VocabFile::Ssdl | VocabFile::Msl => Ok(None),
-    }
-}
-
-// The fault of a file as it is told, or want of memory.
-fn told(alloc: Global, file: VocabFile, fault: Fault) -> VocabFault
-    ensures { IsFaultOrMemory (told_as file fault) result }
-{
-    let rule = fault.rule.number();
-    match pointer_of(alloc, fault.place.as_slice()) {
-        Ok(place) => VocabFault::Rule(RuleFault { file, rule, place }),
-        Err(Memory) => VocabFault::Memory,
+        VocabFile::Csdl => {
+            let _model = read_csdl(alloc, doc)?;
+            Ok(())
+        }
+        VocabFile::Ssdl | VocabFile::Msl => Ok(()),
     }
 }

@@ -2,9 +2,11 @@
 #![tactic(auto)]
 
 mod named;
+mod once;
 mod places;
 #[cfg(test)]
 mod tests;
 
 pub use named::Named;
-pub use places::{Places, first_places};
+pub use once::{are_apart, holds_each_once};
+pub use places::{Places, first_places, places_of};

@@ -1,17 +1,17 @@
 ghost use Rattle.std.specs.Prelude.{◌≡◌, ◌↔◌, List, ℕ, IfOk, IsTrue, OnOk};
-ghost use Rattle.indexmap.specs.IndexMap.{get_by_text};
+ghost use Rattle.std.specs.BTreeMap.{get_by_text};
 ghost use Rattle.name_places.specs.GivenNames.{first_place, noted, IsGivenBefore};
 ghost use Rattle.name_places.specs.PlacesIn.{place_in};
 
 use crate::named::Named;
-use emc_base::{Memory, Txt};
-use indexmap::IndexMap;
+use emc_base::{Memory, Seq, Txt};
 use std::alloc::Global;
+use std::collections::BTreeMap;
 
 /// The names of a list, each with the place where it is given first.
 #[derive(Drop)]
 pub struct Places {
-    by_name: IndexMap<String, usize>,
+    by_name: BTreeMap<String, usize>,
 }
 
 impl Places {
@@ -35,17 +35,25 @@ impl Places {
 pub fn first_places<T: Named>(alloc: Global, items: &[T]) -> Result<Places, Memory>
     ensures { IfOk result (λ places. place_in places ≡ first_place T.name_in items.now) }
 {
-    let mut by_name = IndexMap::new(alloc);
+    let mut by_name = BTreeMap::new(alloc);
     for (place, item) in items.iter().enumerate() {
         note_place(alloc, &mut by_name, item.name(), place)?;
     }
     Ok(Places { by_name })
 }
 
+/// The first place of each name in a list.
+pub fn places_of<T: Named>(alloc: Global, items: &Seq<T>) -> Result<Places, Memory>
+    ensures { IfOk result (λ places. place_in places ≡ first_place T.name_in items.now) }
+{
+    let places = first_places(alloc, items.as_slice())?;
+    Ok(places)
+}
+
 // Notes the place of a name, unless the name has one.
 fn note_place(
     alloc: Global,
-    by_name: &mut IndexMap<String, usize>,
+    by_name: &mut BTreeMap<String, usize>,
     name: &Txt,
     place: usize,
 ) -> Result<(), Memory>

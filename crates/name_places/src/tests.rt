@@ -1,4 +1,4 @@
-use crate::{Named, first_places};
+use crate::{Named, are_apart, first_places, holds_each_once};
 use emc_base::Txt;
 use std::test::Fail;
 
@@ -49,5 +49,19 @@ fn a_name_is_told_at_its_second_place(rt: HostRuntime) -> Result<(), Fail> {
     assert!(rt; !places.is_given_before(1, &towns[1]));
     assert!(rt; places.is_given_before(2, &towns[2]));
     assert!(rt; bonn.people > bern.people);
+    Ok(())
+}
+
+#[test]
+fn lists_of_names_are_compared(rt: HostRuntime) -> Result<(), Fail> {
+    let alloc = rt.alloc();
+    let tin = Txt::of(alloc, "tin")?;
+    let lead = Txt::of(alloc, "lead")?;
+    assert!(rt; are_apart(alloc, &[&tin, &lead])?);
+    assert!(rt; !are_apart(alloc, &[&tin, &lead, &tin])?);
+    assert!(rt; holds_each_once(alloc, &[&tin, &lead], &[&lead, &tin])?);
+    assert!(rt; !holds_each_once(alloc, &[&tin, &lead], &[&lead, &tin, &lead])?);
+    assert!(rt; !holds_each_once(alloc, &[&tin], &[&lead, &tin])?);
+    assert!(rt; !holds_each_once(alloc, &[&tin, &lead], &[&lead])?);
     Ok(())
 }

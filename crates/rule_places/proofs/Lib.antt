@@ -1,2 +1,3 @@
+pub mod LeastFound
 pub mod Rules
 pub mod Seen

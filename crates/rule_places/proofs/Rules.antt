@@ -100,6 +100,37 @@ in_list_map member P Q items to fault some = record {
   };
 }
 
+-- of two things that may be wrong with items, each fault is of the one or of the other
+in_list_either : {X : Type 0} (member : List ℕ) (P Q : ℕ → X → Fault → Type 0) (items : List X) (fault : Fault)
+    → InList member (λ i item fault. P i item fault ⊎ Q i item fault) items fault → InList member P items fault ⊎ InList member Q items fault
+in_list_either member P Q items fault some = ⊎_elim
+    (λ (holds : P some.holds.i some.holds.item (record { rule = fault.rule; place = some.holds.holds.rest })). inl (record {
+      rest = some.rest;
+      reached = some.reached;
+      holds = record { i = some.holds.i; item = some.holds.item; here = some.holds.here; holds = record { rest = some.holds.holds.rest; reached = some.holds.holds.reached; holds = holds } };
+    }))
+    (λ (holds : Q some.holds.i some.holds.item (record { rule = fault.rule; place = some.holds.holds.rest })). inr (record {
+      rest = some.rest;
+      reached = some.reached;
+      holds = record { i = some.holds.i; item = some.holds.item; here = some.holds.here; holds = record { rest = some.holds.holds.rest; reached = some.holds.holds.reached; holds = holds } };
+    }))
+    some.holds.holds.holds
+
+-- the least of two searches in one list is that of both things in it
+pub least_in_list_of_both : {X : Type 0} (member : List ℕ) (P Q : ℕ → X → Fault → Type 0) (items : List X) (found : Option Fault)
+    → IsLeast fault_cmp (λ fault. InList member P items fault ⊎ InList member Q items fault) found
+    → IsLeast fault_cmp (InList member (λ i item fault. P i item fault ⊎ Q i item fault) items) found
+least_in_list_of_both {X} member P Q items found = least_same fault_cmp (λ fault. InList member P items fault ⊎ InList member Q items fault) (InList member Both items) found
+    (λ fault. ⊎_elim (in_list_map member P Both items (λ i item inside holds. inl holds) fault) (in_list_map member Q Both items (λ i item inside holds. inr holds) fault))
+    (in_list_either member P Q items)
+  where
+    Both : ℕ → X → Fault → Type 0
+    Both i item fault = P i item fault ⊎ Q i item fault
+
+-- the least of what is wrong only where something holds, and it holds
+pub least_given : {P : Type 0} (Q : Fault → Type 0) (found : Option Fault) → P → IsLeast fault_cmp Q found → IsLeast fault_cmp (λ fault. P × Q fault) found
+least_given {P} Q found holds = least_same fault_cmp Q (λ fault. P × Q fault) found (λ fault wrong. (holds, wrong)) (λ fault both. both.1)
+
 module _ {X : Type 0} (rule : Rule) (rest : List Step) (P : ℕ → X → Type 0) (items : List X) where
   -- the fault at the item of this place, seen from the list
   abbrev at_item : ℕ → Fault

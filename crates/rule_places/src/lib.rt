@@ -4,5 +4,5 @@
 mod lists;
 mod sites;
 
-pub use lists::{behind, fault_at_item, first_in_list};
+pub use lists::{behind, behind_member, fault_at_item, fault_on_item, first_at, first_in_list};
 pub use sites::{fault_at, fault_here_if, fault_if};

@@ -6,7 +6,7 @@ ghost use Rattle.layouts.specs.Inside.{after};
 ghost use Rattle.rule_places.specs.Places.{InItems, InList};
 
 use crate::sites::fault_at;
-use emc_base::{Memory, Txt};
+use emc_base::{Memory, Seq, Txt};
 use json_form::Step;
 use layouts::{Fault, Rule};
 use least_fault::{Finder, first_among};
@@ -56,7 +56,7 @@ pub fn first_in_list<T, S: Finder<T, Fault>>(
     ensures { IfOk result (λ found. IsLeast fault_cmp (InList member.now (S.wrong search.now) items.now) found) }
 {
     let found = first_among(alloc, &Items { search }, items)?;
-    let seen = behind(Step::Member(Txt::of(alloc, member)?), found)?;
+    let seen = behind_member(alloc, member, found)?;
     Ok(seen)
 }
 
@@ -79,4 +79,49 @@ pub fn fault_at_item(
     let inside = fault_at(alloc, rule, member)?.after(Step::Item(step))?;
     let fault = inside.after(Step::Member(Txt::of(alloc, list)?))?;
     Ok(Some(fault))
+}
+
+/// The rule is broken at the item of a place itself, if there is one; seen from the object that has the list at a member.
+pub fn fault_on_item(
+    alloc: Global,
+    rule: Rule,
+    list: &str,
+    place: Option<usize>,
+) -> Result<Option<Fault>, Memory>
+    ensures { IfOk result (λ found. found ≡ option_map (after (Member list.now)) (option_map (λ i. record { rule = rule; place = Item i ∷ [] }) place)) }
+{
+    let Some(place) = place else {
+        return Ok(None);
+    };
+    let Ok(step) = u32::try_from(place) else {
+        return Err(Memory);
+    };
+    let inside = Fault::here(alloc, rule).after(Step::Item(step))?;
+    let fault = inside.after(Step::Member(Txt::of(alloc, list)?))?;
+    Ok(Some(fault))
+}
+
+/// What was found in the object at a member, seen from the object that has the member.
+pub fn behind_member(
+    alloc: Global,
+    member: &str,
+    found: Option<Fault>,
+) -> Result<Option<Fault>, Memory>
+    ensures { IfOk result (λ seen. seen ≡ option_map (after (Member member.now)) found) }
+{
+    let seen = behind(Step::Member(Txt::of(alloc, member)?), found)?;
+    Ok(seen)
+}
+
+/// The least of what is wrong with the items of the list at a member.
+pub fn first_at<T, S: Finder<T, Fault>>(
+    alloc: Global,
+    member: &str,
+    search: &S,
+    items: &Seq<T>,
+) -> Result<Option<Fault>, Memory>
+    ensures { IfOk result (λ found. IsLeast fault_cmp (InList member.now (S.wrong search.now) items.now) found) }
+{
+    let found = first_in_list(alloc, member, search, items.as_slice())?;
+    Ok(found)
 }

@@ -13,8 +13,7 @@ use Rattle.sound_examples.proofs.Names.{names_apart}
 use Rattle.sound_examples.proofs.Tests.{are_new, share_none, none_shared}
 use Rattle.sound_examples.proofs.Lists.{none_among}
 use Rattle.soundness.specs.Lookups.{IsAncestor}
-use Rattle.soundness.specs.Inheritance.{HasNoCircle, IsNodeOf, nodes_below}
-use Rattle.soundness.specs.Inheritance.{top, below}
+use Rattle.soundness.specs.Inheritance.{HasNoCircle}
 
 module _ (model : EntityModel) where
   -- P of the base type, where there is one
@@ -71,13 +70,3 @@ module _ (model : EntityModel) (flat : IsFlat model) where
             = of_base model (λ v entry. share_none bytes_eq (own_names model t type) (own_names model v entry) ≡ true) type u ancestor is is_above facts.1 in
             none_among (own_names model u ancestor) (own_names model t type) (none_shared bytes_eq bytes_eq-Decides (own_names model t type) (own_names model u ancestor) test);
       }
-
--- the listed nodes are all of the forest, if they hold its trees and what is below each of them
-pub each_node : (P : TypeNode → Type 0) (trees nodes : List TypeNode) → AllByRecursion (Contains nodes) trees
-    → AllByRecursion (λ node. AllByRecursion (Contains nodes) (nodes_below node)) nodes → AllByRecursion P nodes
-    → (node : TypeNode) → IsNodeOf trees node → P node
-each_node P trees nodes tops lower holds node stands = each_of P nodes node holds (among stands)
-  where
-    among : {n : TypeNode} → IsNodeOf trees n → Contains nodes n
-    among (top n has) = each_of (Contains nodes) trees n tops has
-    among (below n c above has) = each_of (Contains nodes) (nodes_below n) c (each_of (λ m. AllByRecursion (Contains nodes) (nodes_below m)) nodes n lower (among above)) has

@@ -6,7 +6,7 @@ use Rattle.std.proofs.Math.Dec.{ltb}
 use Rattle.std.proofs.lemmas.Bool.{ltb-true}
 use Rattle.round_trip.specs.Words.{PropId, Assoc, Pair, LinkFragment, Cond, Schema, IsIndependent, key_props}
 use Rattle.edm_types.specs.declared.mapping.CondOn.TheVariants as on
-use Rattle.soundness.specs.Lists.{HoldsEachOnce}
+use Rattle.emc_base.specs.Lists.{HoldsEachOnce}
 use Rattle.soundness.specs.Fragments.{WritesToFitting}
 use Rattle.soundness.specs.Conditions.{ComparesInDomain}
 use Rattle.soundness.specs.Joined.{ComparesNoBarred}

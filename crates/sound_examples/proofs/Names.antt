@@ -7,7 +7,7 @@ use Rattle.std.proofs.lemmas.Bool.Decides.{Decides-eqb, not_from_Decides}
 use Rattle.std.proofs.lemmas.Slice.Eq.{bytes_eq-Decides}
 use Rattle.round_trip.specs.Words.{PropId, ColId, AssocId}
 use Rattle.worked_examples.proofs.Small.{PairsByRecursion}
-use Rattle.soundness.specs.Lists.{AreApart}
+use Rattle.emc_base.specs.Lists.{AreApart}
 use Rattle.sound_examples.proofs.Lists.{apart}
 use Rattle.sound_examples.proofs.Tests.{are_new, all_new}
 

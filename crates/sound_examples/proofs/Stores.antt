@@ -6,7 +6,7 @@ use Rattle.std.proofs.Math.Dec.{ltb}
 use Rattle.std.proofs.lemmas.Bool.{ltb-true}
 use Rattle.round_trip.specs.Words.{TableId, ColId, StoreModel, Table, ForeignKey, key_columns}
 use Rattle.worked_examples.proofs.Small.{PairsByRecursion}
-use Rattle.soundness.specs.Lists.{AreApart, HoldsEachOnce}
+use Rattle.emc_base.specs.Lists.{AreApart, HoldsEachOnce}
 use Rattle.soundness.specs.Kinds.{without_bound}
 use Rattle.soundness.specs.Lookups.{columns_of, column_kind}
 use Rattle.soundness.specs.Stores.{IsColId, HasForeignIds, IsKeyColumn, IsSoundColumn, IsSoundTable, IsSoundForeignKey, IsSoundStore}

@@ -4,7 +4,7 @@
 use Rattle.std.specs.Prelude.{◌≡◌, ◌≢◌, map, option_map, All, Any, Contains, Some, MatchOption}
 use Rattle.round_trip.specs.Words.{SetId, EntityModel, Assoc, End, Constraint, props_of, key_props, dependent_end, principal_end}
 use Rattle.edm_types.specs.declared.model.Mult.TheVariants.{One, ZeroOrOne, Many}
-use Rattle.soundness.specs.Lists.{AreApart, HoldsEachOnce}
+use Rattle.emc_base.specs.Lists.{AreApart, HoldsEachOnce}
 use Rattle.soundness.specs.Kinds.{without_bound}
 use Rattle.soundness.specs.Lookups.{prop_kind, IsNeeded, IsElement, IsUnderElement, HasConcrete}
 

@@ -4,7 +4,7 @@
 use Rattle.std.specs.Prelude.{◌≡◌, ◌⊎◌, List, ◌++◌, map, All, Any, Contains, Some}
 use Rattle.round_trip.specs.Words.{TypeId, PropId, TableId, Kind, EntityModel, Fragment, Pair, LinkFragment, Schema, props_of, key_props, key_columns}
 use Rattle.edm_types.specs.declared.mapping.CondOn.TheVariants as on
-use Rattle.soundness.specs.Lists.{AreApart, HoldsEachOnce}
+use Rattle.emc_base.specs.Lists.{AreApart, HoldsEachOnce}
 use Rattle.soundness.specs.Kinds.{Corresponds}
 use Rattle.soundness.specs.Lookups.{prop_kind, column_kind, set_key, IsUnderElement}
 

@@ -3,7 +3,7 @@
 use Rattle.std.specs.Prelude.{◌++◌, ◌<◌, map, length, All}
 use Rattle.round_trip.specs.Words.{TableId, Assoc, Fragment, Pair, LinkFragment, CondOn, Schema, At, IsIndependent}
 use Rattle.edm_types.specs.declared.mapping.CondOn.TheVariants as on
-use Rattle.soundness.specs.Lists.{AreApart}
+use Rattle.emc_base.specs.Lists.{AreApart}
 use Rattle.soundness.specs.Lookups.{set_key}
 use Rattle.soundness.specs.ModelIds.{IsTypeId, IsPropId, IsSetId}
 use Rattle.soundness.specs.Models.{IsSoundModel}

@@ -2,7 +2,7 @@
 -- Source: the references and names of CSDL version 3, which resolve (V7).
 use Rattle.std.specs.Prelude.{◌<◌, ◌++◌, length, All, MatchOption, ⊤}
 use Rattle.round_trip.specs.Words.{SetId, TypeId, PropId, EntityModel, End, TypeNode}
-use Rattle.soundness.specs.Inheritance.{node_type, IsNodeOf}
+use Rattle.edm_types.specs.Forest.{node_type, IsNodeOf}
 
 -- the id is that of a type
 abbrev pub IsTypeId : EntityModel → TypeId → Type 0

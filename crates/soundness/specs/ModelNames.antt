@@ -2,7 +2,7 @@
 -- Source: CSDL version 3, the names of Schema, EntityContainer, EntityType and Association.
 use Rattle.std.specs.Prelude.{◌≡◌, ◌≢◌, ◌==◌, ℕ, List, ◌++◌, map, filter, All, AllPairs, Contains}
 use Rattle.round_trip.specs.Words.{TypeId, EntityModel, EntityType, Assoc, End, At}
-use Rattle.soundness.specs.Lists.{AreApart}
+use Rattle.emc_base.specs.Lists.{AreApart}
 use Rattle.soundness.specs.Lookups.{IsAncestor}
 
 -- one end of one association: the same role, type and multiplicity. The sets may differ.

@@ -6,7 +6,8 @@ use Rattle.soundness.specs.Kinds.{IsSoundKind}
 use Rattle.soundness.specs.Lookups.{HasConcrete}
 use Rattle.soundness.specs.ModelIds.{HasModelIds}
 use Rattle.soundness.specs.ModelNames.{HasDistinctNames}
-use Rattle.soundness.specs.Inheritance.{HasNoCircle, HasInheritedProps, HasInheritedKey, IsKeyProp, IsForest}
+use Rattle.edm_types.specs.Forest.{IsForest}
+use Rattle.soundness.specs.Inheritance.{HasNoCircle, HasInheritedProps, HasInheritedKey, IsKeyProp}
 use Rattle.soundness.specs.Constraints.{IsSoundAssoc, HasNoCircleOfArrows}
 
 -- a type's properties and key are those that its base type gives, and its own. V9, V10.

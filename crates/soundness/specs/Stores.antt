@@ -3,7 +3,7 @@
 -- ReferentialConstraint.
 use Rattle.std.specs.Prelude.{◌≡◌, ◌≢◌, ◌<◌, ◌≤◌, [], map, length, option_map, All, false}
 use Rattle.round_trip.specs.Words.{TableId, ColId, StoreModel, Table, Column, ForeignKey, At, key_columns}
-use Rattle.soundness.specs.Lists.{AreApart, HoldsEachOnce}
+use Rattle.emc_base.specs.Lists.{AreApart, HoldsEachOnce}
 use Rattle.soundness.specs.Kinds.{IsSoundKind, IsEnum, IsKeyKind, without_bound}
 use Rattle.soundness.specs.Lookups.{columns_of, column_kind}
 

@@ -1,6 +1,6 @@
 use Rattle.std.proofs.Common.{◌<◌, length, List, ℕ, Option, sym, subst, subst₂}
 use Rattle.base_chains.specs.Chains.{base_at}
-use Rattle.base_chains.proofs.Ascents.{IsAscent, ascent_more, ascent_start, left_count, left_fewer}
+use Rattle.base_chains.proofs.Ascents.{IsAscent, ascent_all, ascent_more, ascent_start, left_count, left_fewer}
 use Rattle.base_chains.proofs.above.places_above.Goals as goal
 
 pub loop-next-init : goal.loop-next-init
@@ -21,4 +21,7 @@ loop-next-preserved c =
     let base = base_at c.args.bases.now in
     let P : List ℕ → Option ℕ → Type 0 = λ passed next. IsAscent base c.args.place passed next in
     subst₂ P (sym c.in_ok-push.ensures.items) (sym c.base_at-next-in-Some.ensures)
-    (ascent_more base c.args.place c.loop-next.above.items c.loop-next.next c.in-Some.ancestor c.in-Some.is c.loop-next.invariant)
+    (ascent_more base c.requires.rooted c.args.place c.loop-next.above.items c.loop-next.next c.in-Some.ancestor c.in-Some.is c.loop-next.invariant)
+
+pub returns : goal.returns
+returns c = ascent_all (base_at c.args.bases.now) c.args.place c.loop-next.above.items c.loop-next.next c.in_default.is c.loop-next.invariant

@@ -14,7 +14,7 @@ size_at-inherited-requires c = λ i is.
     let bases = c.args.bases.now in
     let place = get_or c.args.order.now c.loop-place.place-index 0 in
     let inside : i < length bases = stays_within bases c.args.order.now c.requires.order place i (sym (base_read bases place) ∙ is) in
-    let alike : length c.as_slice.result.now ≡ length bases = ap length c.as_slice.ensures.value ∙ c.loop-place.invariant.size in
+    let alike : length c.as_slice.result.now ≡ length bases = ap length c.as_slice.ensures.value ∙ c.loop-place.invariant.filled.size in
     omega (arith, inside, alike)
 
 pub overflow_add-inherited : goal.overflow_add-inherited

@@ -7,7 +7,7 @@ use Rattle.rule_places.specs.Places.{InList, IsAt}
 use Rattle.csdl_lists.specs.References.{names_in}
 use Rattle.csdl_names.specs.Unresolved.{IsUnresolvedProp, end_of_role, type_of_role}
 use Rattle.rule_places.proofs.Rules.{least_joined, least_where, least_where_some}
-use Rattle.csdl_names.proofs.LeastFound.{at_none, first_only, lent_some, none_of, none_tells}
+use Rattle.rule_places.proofs.LeastFound.{at_none, first_only, lent_some, none_of, none_tells}
 use Rattle.csdl_names.proofs.unresolved.first_in_role.Goals as goal
 
 pub returns-in_default : goal.returns-in_default

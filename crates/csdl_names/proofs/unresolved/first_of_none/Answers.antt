@@ -3,7 +3,7 @@ use Rattle.json_form.specs.declared.pointer.Step.TheVariants.{Member}
 use Rattle.layouts.specs.declared.rule.Rule.TheVariants.{Resolves}
 use Rattle.rule_places.specs.Places.{IsAt}
 use Rattle.rule_places.proofs.Rules.{least_where}
-use Rattle.csdl_names.proofs.LeastFound.{none_tells}
+use Rattle.rule_places.proofs.LeastFound.{none_tells}
 use Rattle.csdl_names.proofs.unresolved.first_of_none.Goals as goal
 
 pub returns : goal.returns

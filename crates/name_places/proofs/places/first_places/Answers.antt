@@ -1,7 +1,7 @@
 use Rattle.std.proofs.Common.{ap, ◌∙◌, refl}
 use Rattle.std.proofs.lemmas.List.{take_all}
 use Rattle.std.proofs.lemmas.Option.{slice_get_read}
-use Rattle.indexmap.specs.IndexMap.{get_by_text}
+use Rattle.std.specs.BTreeMap.{get_by_text}
 use Rattle.name_places.specs.GivenNames.{first_place}
 use Rattle.name_places.proofs.FirstPlaces.{noted_more}
 use Rattle.name_places.proofs.places.first_places.Goals as goal

@@ -8,7 +8,7 @@ use Rattle.csdl_lists.specs.declared.raw.RawConstraint.{RawConstraint}
 use Rattle.csdl_lists.specs.References.{names_in}
 use Rattle.csdl_names.specs.Unresolved.{IsUnresolvedInConstraint, IsUnresolvedInEnd}
 use Rattle.rule_places.proofs.Rules.{least_joined, least_where_some}
-use Rattle.csdl_names.proofs.LeastFound.{at_none, first_only, none_of}
+use Rattle.rule_places.proofs.LeastFound.{at_none, first_only, none_of}
 use Rattle.csdl_names.proofs.unresolved.LookupsFinderRawAssociationFault.find.Goals as goal
 
 pub returns-in_default : goal.returns-in_default

@@ -1,0 +1,11 @@
+pub mod Closing
+pub mod Cycles
+pub mod Ends
+pub mod Inside
+pub mod Joining
+pub mod Left
+pub mod Marking
+pub mod Opening
+pub mod Places
+pub mod Reaching
+pub mod Steps

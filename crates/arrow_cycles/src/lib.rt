@@ -1,0 +1,14 @@
+//! Arrows between places: the first arrow of a list that lies on a cycle.
+#![tactic(auto)]
+
+mod arrow;
+mod components;
+mod cycle;
+mod search;
+#[cfg(test)]
+mod tests;
+mod within;
+
+pub use arrow::Arrow;
+pub use cycle::first_on_cycle;
+pub use within::stay_within;

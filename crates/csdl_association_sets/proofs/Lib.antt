@@ -1,0 +1,5 @@
+pub mod AbstractTypes
+pub mod AllRules
+pub mod Circles
+pub mod KnownConstraints
+pub mod Within

@@ -1,0 +1,5 @@
+pub mod Concrete
+pub mod SetEnds
+pub mod SetArrows
+pub mod SetRules
+pub mod Told

@@ -1,0 +1,12 @@
+//! The rules of CSDL on entity sets, association sets and what stands at their ends.
+#![tactic(auto)]
+
+mod concrete;
+mod constraints;
+mod set_arrows;
+mod set_ends;
+mod set_rules;
+#[cfg(test)]
+mod tests;
+
+pub use set_rules::first_set_fault;

@@ -1,0 +1,4 @@
+pub mod Beside
+pub mod InModel
+pub mod Marking
+pub mod RootKeys

@@ -1,0 +1,17 @@
+//! The rules of CSDL on associations: which multiplicities they may have, and how the lists of a constraint match.
+#![tactic(auto)]
+
+mod dependent;
+mod marks;
+mod matching;
+mod mults;
+mod named;
+mod rules;
+mod sides;
+#[cfg(test)]
+mod tests;
+
+pub use dependent::{Dependent, dependents};
+pub use named::named_associations;
+pub use rules::first_constraint_fault;
+pub use sides::Sides;

@@ -1,0 +1,6 @@
+pub mod RisingLists
+pub mod Places
+pub mod Joins
+pub mod Numbered
+pub mod KindsOf
+pub mod Below

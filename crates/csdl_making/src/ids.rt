@@ -1,0 +1,108 @@
+ghost use Rattle.std.specs.Prelude.{◌≡◌, ◌+◌, IfOk, option_map};
+ghost use Rattle.edm_types.specs.Forest.{type_numbered};
+ghost use Rattle.csdl_meaning.specs.Meaning.{declared_before};
+ghost use Rattle.csdl_meaning.specs.ModelMeaning.{set_numbered};
+ghost use Rattle.csdl_making.specs.Making.{AreStarts, id_of_place};
+
+use csdl_lists::RawModel;
+use csdl_names::{Lookups, PropPlace};
+use emc_base::{Memory, PropId, Seq, SetId, TypeId};
+use std::alloc::Global;
+
+/// The id of the type at a place. A place past the ids counts as want of memory.
+pub(crate) fn type_id(place: usize) -> Result<TypeId, Memory>
+    ensures { IfOk result (λ id. id ≡ type_numbered place) }
+{
+    let index = narrow(place)?;
+    Ok(TypeId { index })
+}
+
+/// The id of the type at a place, where there is one.
+pub(crate) fn base_id(place: Option<usize>) -> Result<Option<TypeId>, Memory>
+    ensures { IfOk result (λ id. id ≡ option_map type_numbered place) }
+{
+    match place {
+        None => Ok(None),
+        Some(place) => Ok(Some(type_id(place)?)),
+    }
+}
+
+/// The id of the entity set at a place.
+pub(crate) fn set_id(place: usize) -> Result<SetId, Memory>
+    ensures { IfOk result (λ id. id ≡ set_numbered place) }
+{
+    let index = narrow(place)?;
+    Ok(SetId { index })
+}
+
+/// The id of the property at a place.
+pub(crate) fn prop_id(
+    lookups: &Lookups<'_>,
+    starts: &Seq<usize>,
+    found: PropPlace,
+) -> Result<PropId, Memory>
+    requires starts { AreStarts lookups.now.model.now starts.now }
+    ensures { IfOk result (λ id. id ≡ id_of_place lookups.now.model.now found) }
+{
+    let start = start_of(lookups, starts, found.owner)?;
+    let index = narrow(sum_of(start, found.place)?)?;
+    Ok(PropId { index })
+}
+
+// How many properties the types before one declare.
+fn start_of(lookups: &Lookups<'_>, starts: &Seq<usize>, owner: usize) -> Result<usize, Memory>
+    requires starts { AreStarts lookups.now.model.now starts.now }
+    ensures { IfOk result (λ start. start ≡ declared_before lookups.now.model.now owner) }
+{
+    let _model = lookups.model;
+    match starts.get(owner) {
+        None => Err(Memory),
+        Some(start) => Ok(*start),
+    }
+}
+
+/// The id of the property at a place, where there is one.
+pub(crate) fn found_id(
+    lookups: &Lookups<'_>,
+    starts: &Seq<usize>,
+    found: Option<PropPlace>,
+) -> Result<Option<PropId>, Memory>
+    requires starts { AreStarts lookups.now.model.now starts.now }
+    ensures { IfOk result (λ id. id ≡ option_map (id_of_place lookups.now.model.now) found) }
+{
+    match found {
+        None => Ok(None),
+        Some(found) => Ok(Some(prop_id(lookups, starts, found)?)),
+    }
+}
+
+/// For each type, how many properties the types before it declare.
+pub(crate) fn starts_of(alloc: Global, model: &RawModel) -> Result<Seq<usize>, Memory>
+    ensures { IfOk result (λ starts. AreStarts model.now starts) }
+{
+    let mut starts = Seq::empty(alloc);
+    let mut before: usize = 0;
+    for ty in model.types.as_slice() {
+        starts.push(before)?;
+        before = sum_of(before, ty.props.len())?;
+    }
+    Ok(starts)
+}
+
+fn sum_of(one: usize, other: usize) -> Result<usize, Memory>
+    ensures { IfOk result (λ sum. sum ≡ one + other) }
+{
+    match one.checked_add(other) {
+        None => Err(Memory),
+        Some(sum) => Ok(sum),
+    }
+}
+
+fn narrow(place: usize) -> Result<u32, Memory>
+    ensures { IfOk result (λ index. index ≡ place) }
+{
+    match u32::try_from(place) {
+        Ok(index) => Ok(index),
+        Err(_) => Err(Memory),
+    }
+}

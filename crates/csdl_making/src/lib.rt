@@ -1,0 +1,17 @@
+//! The model that a CSDL document means, made from its lists.
+#![tactic(auto)]
+
+mod associations;
+mod forest;
+mod ids;
+mod kinds;
+mod lists;
+mod model;
+mod props;
+mod sets;
+mod sizes;
+#[cfg(test)]
+mod tests;
+mod types;
+
+pub use model::make_model;

@@ -1,0 +1,2 @@
+pub mod SoundMeaning
+pub mod Classes

@@ -1,0 +1,5 @@
+pub mod Nodes
+pub mod Marks
+pub mod Derived
+pub mod Beside
+pub mod StaffForest

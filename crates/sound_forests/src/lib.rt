@@ -1,0 +1,11 @@
+//! In a sound model each type stands in the forest.
+#![tactic(auto)]
+
+ghost use Rattle.edm_types.specs.Forest.{HoldsEachType};
+ghost use Rattle.round_trip.specs.Words.{EntityModel};
+ghost use Rattle.soundness.specs.Models.{IsSoundModel};
+
+/// In a sound model each type stands in the forest.
+pub fn a_sound_forest_is_whole()
+    ensures whole { (model : EntityModel) → IsSoundModel model → HoldsEachType model model.forest }
+{}
