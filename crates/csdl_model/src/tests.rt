@@ -1,6 +1,6 @@
 use crate::documents::{
     ASSOCIATION_NEIGHBOURS, ASSOCIATIONS, CLASSES, Case, Edit, GIVEN_TWICE, KINDS, NEIGHBOURS,
-    SCHOOL, TYPES, UNRESOLVED,
+    SCHOOL, SHOP, TYPES, UNRESOLVED,
 };
 use crate::read_csdl;
 use edm_types::{EntityModel, VocabFault};
@@ -84,5 +84,18 @@ fn tells_associations_and_sets(rt: HostRuntime) {
 fn tells_the_lesser_of_two_rules_on_associations(rt: HostRuntime) {
     for case in ASSOCIATION_NEIGHBOURS {
         tells(&rt, rt.alloc(), CLASSES, case);
+    }
+}
+
+#[test]
+fn reads_the_shop(rt: HostRuntime) {
+    match read(&rt, rt.alloc(), SHOP) {
+        Ok(model) => {
+            assert_eq!(rt; model.types.len(), 3);
+            assert_eq!(rt; model.props.len(), 5);
+            assert_eq!(rt; model.sets.len(), 2);
+            assert_eq!(rt; model.assocs.len(), 1);
+        }
+        Err(_) => assert!(rt; false, "a rule, or memory"),
     }
 }
