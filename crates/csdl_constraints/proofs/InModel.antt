@@ -1,31 +1,23 @@
 -- Marks of the associations of a model, and what is wrong with them by such marks.
-use Rattle.std.proofs.Common.{◌≡◌, ◌↔◌, ◌⊎◌, inl, inr, ℕ, ◌<◌, List, length, Any, MatchOption, Option, Some, None, Bool, true, codes, sym, subst, subst₂}
-use Rattle.std.proofs.lemmas.Option.{option_and_then_some, slice_get_within}
+use Rattle.std.proofs.Common.{◌≡◌, ◌↔◌, ◌⊎◌, inl, inr, ℕ, List, length, Any, MatchOption, Option, Some, None, Bool, true, codes, sym, subst, subst₂}
 use Rattle.emc_base.specs.Lists.{At}
-use Rattle.name_places.specs.GivenNames.{first_place}
-use Rattle.name_places.proofs.FirstPlaces.{first_has}
 use Rattle.least_fault.specs.Least.{IsLeast}
 use Rattle.least_fault.proofs.Leasts.{least_same}
 use Rattle.layouts.specs.declared.fault.Fault.{Fault}
 use Rattle.layouts.specs.Faults.{fault_cmp}
 use Rattle.rule_places.specs.Places.{InList}
+use Rattle.rule_places.proofs.Rules.{in_list_at}
 use Rattle.csdl_lists.specs.declared.raw.RawAssociation.{RawAssociation}
 use Rattle.csdl_lists.specs.declared.raw.RawAssociationSet.{RawAssociationSet}
 use Rattle.csdl_lists.specs.declared.raw.RawConstraint.{RawConstraint}
 use Rattle.csdl_lists.specs.declared.raw.RawModel.{RawModel}
-use Rattle.csdl_lists.specs.References.{local_name, names_in}
+use Rattle.csdl_lists.specs.References.{names_in}
+use Rattle.csdl_lists.proofs.Within.{association_within}
+use Rattle.csdl_types.specs.Simple.{types_by}
 use Rattle.csdl_constraints.specs.Answered.{AreNamed, AreOfOther, IsFaultBy, IsMarkedFault}
-use Rattle.csdl_constraints.specs.Constraints.{BreaksConstraintRules, BreaksLists, BreaksListsOr, IsAssociationFault, IsOfOther, MarksOther}
+use Rattle.csdl_constraints.specs.Constraints.{BreaksConstraintRules, BreaksLists, BreaksListsIn, IsAssociationFault, IsOfOther, MarksOther}
 use Rattle.csdl_constraints.specs.Marks.{AreMarks, AreMarksBelow}
 use Rattle.csdl_constraints.proofs.Marking.{any_at, any_same, marks_whole}
-
--- an association that a reference names is one of the model's
-pub association_within : (model : RawModel) (text : List ℕ) (i : ℕ) → (names_in model).association_named text ≡ Some i → i < length model.associations
-association_within model text i is =
-    option_and_then_some (first_place (λ association. association.name) model.associations) (local_name model text) i is
-    (λ name local first.
-    let found = first_has (λ association. association.name) model.associations name i first in
-    slice_get_within model.associations i found.0 found.1)
 
 module _ (model : RawModel) where
   -- the set names the association at a place
@@ -61,8 +53,8 @@ last_of_five not_a not_b not_c not_d (inr (inr (inr (inr e)))) = e
 
 module _ (model : RawModel) (association : RawAssociation) where
   -- what is so by one reason is so by an equal one
-  unlike_to : (o : Option RawConstraint) (A B : Type 0) → (A → B) → MatchOption o ⊥ (λ c. BreaksListsOr (names_in model) model association c A)
-      → MatchOption o ⊥ (λ c. BreaksListsOr (names_in model) model association c B)
+  unlike_to : (o : Option RawConstraint) (A B : Type 0) → (A → B) → MatchOption o ⊥ (λ c. BreaksListsIn model (types_by (names_in model)) association c A)
+      → MatchOption o ⊥ (λ c. BreaksListsIn model (types_by (names_in model)) association c B)
   unlike_to None A B to never = never
   unlike_to (Some c) A B to holds = fifth to holds
 
@@ -79,13 +71,13 @@ module _ (model : RawModel) (association : RawAssociation) where
     F = IsOfOther (names_in model) model association
 
     unlike_lists : (o : Option RawConstraint)
-        → MatchOption o ⊥ (λ c. BreaksListsOr (names_in model) model association c (Any (λ set. N set × MatchOption o ⊥ (λ d. F d set)) model.container.association_sets))
+        → MatchOption o ⊥ (λ c. BreaksListsIn model (types_by (names_in model)) association c (Any (λ set. N set × MatchOption o ⊥ (λ d. F d set)) model.container.association_sets))
         → MatchOption o ⊥ (BreaksLists (names_in model) model a association)
     unlike_lists None never = never
     unlike_lists (Some c) holds = holds
 
     lists_unlike : (o : Option RawConstraint) → MatchOption o ⊥ (BreaksLists (names_in model) model a association)
-        → MatchOption o ⊥ (λ c. BreaksListsOr (names_in model) model association c (Any (λ set. N set × MatchOption o ⊥ (λ d. F d set)) model.container.association_sets))
+        → MatchOption o ⊥ (λ c. BreaksListsIn model (types_by (names_in model)) association c (Any (λ set. N set × MatchOption o ⊥ (λ d. F d set)) model.container.association_sets))
     lists_unlike None never = never
     lists_unlike (Some c) holds = holds
 
@@ -127,24 +119,6 @@ module _ (model : RawModel) (association : RawAssociation) where
                 (fault_to Others (At others a true) (λ holds. (are_others.each a).1 (others_back here holds)) fault
                 (inr (lists_unlike association.constraint lists.0.1, lists.1))),
           )
-
--- what is wrong with items may be said in other words, which are as good for the item at the place
-in_list_at : {X : Type 0} (member : List ℕ) (P Q : ℕ → X → Fault → Type 0) (items : List X)
-    → ((i : ℕ) (item : X) → At items i item → (fault : Fault) → P i item fault → Q i item fault) → (fault : Fault) → InList member P items fault → InList member Q items fault
-in_list_at member P Q items to fault some = record {
-  rest = some.rest;
-  reached = some.reached;
-  holds = record {
-    i = some.holds.i;
-    item = some.holds.item;
-    here = some.holds.here;
-    holds = record {
-      rest = some.holds.holds.rest;
-      reached = some.holds.holds.reached;
-      holds = to some.holds.i some.holds.item some.holds.here (record { rule = fault.rule; place = some.holds.holds.rest }) some.holds.holds.holds;
-    };
-  };
-}
 
 -- the least by marks is the least by the rules
 pub least_by_marks : (model : RawModel) (named others : List Bool) (found : Option Fault) → AreNamed model named → AreOfOther model others

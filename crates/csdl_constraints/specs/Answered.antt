@@ -6,11 +6,13 @@ use Rattle.layouts.specs.declared.fault.Fault.{Fault}
 use Rattle.layouts.specs.declared.rule.Rule.TheVariants.{Constraint, Multiplicities}
 use Rattle.rule_places.specs.Places.{IsAt}
 use Rattle.csdl_lists.specs.declared.raw.RawAssociation.{RawAssociation}
+use Rattle.csdl_lists.specs.declared.raw.RawConstraint.{RawConstraint}
 use Rattle.csdl_lists.specs.declared.raw.RawModel.{RawModel}
 use Rattle.csdl_lists.specs.References.{names_in}
-use Rattle.csdl_constraints.specs.Constraints.{BreaksListsOr, MarksOther}
+use Rattle.csdl_types.specs.Simple.{types_by}
+use Rattle.csdl_constraints.specs.Constraints.{BreaksListsIn, MarksOther}
 use Rattle.csdl_constraints.specs.Marks.{AreMarks}
-use Rattle.csdl_constraints.specs.Multiplicities.{BreaksMults}
+use Rattle.csdl_constraints.specs.Multiplicities.{BreaksConstraintMults, BreaksMults, IsLooseDependent}
 use Rattle.csdl_constraints.specs.Sides.{IsNamed}
 
 module _ (model : RawModel) where
@@ -22,9 +24,17 @@ module _ (model : RawModel) where
   abbrev pub AreOfOther : List Bool → Type 0
   AreOfOther = AreMarks (λ a. Any (λ set. MarksOther (names_in model) model set a) model.container.association_sets) (length model.associations)
 
+  -- with this constraint the association has multiplicities that aren't allowed
+  abbrev pub BreaksConstraintMultsIn : RawAssociation → RawConstraint → Type 0
+  BreaksConstraintMultsIn = BreaksConstraintMults (names_in model) model
+
+  -- with this constraint there is at most one dependent, and the dependent properties aren't the whole key of their type
+  abbrev pub IsLooseDependentIn : RawAssociation → RawConstraint → Type 0
+  IsLooseDependentIn = IsLooseDependent (names_in model) model
+
   -- the association has a constraint whose lists don't match, or else this is so
   abbrev pub IsUnlike : RawAssociation → Type 0 → Type 0
-  IsUnlike association Other = MatchOption association.constraint ⊥ (λ constraint. BreaksListsOr (names_in model) model association constraint Other)
+  IsUnlike association Other = MatchOption association.constraint ⊥ (λ constraint. BreaksListsIn model (types_by (names_in model)) association constraint Other)
 
   -- what is wrong with an association that some set names
   abbrev pub IsFaultBy : RawAssociation → Type 0 → Fault → Type 0

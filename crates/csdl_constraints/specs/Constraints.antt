@@ -1,6 +1,6 @@
 -- When the two lists of a constraint don't match.
 -- Source: CSDL version 3, ReferentialConstraint, Principal and Dependent.
-use Rattle.std.specs.Prelude.{◌≡◌, ◌≢◌, ◌⊎◌, ℕ, [], ◌∷◌, map, Some, codes, slice_get, Any, MatchOption}
+use Rattle.std.specs.Prelude.{◌≡◌, ◌≢◌, ◌⊎◌, ℕ, List, [], ◌∷◌, map, Option, Some, codes, slice_get, Any, MatchOption}
 use Rattle.json_form.specs.declared.pointer.Step.TheVariants.{Member}
 use Rattle.layouts.specs.declared.fault.Fault.{Fault}
 use Rattle.layouts.specs.declared.rule.Rule.TheVariants.{Constraint}
@@ -12,6 +12,8 @@ use Rattle.csdl_lists.specs.declared.raw.RawModel.{RawModel}
 use Rattle.csdl_lists.specs.References.{Names, names_in}
 use Rattle.csdl_names.specs.SetRoles.{element_of_role}
 use Rattle.csdl_names.specs.Unresolved.{type_of_role}
+use Rattle.csdl_types.specs.declared.simple.PropType.{PropType}
+use Rattle.csdl_types.specs.Simple.{types_by}
 use Rattle.emc_base.specs.Lists.{AreApart, HoldsEachOnce}
 use Rattle.csdl_constraints.specs.Multiplicities.{IsMultFault}
 use Rattle.csdl_constraints.specs.Sides.{IsNamed, IsWholeKey, types_of_side}
@@ -35,17 +37,17 @@ module _ (names : Names) (model : RawModel) where
 
   -- The roles of the constraint aren't the two of the association, its principal list isn't the whole key, each once, a dependent property
   -- stands twice, the two lists differ in length or in what the Types of two matched properties name, or else this is so.
-  abbrev pub BreaksListsOr : RawAssociation → RawConstraint → Type 0 → Type 0
-  BreaksListsOr association constraint Other =
+  abbrev pub BreaksListsOr : (List ℕ → Option PropType) → RawAssociation → RawConstraint → Type 0 → Type 0
+  BreaksListsOr typing association constraint Other =
       (¬ HoldsEachOnce (map (λ end. end.role) association.ends) (constraint.principal.role ∷ constraint.dependent.role ∷ []))
       ⊎ (¬ IsWholeKey names model association constraint.principal)
       ⊎ (¬ AreApart constraint.dependent.props)
-      ⊎ (types_of_side names model association constraint.principal ≢ types_of_side names model association constraint.dependent)
+      ⊎ (types_of_side names model typing association constraint.principal ≢ types_of_side names model typing association constraint.dependent)
       ⊎ Other
 
   -- the lists don't match, or an association set has another element type at the principal's role
   abbrev pub BreaksLists : ℕ → RawAssociation → RawConstraint → Type 0
-  BreaksLists a association constraint = BreaksListsOr association constraint (HasOtherElement a association constraint)
+  BreaksLists a association constraint = BreaksListsOr (types_by names) association constraint (HasOtherElement a association constraint)
 
   -- V17, seen from the association at a place, which some association set names
   abbrev pub IsConstraintFault : ℕ → RawAssociation → Fault → Type 0
@@ -55,6 +57,10 @@ module _ (names : Names) (model : RawModel) where
   -- V16 and V17, seen from the association at a place
   abbrev pub IsAssociationFault : ℕ → RawAssociation → Fault → Type 0
   IsAssociationFault a association fault = IsMultFault names model a association fault ⊎ IsConstraintFault a association fault
+
+-- the lists don't match in a model where names stand for what they do there, or else this is so
+abbrev pub BreaksListsIn : RawModel → (List ℕ → Option PropType) → RawAssociation → RawConstraint → Type 0 → Type 0
+BreaksListsIn model = BreaksListsOr (names_in model) model
 
 -- V16 and V17
 abbrev pub BreaksConstraintRules : RawModel → Fault → Type 0

@@ -13,7 +13,6 @@ use Rattle.csdl_lists.specs.References.{Names, base_of, names_in}
 use Rattle.csdl_names.specs.PropPlaces.{prop_at, prop_of_type}
 use Rattle.csdl_names.specs.Unresolved.{type_of_role}
 use Rattle.csdl_types.specs.declared.simple.PropType.{PropType}
-use Rattle.csdl_types.specs.Simple.{prop_type}
 use Rattle.emc_base.specs.Lists.{HoldsEachOnce}
 
 -- the type at the top above each type
@@ -37,14 +36,6 @@ module _ (names : Names) (model : RawModel) where
   abbrev pub prop_named : ℕ → List ℕ → Option RawProp
   prop_named i name = option_and_then (prop_at model) (prop_of_type names model i name)
 
-  -- what the Type of that property names
-  abbrev pub type_of_prop : ℕ → List ℕ → Option PropType
-  type_of_prop i name = option_and_then (λ prop. prop_type names.enum_named prop.kind) (prop_named i name)
-
-  -- the same of a type that may not be found
-  abbrev pub type_in : Option ℕ → List ℕ → Option PropType
-  type_in type name = option_and_then (λ i. type_of_prop i name) type
-
   -- the property may be null
   abbrev pub IsNullable : ℕ → List ℕ → Type 0
   IsNullable i name = MatchOption (prop_named i name) ⊥ (λ prop. prop.nullable ≡ true)
@@ -66,16 +57,26 @@ module _ (names : Names) (model : RawModel) where
     abbrev pub HasNullable : Type 0
     HasNullable = OfType (λ i. Any (IsNullable i) side.props)
 
-    -- what their Types name, in the order of the list
-    abbrev pub types_of_side : List (Option PropType)
-    types_of_side = map (type_in (type_of_role names model association side.role)) side.props
+  -- where it is known what Types name
+  module _ (typing : List ℕ → Option PropType) where
+    -- what the Type of the property names that a type has
+    abbrev pub type_of_prop : ℕ → List ℕ → Option PropType
+    type_of_prop i name = option_and_then (λ prop. typing prop.kind) (prop_named i name)
 
-module _ (model : RawModel) where
+    -- the same of a type that may not be found
+    abbrev pub type_in : Option ℕ → List ℕ → Option PropType
+    type_in type name = option_and_then (λ i. type_of_prop i name) type
+
+    -- what the Types of the properties of a side name, in the order of the list
+    abbrev pub types_of_side : RawAssociation → RawRole → List (Option PropType)
+    types_of_side association side = map (type_in (type_of_role names model association side.role)) side.props
+
+module _ (model : RawModel) (typing : List ℕ → Option PropType) where
   -- what the Types of these properties of a type name, in the order of the list
   abbrev pub types_in : Option ℕ → List (List ℕ) → List (Option PropType)
-  types_in type props = map (type_in (names_in model) model type) props
+  types_in type props = map (type_in (names_in model) model typing type) props
 
   -- the Types of both sides name the same, one by one
   abbrev pub HaveSameTypes : RawAssociation → RawConstraint → Type 0
   HaveSameTypes association constraint =
-      types_of_side (names_in model) model association constraint.principal ≡ types_of_side (names_in model) model association constraint.dependent
+      types_of_side (names_in model) model typing association constraint.principal ≡ types_of_side (names_in model) model typing association constraint.dependent

@@ -12,6 +12,7 @@ mod sides;
 mod tests;
 
 pub use dependent::{Dependent, dependents};
+pub use matching::breaks_lists;
 pub use named::named_associations;
 pub use rules::first_constraint_fault;
 pub use sides::Sides;

@@ -1,24 +1,26 @@
 ghost use Rattle.std.specs.Prelude.{◌≡◌, ◌↔◌, IfOk, IsTrue};
 ghost use Rattle.csdl_lists.specs.References.{names_in};
-ghost use Rattle.csdl_constraints.specs.Constraints.{BreaksListsOr};
+ghost use Rattle.csdl_constraints.specs.Constraints.{BreaksListsIn};
 ghost use Rattle.csdl_constraints.specs.Sides.{HaveSameTypes, type_in, types_in};
 
 use crate::sides::Sides;
 use csdl_lists::{RawAssociation, RawConstraint};
-use csdl_types::PropType;
+use csdl_types::{PropType, Typing};
 use emc_base::{Memory, Txt};
 use name_places::{are_apart, holds_each_once};
 use std::alloc::Global;
 
-/// Whether the two lists of a constraint don't match, or else an association set has another element type at the principal's role, as is known. `Memory` comes where memory ran out.
-pub(crate) fn breaks_lists(
+/// Whether the two lists of a constraint don't match, or else an association set has another element type at the principal's role, as is
+/// known. What the Types of properties name is asked of `typing`. `Memory` comes where memory ran out.
+pub fn breaks_lists<T: Typing>(
     alloc: Global,
     sides: &Sides<'_>,
+    typing: &T,
     association: &RawAssociation,
     constraint: &RawConstraint,
     has_other: bool,
 ) -> Result<bool, Memory>
-    ensures { IfOk result (λ is. IsTrue is ↔ BreaksListsOr (names_in sides.now.lookups.now.model.now) sides.now.lookups.now.model.now association.now constraint.now (IsTrue has_other)) }
+    ensures { IfOk result (λ is. IsTrue is ↔ BreaksListsIn sides.now.lookups.now.model.now (T.types typing.now) association.now constraint.now (IsTrue has_other)) }
 {
     let principal = &constraint.principal;
     let dependent = &constraint.dependent;
@@ -32,19 +34,20 @@ pub(crate) fn breaks_lists(
     if !are_apart(alloc, dependent.props.as_slice())? {
         return Ok(true);
     }
-    if !have_same_types(sides, association, constraint) {
+    if !have_same_types(sides, typing, association, constraint) {
         return Ok(true);
     }
     Ok(has_other)
 }
 
 // Whether the Types of the two lists name the same, one by one.
-fn have_same_types(
+fn have_same_types<T: Typing>(
     sides: &Sides<'_>,
+    typing: &T,
     association: &RawAssociation,
     constraint: &RawConstraint,
 ) -> bool
-    ensures { IsTrue result ↔ HaveSameTypes sides.now.lookups.now.model.now association.now constraint.now }
+    ensures { IsTrue result ↔ HaveSameTypes sides.now.lookups.now.model.now (T.types typing.now) association.now constraint.now }
 {
     let principal = &constraint.principal;
     let dependent = &constraint.dependent;
@@ -52,6 +55,7 @@ fn have_same_types(
     let other = sides.lookups.type_of_role(association, &dependent.role);
     match_types(
         sides,
+        typing,
         one,
         principal.props.as_slice(),
         other,
@@ -60,22 +64,23 @@ fn have_same_types(
 }
 
 // Whether the Types of the properties of one type name the same as those of the other, one by one.
-fn match_types(
+fn match_types<T: Typing>(
     sides: &Sides<'_>,
+    typing: &T,
     one: Option<usize>,
     ones: &[Txt],
     other: Option<usize>,
     others: &[Txt],
 ) -> bool
-    ensures { IsTrue result ↔ (types_in sides.now.lookups.now.model.now one ones.now ≡ types_in sides.now.lookups.now.model.now other others.now) }
+    ensures { let types = types_in sides.now.lookups.now.model.now (T.types typing.now) in IsTrue result ↔ (types one ones.now ≡ types other others.now) }
 {
     if ones.len() != others.len() {
         return false;
     }
     for (place, name) in ones.iter().enumerate() {
         if !is_same(
-            type_in(sides, one, name),
-            type_in(sides, other, &others[place]),
+            type_in(sides, typing, one, name),
+            type_in(sides, typing, other, &others[place]),
         ) {
             return false;
         }
@@ -91,8 +96,13 @@ fn is_same(one: Option<PropType>, other: Option<PropType>) -> bool
 }
 
 // What the Type of the property of this name names, where the type is found and has one.
-fn type_in(sides: &Sides<'_>, ty: Option<usize>, name: &Txt) -> Option<PropType>
-    ensures { result ≡ type_in (names_in sides.now.lookups.now.model.now) sides.now.lookups.now.model.now ty name.now }
+fn type_in<T: Typing>(
+    sides: &Sides<'_>,
+    typing: &T,
+    ty: Option<usize>,
+    name: &Txt,
+) -> Option<PropType>
+    ensures { result ≡ type_in (names_in sides.now.lookups.now.model.now) sides.now.lookups.now.model.now (T.types typing.now) ty name.now }
 {
-    sides.type_of_prop(ty?, name)
+    sides.type_of_prop(typing, ty?, name)
 }

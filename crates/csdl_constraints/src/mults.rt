@@ -1,6 +1,7 @@
 ghost use Rattle.std.specs.Prelude.{◌≡◌, ◌↔◌, IfOk, IsTrue, codes};
 ghost use Rattle.csdl_lists.specs.References.{names_in};
-ghost use Rattle.csdl_constraints.specs.Multiplicities.{BreaksConstraintMults, BreaksFreeMults, BreaksMults, HasMult, IsLooseDependent, IsNoPrincipal, IsOneWithoutMany, IsPrincipalOfNull};
+ghost use Rattle.csdl_constraints.specs.Answered.{BreaksConstraintMultsIn, IsLooseDependentIn};
+ghost use Rattle.csdl_constraints.specs.Multiplicities.{BreaksFreeMults, BreaksMults, HasMult, IsNoPrincipal, IsOneWithoutMany, IsPrincipalOfNull};
 
 use crate::sides::Sides;
 use csdl_lists::{RawAssociation, RawConstraint, RawEnd};
@@ -47,7 +48,7 @@ fn breaks_constraint_mults(
     association: &RawAssociation,
     constraint: &RawConstraint,
 ) -> Result<bool, Memory>
-    ensures { IfOk result (λ answer. IsTrue answer ↔ BreaksConstraintMults (names_in sides.now.lookups.now.model.now) sides.now.lookups.now.model.now association.now constraint.now) }
+    ensures { IfOk result (λ answer. IsTrue answer ↔ BreaksConstraintMultsIn sides.now.lookups.now.model.now association.now constraint.now) }
 {
     if is_no_principal(association, &constraint.principal.role) {
         return Ok(true);
@@ -88,7 +89,7 @@ fn is_loose_dependent(
     association: &RawAssociation,
     constraint: &RawConstraint,
 ) -> Result<bool, Memory>
-    ensures { IfOk result (λ answer. IsTrue answer ↔ IsLooseDependent (names_in sides.now.lookups.now.model.now) sides.now.lookups.now.model.now association.now constraint.now) }
+    ensures { IfOk result (λ answer. IsTrue answer ↔ IsLooseDependentIn sides.now.lookups.now.model.now association.now constraint.now) }
 {
     if !has_mult(association, &constraint.dependent.role, "0..1") {
         return Ok(false);

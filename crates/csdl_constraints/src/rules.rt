@@ -130,7 +130,8 @@ fn breaks_constraint(
     let Some(constraint) = &association.constraint else {
         return Ok(false);
     };
-    let answer = breaks_lists(alloc, sides, association, constraint, has_other)?;
+    let typing = sides.lookups.scope;
+    let answer = breaks_lists(alloc, sides, typing, association, constraint, has_other)?;
     Ok(answer)
 }
 

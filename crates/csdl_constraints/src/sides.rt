@@ -5,7 +5,7 @@ ghost use Rattle.csdl_constraints.specs.Sides.{HasKeyProp, HasNullable, IsNullab
 
 use csdl_lists::{RawAssociation, RawProp, RawRole};
 use csdl_names::Lookups;
-use csdl_types::{PropType, prop_type};
+use csdl_types::{PropType, Typing};
 use emc_base::{Memory, Seq, Txt};
 use name_places::holds_each_once;
 use std::alloc::Global;
@@ -48,11 +48,16 @@ impl<'a> Sides<'a> {
     }
 
     // What the Type of that property names.
-    pub(crate) fn type_of_prop(&self, ty: usize, name: &Txt) -> Option<PropType>
-        ensures { result ≡ type_of_prop (names_in self.now.lookups.now.model.now) self.now.lookups.now.model.now ty name.now }
+    pub(crate) fn type_of_prop<T: Typing>(
+        &self,
+        typing: &T,
+        ty: usize,
+        name: &Txt,
+    ) -> Option<PropType>
+        ensures { result ≡ type_of_prop (names_in self.now.lookups.now.model.now) self.now.lookups.now.model.now (T.types typing.now) ty name.now }
     {
         let prop = self.prop_named(ty, name)?;
-        prop_type(self.lookups.scope, prop.kind.as_str())
+        typing.type_named(prop.kind.as_str())
     }
 
     // Whether the property may be null.

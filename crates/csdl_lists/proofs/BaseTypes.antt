@@ -1,14 +1,13 @@
 -- Base types by their places.
 use Rattle.std.proofs.Common.{◌≡◌, ℕ, List, length, map, slice_get, Option, Some, None, refl, sym, ap, subst₂, ◌∙◌}
 use Rattle.std.specs.Option.{option_and_then, option_map}
-use Rattle.std.proofs.lemmas.Option.{option_and_then_some, slice_get-map, slice_get_within}
+use Rattle.std.proofs.lemmas.Option.{option_and_then_some, slice_get-map}
 use Rattle.emc_base.specs.Lists.{At}
 use Rattle.base_chains.specs.Chains.{StaysWithin, base_at}
-use Rattle.name_places.specs.GivenNames.{first_place}
-use Rattle.name_places.proofs.FirstPlaces.{first_has}
 use Rattle.csdl_lists.specs.declared.raw.RawModel.{RawModel}
 use Rattle.csdl_lists.specs.declared.raw.RawType.{RawType}
-use Rattle.csdl_lists.specs.References.{Names, base_of, local_name, names_in}
+use Rattle.csdl_lists.specs.References.{Names, base_of, names_in}
+use Rattle.csdl_lists.proofs.Within.{type_within}
 
 -- the bases of types, one by one
 pub bases_are : (names : Names) (model : RawModel) (bases : List (Option ℕ)) → bases ≡ map (λ type. option_and_then names.type_named type.base) model.types
@@ -29,9 +28,7 @@ bases_are names model bases is = λ k i. at i k
 pub base_within : (model : RawModel) → StaysWithin (base_of (names_in model) model) (length model.types)
 base_within model i j is =
     option_and_then_some (λ type. option_and_then (names_in model).type_named type.base) (slice_get model.types i) j is
-    (λ type here base. option_and_then_some (names_in model).type_named type.base j base
-    (λ text has named. option_and_then_some (first_place (λ other. other.name) model.types) (local_name model text) j named
-    (λ name local first. let found = first_has (λ other. other.name) model.types name j first in slice_get_within model.types j found.0 found.1)))
+    (λ type here base. option_and_then_some (names_in model).type_named type.base j base (λ text has named. type_within model text j named))
 
 -- the same of bases that are known
 pub bases_within : (model : RawModel) (bases : List (Option ℕ)) → base_at bases ≡ base_of (names_in model) model → length bases ≡ length model.types

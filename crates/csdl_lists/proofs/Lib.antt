@@ -1,3 +1,4 @@
 pub mod Fronts
 pub mod ScopeFacts
 pub mod BaseTypes
+pub mod Within

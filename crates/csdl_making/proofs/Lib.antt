@@ -4,3 +4,4 @@ pub mod Joins
 pub mod Numbered
 pub mod KindsOf
 pub mod Below
+pub mod HeldNumbers

@@ -1,11 +1,11 @@
 -- Where the properties of each type begin, and the ids of properties by their names.
-use Rattle.std.proofs.Common.{◌≡◌, ⊎_elim, Contains, ℕ, ◌+◌, ◌<◌, List, [], ◌∷◌, ◌++◌, length, map, take, slice_get, sum_by, Option, Some, None, option_map, refl, sym, ap, subst, ◌∙◌, zero-add, arith}
+use Rattle.std.proofs.Common.{◌≡◌, ⊎_elim, Contains, ℕ, zero, suc, ◌+◌, ◌<◌, List, [], ◌∷◌, ◌++◌, get_or, length, map, take, slice_get, sum_by, Option, Some, None, option_map, refl, sym, ap, subst, ◌∙◌, zero-add, arith}
 use Rattle.std.specs.List.{flat_map, range_with_len}
-use Rattle.std.specs.Option.{option_and_then, option_map_or}
+use Rattle.std.specs.Option.{IfSome, option_and_then, option_map_or, option_or}
 use Rattle.std.proofs.lemmas.List.Concat.{flat_map-cons}
 use Rattle.std.proofs.lemmas.List.FromFn.{get_or-map-range_with_len, length-map-range_with_len}
 use Rattle.std.proofs.lemmas.List.Sums.{sum_by_push}
-use Rattle.std.proofs.lemmas.Option.{get_or_from_slice_get, slice_get_within}
+use Rattle.std.proofs.lemmas.Option.{slice_get_within}
 use Rattle.emc_base.specs.Lists.{At}
 use Rattle.emc_base.proofs.Loops.{take_item}
 use Rattle.round_trip.specs.Words.{PropId}
@@ -16,22 +16,21 @@ use Rattle.name_places.specs.GivenNames.{first_place}
 use Rattle.csdl_lists.specs.declared.raw.RawModel.{RawModel}
 use Rattle.csdl_lists.specs.declared.raw.RawType.{RawType}
 use Rattle.csdl_lists.specs.References.{names_in}
-use Rattle.csdl_names.specs.PropPlaces.{own_prop}
+use Rattle.csdl_names.specs.PropPlaces.{own_prop, place_of_prop, prop_of_type, prop_upto}
+use Rattle.csdl_names.specs.declared.lookups.PropPlace.{PropPlace}
 use Rattle.csdl_meaning.specs.Meaning.{base_in, chain_in, declared_before, own_key, own_props, prop_named, type_of}
 use Rattle.csdl_meaning.proofs.Bases.{base_inside}
 use Rattle.csdl_making.specs.Making.{AreInherited, AreStarts, chain_list, id_of_place, list_at, type_with}
 
 module _ (raw : RawModel) where
-  -- the beginning that is noted of a type
-  pub start_is : (starts : List ℕ) → AreStarts raw starts → (i start : ℕ) → At starts i start → start ≡ declared_before raw i
-  start_is starts are i start here =
-      let P : List ℕ → Type 0 = λ noted. At noted i start in
-      let there : At (map (declared_before raw) (range_with_len 0 (length raw.types))) i start = subst P are here in
-      let within : i < length (map (declared_before raw) (range_with_len 0 (length raw.types))) = slice_get_within (map (declared_before raw) (range_with_len 0 (length raw.types))) i start there in
-      let long : length (map (declared_before raw) (range_with_len 0 (length raw.types))) ≡ length raw.types = length-map-range_with_len (declared_before raw) 0 (length raw.types) in
-      let inside : i < length raw.types = omega (arith, within, long) in
-      sym (get_or_from_slice_get (map (declared_before raw) (range_with_len 0 (length raw.types))) i start start there)
-      ∙ get_or-map-range_with_len (declared_before raw) 0 (length raw.types) i i start inside (zero-add i)
+  -- each type has a beginning, and it is where its properties begin
+  pub starts_long : (starts : List ℕ) → AreStarts raw starts → length starts ≡ length raw.types
+  starts_long starts are = ap (λ (noted : List ℕ). length noted) are ∙ length-map-range_with_len (declared_before raw) 0 (length raw.types)
+
+  pub start_at : (starts : List ℕ) → AreStarts raw starts → (i d : ℕ) → i < length raw.types → get_or starts i d ≡ declared_before raw i
+  start_at starts are i d inside =
+      ap (λ (noted : List ℕ). get_or noted i d) are
+      ∙ get_or-map-range_with_len (declared_before raw) 0 (length raw.types) i i d inside (zero-add i)
 
   -- one type more
   pub before_more : (i : ℕ) (type : RawType) → At raw.types i type → declared_before raw i + length type.props ≡ declared_before raw (i + 1)
@@ -52,6 +51,33 @@ module _ (raw : RawModel) where
           ≡ option_map (λ k. id_of_place raw (record { owner = i; place = k })) (first_place (λ prop. prop.name) (option_map_or (λ type. type.props) type []) name)
       by None = refl
       by (Some type) = by_place (first_place (λ prop. prop.name) type.props name)
+
+  -- a property that a type declares, or one that it has, is of a type of the document
+  pub own_inside : (i : ℕ) (name : List ℕ) → IfSome (own_prop (names_in raw) raw i name) (λ place. place.owner < length raw.types)
+  own_inside i name = by (slice_get raw.types i) refl
+    where
+      placed : i < length raw.types → (found : Option ℕ) → IfSome (option_map (λ k. record { owner = i; place = k }) found) (λ (place : PropPlace). place.owner < length raw.types)
+      placed inside None = tt
+      placed inside (Some k) = inside
+
+      by : (type : Option RawType) → slice_get raw.types i ≡ type
+          → IfSome (option_map (λ k. record { owner = i; place = k }) (option_and_then (λ type. place_of_prop type name) type)) (λ (place : PropPlace). place.owner < length raw.types)
+      by None is = tt
+      by (Some type) is = placed (slice_get_within raw.types i type is) (place_of_prop type name)
+
+  prop_inside : (n i : ℕ) (name : List ℕ) → IfSome (prop_upto (names_in raw) raw n i name) (λ place. place.owner < length raw.types)
+  prop_inside zero i name = tt
+  prop_inside (suc n) i name = by (own_prop (names_in raw) raw i name) (own_inside i name) (base_in raw i) (λ j. prop_inside n j name)
+    where
+      by : (own : Option PropPlace) → IfSome own (λ place. place.owner < length raw.types) → (base : Option ℕ)
+          → ((j : ℕ) → IfSome (prop_upto (names_in raw) raw n j name) (λ place. place.owner < length raw.types))
+          → IfSome (option_or own (option_and_then (λ base. prop_upto (names_in raw) raw n base name) base)) (λ place. place.owner < length raw.types)
+      by (Some place) here base above = here
+      by None here None above = tt
+      by None here (Some j) above = above j
+
+  pub found_inside : (i : ℕ) (name : List ℕ) → IfSome (prop_of_type (names_in raw) raw i name) (λ place. place.owner < length raw.types)
+  found_inside i name = prop_inside (length raw.types) i name
 
   -- lists along a chain, by what each type has
   lists_are : (own : ℕ → List PropId) (lists : List (List PropId)) → lists ≡ map own (range_with_len 0 (length raw.types))

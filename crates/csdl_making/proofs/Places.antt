@@ -1,11 +1,12 @@
 -- Turns of loops over places: one more place, one more thing found, one more place kept, and a list that is put in place of another.
-use Rattle.std.proofs.Common.{◌≡◌, ◌≢◌, ◌⊎◌, inl, inr, ℕ, zero, suc, ◌+◌, ◌<◌, ◌≤◌, List, [], ◌∷◌, ◌++◌, append-nil, length, get_or, slice_get, map, filter, set, take, cond, Bool, Option, refl, sym, ap, ◌∙◌, arith}
+use Rattle.std.proofs.Common.{◌≡◌, ◌≢◌, ◌⊎◌, inl, inr, ℕ, zero, suc, ◌+◌, ◌<◌, ◌≤◌, List, [], ◌∷◌, ◌++◌, All, append-nil, length, get_or, slice_get, map, filter, set, take, cond, Bool, Option, refl, sym, ap, subst, ◌∙◌, zero-add, arith}
 use Rattle.std.specs.Prelude.{if◌then◌else◌}
 use Rattle.std.specs.List.{cons_option, enumerate_from, filter_map, flat_map, range_with_len}
 use Rattle.std.proofs.lemmas.Grind.{flat_map-append}
 use Rattle.std.proofs.lemmas.List.{map-append}
 use Rattle.std.proofs.lemmas.List.Concat.{flat_map-cons}
-use Rattle.std.proofs.lemmas.List.Elements.{filter-append, filter_map-append}
+use Rattle.std.proofs.lemmas.List.Elements.{All-from_get_or, filter-append, filter_map-append}
+use Rattle.std.proofs.lemmas.List.FromFn.{get_or-range_with_len, length-range_with_len}
 use Rattle.emc_base.specs.Lists.{At}
 use Rattle.emc_base.proofs.Loops.{at_enumerated, take-enumerated, take_item}
 
@@ -16,6 +17,12 @@ range_suc a (suc n) j last = ap (λ places. a ∷ places) (range_suc (a + 1) n j
 
 pub range_more : (a n j : ℕ) → a + n ≡ j → range_with_len a (n + 1) ≡ range_with_len a n ++ j ∷ []
 range_more a n j last = let same : n + 1 ≡ suc n = omega arith in ap (range_with_len a) same ∙ range_suc a n j last
+
+-- each of the places is below their number
+pub range_inside : (n : ℕ) → All (λ i. i < n) (range_with_len 0 n)
+range_inside n = All-from_get_or (λ i. i < n) (range_with_len 0 n) 0 (λ i within.
+    let inside : i < n = subst (λ count. i < count) (length-range_with_len 0 n) within in
+    subst (λ j. j < n) (sym (get_or-range_with_len 0 n i 0 inside ∙ zero-add i)) inside)
 
 -- one more item gives some
 pub flat_more : {X Y : Type 0} (f : X → List Y) (items : List X) (i : ℕ) (item : X) (made : List Y) → made ≡ flat_map f (take i items) → At items i item

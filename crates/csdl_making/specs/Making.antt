@@ -44,6 +44,7 @@ module _ (raw : RawModel) where
     navs = map (nav_of raw) type.navs;
   }
 
-  -- the lists hold the types that are based on each
-  abbrev pub AreChildren : List (List ℕ) → Type 0
-  AreChildren children = (i : ℕ) (below : List ℕ) → At children i below → below ≡ type_places raw (is_base raw i)
+  -- there is a list for each type, and each holds the types that are based on one
+  pub record AreChildren (children : List (List ℕ)) : Type 0 where
+    pub alike : length children ≡ length raw.types
+    pub each : (i : ℕ) (below : List ℕ) → At children i below → below ≡ type_places raw (is_base raw i)

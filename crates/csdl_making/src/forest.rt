@@ -1,5 +1,5 @@
-ghost use Rattle.std.specs.Prelude.{◌≡◌, [], map, replicate, IfOk};
-ghost use Rattle.csdl_meaning.specs.Meaning.{forest_in, is_abstract_at, is_top, node_upto, type_places};
+ghost use Rattle.std.specs.Prelude.{◌≡◌, ◌<◌, [], All, length, map, replicate, IfOk};
+ghost use Rattle.csdl_meaning.specs.Meaning.{forest_in, is_abstract_at, is_base, is_top, node_upto, type_places};
 ghost use Rattle.csdl_making.specs.Making.{AreChildren};
 
 use crate::ids::type_id;
@@ -70,6 +70,7 @@ fn nodes_at(
     places: &[usize],
 ) -> Result<Seq<TypeNode>, Memory>
     requires children { AreChildren model.now children.now }
+    requires inside { All (λ i. i < length model.now.types) places.now }
     ensures { IfOk result (λ nodes. nodes ≡ map (node_upto model.now levels) places.now) }
 {
     let mut nodes = Seq::empty(alloc);
@@ -89,6 +90,7 @@ fn make_node(
     place: usize,
 ) -> Result<TypeNode, Memory>
     requires children { AreChildren model.now children.now }
+    requires inside { place < length model.now.types }
     ensures { IfOk result (λ node. node ≡ node_upto model.now levels place) }
 {
     let id = type_id(place)?;
@@ -96,8 +98,8 @@ fn make_node(
     let children = match levels.checked_sub(1) {
         None => Seq::empty(alloc),
         Some(below) => {
-            let places = children.get(place).ok_or(Memory)?;
-            nodes_at(alloc, model, children, below, places.as_slice())?
+            let places = based_on(model, children, place);
+            nodes_at(alloc, model, children, below, places)?
         }
     };
     Ok(TypeNode {
@@ -105,6 +107,17 @@ fn make_node(
         is_abstract,
         children,
     })
+}
+
+// The types that are based on the one at a place, in their order.
+fn based_on<'a>(model: &RawModel, children: &'a [Seq<usize>], place: usize) -> &'a [usize]
+    requires children { AreChildren model.now children.now }
+    requires inside { place < length model.now.types }
+    ensures places { result.now ≡ type_places model.now (is_base model.now place) }
+    ensures inside { All (λ i. i < length model.now.types) result.now }
+{
+    let _model = model;
+    children[place].as_slice()
 }
 
 // Whether the type at a place is abstract.

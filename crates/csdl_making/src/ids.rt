@@ -1,4 +1,4 @@
-ghost use Rattle.std.specs.Prelude.{◌≡◌, ◌+◌, IfOk, option_map};
+ghost use Rattle.std.specs.Prelude.{◌≡◌, ◌+◌, ◌<◌, length, IfOk, IfSome, option_map};
 ghost use Rattle.edm_types.specs.Forest.{type_numbered};
 ghost use Rattle.csdl_meaning.specs.Meaning.{declared_before};
 ghost use Rattle.csdl_meaning.specs.ModelMeaning.{set_numbered};
@@ -42,23 +42,13 @@ pub(crate) fn prop_id(
     found: PropPlace,
 ) -> Result<PropId, Memory>
     requires starts { AreStarts lookups.now.model.now starts.now }
+    requires inside { found.owner < length lookups.now.model.now.types }
     ensures { IfOk result (λ id. id ≡ id_of_place lookups.now.model.now found) }
 {
-    let start = start_of(lookups, starts, found.owner)?;
+    let _model = lookups.model;
+    let start = starts.as_slice()[found.owner];
     let index = narrow(sum_of(start, found.place)?)?;
     Ok(PropId { index })
-}
-
-// How many properties the types before one declare.
-fn start_of(lookups: &Lookups<'_>, starts: &Seq<usize>, owner: usize) -> Result<usize, Memory>
-    requires starts { AreStarts lookups.now.model.now starts.now }
-    ensures { IfOk result (λ start. start ≡ declared_before lookups.now.model.now owner) }
-{
-    let _model = lookups.model;
-    match starts.get(owner) {
-        None => Err(Memory),
-        Some(start) => Ok(*start),
-    }
 }
 
 /// The id of the property at a place, where there is one.
@@ -68,6 +58,7 @@ pub(crate) fn found_id(
     found: Option<PropPlace>,
 ) -> Result<Option<PropId>, Memory>
     requires starts { AreStarts lookups.now.model.now starts.now }
+    requires inside { IfSome found (λ place. place.owner < length lookups.now.model.now.types) }
     ensures { IfOk result (λ id. id ≡ option_map (id_of_place lookups.now.model.now) found) }
 {
     match found {
@@ -98,7 +89,8 @@ fn sum_of(one: usize, other: usize) -> Result<usize, Memory>
     }
 }
 
-fn narrow(place: usize) -> Result<u32, Memory>
+/// A place in 32 bits. One that is past these counts as want of memory.
+pub fn narrow(place: usize) -> Result<u32, Memory>
     ensures { IfOk result (λ index. index ≡ place) }
 {
     match u32::try_from(place) {

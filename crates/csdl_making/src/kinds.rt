@@ -29,8 +29,8 @@ pub(crate) fn kind_of(
     }
 }
 
-// The kind of a simple type.
-fn simple_kind(bound: RawBound, simple: Simple) -> Result<Kind, Memory>
+/// The kind of a simple type with a bound. A bound past those of kinds counts as want of memory; no document that keeps the rules has one.
+pub fn simple_kind(bound: RawBound, simple: Simple) -> Result<Kind, Memory>
     ensures { IfOk result (λ kind. kind ≡ simple_kind bound simple) }
 {
     Ok(match simple {

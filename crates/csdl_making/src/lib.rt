@@ -14,4 +14,7 @@ mod sizes;
 mod tests;
 mod types;
 
+pub use ids::narrow;
+pub use kinds::simple_kind;
+pub use lists::put_found;
 pub use model::make_model;

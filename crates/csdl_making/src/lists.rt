@@ -10,7 +10,7 @@ use std::alloc::Global;
 use std::mem;
 
 /// Puts what was found at the end of a list.
-pub(crate) fn put_found<T: Drop>(list: &mut Seq<T>, found: Option<T>) -> Result<(), Memory>
+pub fn put_found<T: Drop>(list: &mut Seq<T>, found: Option<T>) -> Result<(), Memory>
     ensures { OnOk result (list.new ≡ list.old ++ cons_option found []) }
 {
     match found {

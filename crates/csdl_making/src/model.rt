@@ -18,7 +18,7 @@ use std::alloc::Global;
 
 /// The model that a document means, from its lists, and an order of its types in which each follows its base. `Memory` comes where memory
 /// ran out, where a number is past those of a model (an id or a bound of 32 bits, a member of 64), and where the kinds of all properties
-/// hold too many members.
+/// would hold more than 134,217,728 numbers together, each property those of its enumeration without repeats.
 pub fn make_model(
     alloc: Global,
     lookups: &Lookups<'_>,
@@ -28,9 +28,9 @@ pub fn make_model(
     ensures { IfOk result (λ made. made ≡ meaning lookups.now.model.now) }
 {
     let model = lookups.model;
-    keep_kinds_small(lookups)?;
     let starts = starts_of(alloc, model)?;
     let enums = enum_kinds(alloc, &model.enums)?;
+    keep_kinds_small(lookups, &enums)?;
     Ok(EntityModel {
         namespace: model.namespace.copy(alloc)?,
         alias: copy_of(alloc, &model.alias)?,

@@ -1,38 +1,74 @@
+ghost use Rattle.std.specs.Prelude.{◌≡◌, ◌↔◌, ◌≤◌, ◌-◌, ◌^◌, map, min, sum_by, IsOk};
+ghost use Rattle.csdl_meaning.specs.Kinds.{enum_kind, kind_of};
+ghost use Rattle.csdl_meaning.specs.Meaning.{props_in};
+ghost use Rattle.csdl_making.specs.Sizes.{numbers_held, numbers_in};
+
 use csdl_lists::RawProp;
 use csdl_names::Lookups;
 use csdl_types::{PropType, prop_type};
-use emc_base::{Memory, Seq};
+use emc_base::{Kind, Memory, Seq};
 
-/// How many members the kinds of all properties may hold together. Each property has those of its enumeration, so that a document of some
-/// MiB could ask for billions: a long enumeration, and a long list of properties of that type.
-const MOST_MEMBERS: usize = 67_108_864;
+/// How many numbers the kinds of all properties may hold together: 512 types of 256 properties, each of an enumeration of 1,024 numbers,
+/// are kept. Each property holds a copy of its enumeration's numbers, so that without a bound a document of some MiB could ask for
+/// billions: a long enumeration, and a long list of properties of that type.
+const MOST_NUMBERS: u64 = 134_217_728;
 
-/// Answers `Memory` where the kinds of all properties hold too many members.
-pub(crate) fn keep_kinds_small(lookups: &Lookups<'_>) -> Result<(), Memory> {
-    let mut left = MOST_MEMBERS;
-    for ty in lookups.model.types.as_slice() {
-        left = left_by(lookups, &ty.props, left)?;
+/// Answers `Memory` exactly where the kinds of all properties would hold too many numbers, by the kinds of all enumerations.
+pub(crate) fn keep_kinds_small(lookups: &Lookups<'_>, enums: &Seq<Kind>) -> Result<(), Memory>
+    requires enums { enums.now ≡ map enum_kind lookups.now.model.now.enums }
+    ensures { IsOk result ↔ (numbers_held (props_in lookups.now.model.now) ≤ 134217728) }
+{
+    if numbers_held(lookups, enums) > MOST_NUMBERS {
+        return Err(Memory);
     }
-    let _left = left;
     Ok(())
 }
 
-// What is left of so many members after those of these properties.
-fn left_by(lookups: &Lookups<'_>, props: &Seq<RawProp>, most: usize) -> Result<usize, Memory> {
-    let mut left = most;
-    for prop in props.as_slice() {
-        left = left.checked_sub(members_of(lookups, prop)).ok_or(Memory)?;
+// How many numbers the kinds of all properties hold, as far as a `u64` counts.
+fn numbers_held(lookups: &Lookups<'_>, enums: &Seq<Kind>) -> u64
+    requires enums { enums.now ≡ map enum_kind lookups.now.model.now.enums }
+    ensures { result ≡ min (numbers_held (props_in lookups.now.model.now)) (2 ^ 64 - 1) }
+{
+    let mut held: u64 = 0;
+    for ty in lookups.model.types.as_slice() {
+        held = held.saturating_add(numbers_of_props(lookups, enums, &ty.props));
     }
-    Ok(left)
+    held
 }
 
-// How many members the enumeration of a property has; 0 where its type is none.
-fn members_of(lookups: &Lookups<'_>, prop: &RawProp) -> usize {
+// How many those of these properties hold.
+fn numbers_of_props(lookups: &Lookups<'_>, enums: &Seq<Kind>, props: &Seq<RawProp>) -> u64
+    requires enums { enums.now ≡ map enum_kind lookups.now.model.now.enums }
+    ensures { result ≡ min (sum_by (λ prop. numbers_in (kind_of lookups.now.model.now prop)) props.now) (2 ^ 64 - 1) }
+{
+    let mut held: u64 = 0;
+    for prop in props.as_slice() {
+        held = held.saturating_add(numbers_of_prop(lookups, enums, prop));
+    }
+    held
+}
+
+// How many the kind of a property holds.
+fn numbers_of_prop(lookups: &Lookups<'_>, enums: &Seq<Kind>, prop: &RawProp) -> u64
+    requires enums { enums.now ≡ map enum_kind lookups.now.model.now.enums }
+    ensures { result ≡ numbers_in (kind_of lookups.now.model.now prop.now) }
+{
     match prop_type(lookups.scope, prop.kind.as_str()) {
-        Some(PropType::Enum(place)) => match lookups.model.enums.get(place) {
-            Some(enumeration) => enumeration.members.len(),
+        Some(PropType::Enum(place)) => match enums.get(place) {
+            Some(kind) => numbers_in(kind),
             None => 0,
         },
+        Some(PropType::Simple(_)) => 0,
+        None => 0,
+    }
+}
+
+// How many numbers a kind holds.
+fn numbers_in(kind: &Kind) -> u64
+    ensures { result ≡ numbers_in kind.now }
+{
+    match kind {
+        Kind::Enum(enumeration) => enumeration.members.len() as u64,
         _ => 0,
     }
 }

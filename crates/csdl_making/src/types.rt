@@ -1,4 +1,4 @@
-ghost use Rattle.std.specs.Prelude.{◌≡◌, ◌<◌, ℕ, length, map, slice_get, IfOk};
+ghost use Rattle.std.specs.Prelude.{◌≡◌, ◌<◌, ℕ, List, length, map, slice_get, IfOk};
 ghost use Rattle.std.specs.List.{filter_map, range_with_len};
 ghost use Rattle.std.specs.Option.{option_and_then, option_copied};
 ghost use Rattle.base_chains.specs.Chains.{base_at};
@@ -25,41 +25,26 @@ pub(crate) fn types_in(
     requires starts { AreStarts lookups.now.model.now starts.now }
     ensures { IfOk result (λ types. types ≡ types_in lookups.now.model.now) }
 {
-    let keys = keys_in(alloc, lookups, starts, order)?;
-    let props = props_of_types(alloc, lookups, starts, order)?;
+    let own_keys = own_keys(alloc, lookups, starts)?;
+    let keys = with_inherited(alloc, lookups, own_keys, order)?;
+    let own_props = all_own_props(alloc, lookups, starts)?;
+    let props = with_inherited(alloc, lookups, own_props, order)?;
     make_types(alloc, lookups, keys, props)
 }
 
-// For each type its key.
-fn keys_in(
+// For each type what all in its chain have, from what each type has of its own.
+fn with_inherited(
     alloc: Global,
     lookups: &Lookups<'_>,
-    starts: &Seq<usize>,
+    own: Vec<Seq<PropId>>,
     order: &[usize],
 ) -> Result<Vec<Seq<PropId>>, Memory>
+    requires alike { length own.items ≡ length lookups.now.model.now.types }
     requires order { IsBasesFirst (base_at lookups.now.bases.now) (length lookups.now.bases.now) order.now }
-    requires starts { AreStarts lookups.now.model.now starts.now }
-    ensures { IfOk result (λ keys. AreInherited lookups.now.model.now (own_key lookups.now.model.now) keys.items) }
+    ensures { IfOk result (λ lists. (each : ℕ → List PropId) → own.items ≡ map each (range_with_len 0 (length lookups.now.model.now.types)) → AreInherited lookups.now.model.now each lists.items) }
 {
-    let own = own_keys(alloc, lookups, starts)?;
-    let keys = inherited(alloc, own, lookups.bases.as_slice(), order)?;
-    Ok(keys)
-}
-
-// For each type its properties.
-fn props_of_types(
-    alloc: Global,
-    lookups: &Lookups<'_>,
-    starts: &Seq<usize>,
-    order: &[usize],
-) -> Result<Vec<Seq<PropId>>, Memory>
-    requires order { IsBasesFirst (base_at lookups.now.bases.now) (length lookups.now.bases.now) order.now }
-    requires starts { AreStarts lookups.now.model.now starts.now }
-    ensures { IfOk result (λ props. AreInherited lookups.now.model.now (own_props lookups.now.model.now) props.items) }
-{
-    let own = all_own_props(alloc, lookups, starts)?;
-    let props = inherited(alloc, own, lookups.bases.as_slice(), order)?;
-    Ok(props)
+    let lists = inherited(alloc, own, lookups.bases.as_slice(), order)?;
+    Ok(lists)
 }
 
 // For each type the key that it declares.
@@ -153,6 +138,7 @@ fn own_props(
     owner: usize,
 ) -> Result<Seq<PropId>, Memory>
     requires starts { AreStarts lookups.now.model.now starts.now }
+    requires inside { owner < length lookups.now.model.now.types }
     ensures { IfOk result (λ ids. ids ≡ own_props lookups.now.model.now owner) }
 {
     let mut ids = Seq::empty(alloc);

@@ -1,7 +1,7 @@
 -- What V8 to V13 give of types and enumerations, where they are kept.
-use Rattle.std.proofs.Common.{◌≡◌, ⊎_elim, inl, inr, ℕ, List, [], ◌∷◌, length, map, Bool, true, false, Any, Contains, Option, Some, None, codes, refl, sym, subst, ◌≤◌, ◌<◌, arith}
+use Rattle.std.proofs.Common.{◌≡◌, ⊎_elim, inl, inr, ℕ, List, [], ◌∷◌, map, Bool, true, false, Any, Contains, Option, Some, None, codes, refl, sym, subst}
 use Rattle.std.specs.Option.{MatchOption, unwrap_or}
-use Rattle.std.proofs.lemmas.Bool.{both_ways, cases_lt}
+use Rattle.std.proofs.lemmas.Bool.{both_ways}
 use Rattle.std.proofs.lemmas.List.Elements.{Contains-append_cases}
 use Rattle.emc_base.specs.Lists.{At}
 use Rattle.emc_base.specs.declared.value.Under.{Under}
@@ -19,12 +19,10 @@ use Rattle.csdl_lists.specs.declared.raw.RawModel.{RawModel}
 use Rattle.csdl_lists.specs.declared.raw.RawProp.{RawProp}
 use Rattle.csdl_lists.specs.declared.raw.RawType.{RawType}
 use Rattle.csdl_lists.specs.References.{names_in}
-use Rattle.csdl_types.specs.declared.simple.Simple.{Simple}
-use Rattle.csdl_types.specs.declared.simple.Simple.TheVariants.{Byte, Int16, Int32, Int64, Boolean, Text, Binary}
 use Rattle.csdl_types.specs.Inherited.{HasName, IsAncestorFault, IsInherited, IsInheritedFault}
-use Rattle.csdl_types.specs.Keys.{BreaksKey, CanBeKey, IsKey, IsKeySimple, IsNoKeyPropFault}
+use Rattle.csdl_types.specs.Keys.{BreaksKey, CanBeKey, IsKey, IsNoKeyPropFault}
 use Rattle.csdl_types.specs.Numbers.{numbers_of, under_of}
-use Rattle.csdl_types.specs.PropTypes.{BreaksBound, IsEnumFault, IsNumberFault, IsOutside, IsPropBoundFault}
+use Rattle.csdl_types.specs.PropTypes.{BreaksBound, HasLength, IsEnumFault, IsNumberFault, IsOutside, IsPropBoundFault}
 use Rattle.csdl_types.specs.Simple.{simple_of}
 use Rattle.csdl_types.specs.TypeRules.{BreaksTypeRules, IsLaterFault}
 use Rattle.csdl_meaning.specs.Kinds.{enum_kind, kind_of}
@@ -35,6 +33,7 @@ use Rattle.csdl_meaning.proofs.Keys.{key_names}
 use Rattle.csdl_meaning.proofs.Lists.{all_from_places}
 use Rattle.csdl_meaning.proofs.Names.{member_names}
 use Rattle.csdl_meaning.proofs.SoundKinds.{key_kind, sound_enum}
+use Rattle.csdl_meaning.proofs.Stable.{for_keys, some_key}
 
 module _ (raw : RawModel) (never : (fault : Fault) → ¬ BreaksTypeRules raw fault) where
   -- V8
@@ -63,16 +62,9 @@ module _ (raw : RawModel) (never : (fault : Fault) → ¬ BreaksTypeRules raw fa
     pub root_has_key : type.base ≡ None → (names : List (List ℕ)) × (type.key ≡ Some names) × IsKey names
     root_has_key none = by type.key refl (let P : Option (List ℕ) → Type 0 = λ base. ¬ BreaksKey base type.key in subst P none fits)
       where
-        some_names : (names : List (List ℕ)) → ¬ (¬ IsKey names) → IsKey names
-        some_names names good = record {
-          some = λ none. good (λ key. key.some none);
-          few = ⊎_elim (λ (many : 4 < length names). absurd (good (λ key. let most : length names ≤ 4 = key.few in omega arith))) (λ (few : length names ≤ 4). few) (cases_lt 4 (length names));
-          once = λ k l d before within same. good (λ key. key.once k l d before within same);
-        }
-
         by : (key : Option (List (List ℕ))) → type.key ≡ key → ¬ BreaksKey None type.key → (names : List (List ℕ)) × (type.key ≡ Some names) × IsKey names
         by None is good = absurd (good (let P : Option (List (List ℕ)) → Type 0 = λ key. BreaksKey None key in subst P (sym is) tt))
-        by (Some names) is good = (names, is, some_names names (let P : Option (List (List ℕ)) → Type 0 = λ key. ¬ BreaksKey None key in subst P is good))
+        by (Some names) is good = (names, is, some_key names (let P : Option (List (List ℕ)) → Type 0 = λ key. ¬ BreaksKey None key in subst P is good))
 
     -- V9: a type that names one has none
     pub derived_has_none : (base : List ℕ) → type.base ≡ Some base → type.key ≡ None
@@ -85,7 +77,7 @@ module _ (raw : RawModel) (never : (fault : Fault) → ¬ BreaksTypeRules raw fa
 
     -- V10
     pub fits_key : (prop : RawProp) → Contains (key_names type) prop.name → Contains type.props prop → IsKeyKind (kind_of raw prop) × (prop.nullable ≡ false)
-    fits_key prop named has = (key_kind raw prop (simple_fits (simple_of prop.kind) refl), not_null prop.nullable refl)
+    fits_key prop named has = (key_kind raw prop (for_keys (simple_of prop.kind) (λ no. good (λ key. no key.simple))), not_null prop.nullable refl)
       where
         good : ¬ (¬ CanBeKey prop)
         good bad = by type.key refl
@@ -100,20 +92,6 @@ module _ (raw : RawModel) (never : (fault : Fault) → ¬ BreaksTypeRules raw fa
         not_null : (nullable : Bool) → prop.nullable ≡ nullable → prop.nullable ≡ false
         not_null false is = is
         not_null true is = absurd (good (λ key. let needed : prop.nullable ≡ false = key.needed in both_ways prop.nullable needed is))
-
-        simple_fits : (simple : Option Simple) → simple_of prop.kind ≡ simple → IsKeySimple (simple_of prop.kind)
-        simple_fits simple is = let P : Option Simple → Type 0 = λ simple. IsKeySimple simple in
-            subst P (sym is) (by simple (λ no. good (λ key. no (subst P is key.simple))))
-          where
-            by : (simple : Option Simple) → ¬ (¬ IsKeySimple simple) → IsKeySimple simple
-            by None wrong = absurd (wrong (λ no. no))
-            by (Some Byte) wrong = absurd (wrong (λ no. no))
-            by (Some Int16) wrong = tt
-            by (Some Int32) wrong = tt
-            by (Some Int64) wrong = tt
-            by (Some Boolean) wrong = absurd (wrong (λ no. no))
-            by (Some Text) wrong = tt
-            by (Some Binary) wrong = absurd (wrong (λ no. no))
 
     -- V11
     pub none_inherited : (j : ℕ) (other : RawType) → At raw.types j other → IsAncestor (base_in raw) i j
@@ -146,7 +124,7 @@ module _ (raw : RawModel) (never : (fault : Fault) → ¬ BreaksTypeRules raw fa
             record { ancestor = j; above = above; type = other; is_type = there; has = subst P (sym same) has_name }
 
     -- V13
-    pub fits_bound : (prop : RawProp) → Contains type.props prop → ¬ BreaksBound (simple_of prop.kind) prop.bound
+    pub fits_bound : (prop : RawProp) → Contains type.props prop → ¬ BreaksBound (HasLength (simple_of prop.kind)) prop.bound
     fits_bound prop has broken =
         none_of_type i type here (fault_at Bound (Member (codes "Property") ∷ Item has.0 ∷ Member (codes "MaxLength") ∷ []))
         (inr (inr (inr (inr (in_list (λ k. IsPropBoundFault) (codes "Property") type.props has.0 prop Bound (Member (codes "MaxLength") ∷ [])

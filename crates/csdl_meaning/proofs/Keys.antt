@@ -1,5 +1,5 @@
 -- Keys: which properties are in a key, and what base types give. V7, V9, V10.
-use Rattle.std.proofs.Common.{◌≡◌, ◌≢◌, ℕ, ◌+◌, ◌<◌, ◌≤◌, List, [], ◌∷◌, ◌++◌, append-nil, length, slice_get, All, Contains, Option, Some, None, option_map, false, refl, sym, ap, subst, ◌∙◌, arith}
+use Rattle.std.proofs.Common.{◌≡◌, ◌≢◌, ℕ, ◌+◌, ◌<◌, ◌≤◌, List, [], ◌++◌, append-nil, length, slice_get, All, Contains, Option, Some, None, option_map, false, refl, sym, ap, subst, ◌∙◌, arith}
 use Rattle.std.specs.List.{filter_map, flat_map}
 use Rattle.std.specs.Option.{MatchOption, option_and_then, option_map_or, unwrap_or}
 use Rattle.std.proofs.lemmas.List.FromFn.{get_or-map-range_with_len, length-map-range_with_len}
@@ -22,7 +22,7 @@ use Rattle.csdl_lists.specs.declared.raw.RawType.{RawType}
 use Rattle.csdl_meaning.specs.Kinds.{kind_of}
 use Rattle.csdl_meaning.specs.Meaning.{IsMeant, base_in, chain_in, declared_before, declared_by, own_key, own_props, prop_named, prop_of}
 use Rattle.csdl_meaning.proofs.Bases.{along_chain, base_inside, raw_at}
-use Rattle.csdl_meaning.proofs.Lists.{found_apart, found_length, in_flat_map, in_found}
+use Rattle.csdl_meaning.proofs.Lists.{found_apart, found_length, in_flat_map, in_found, none_long}
 use Rattle.csdl_meaning.proofs.Props.{declared_in, has_at, prop_at}
 
 -- what is mapped of something found
@@ -112,10 +112,6 @@ module _ (raw : RawModel) where
 
         long : length (filter_map (prop_named raw t.index) names) ≡ length names
         long = found_length (prop_named raw t.index) names all
-
-        none_long : {X : Type 0} (xs : List X) → length xs ≡ 0 → xs ≡ []
-        none_long [] none = refl
-        none_long (x ∷ xs) none = absurd (omega arith)
 
     -- V9: a type's key is that of its base type, or its own
     pub inherited_key : ((i : ℕ) → ¬ IsAncestor (base_in raw) i i)

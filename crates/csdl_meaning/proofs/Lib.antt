@@ -10,7 +10,14 @@ pub mod Ids
 pub mod FaultPlaces
 pub mod KeptNames
 pub mod KeptTypes
+pub mod Stable
+pub mod PropKinds
+pub mod Finds
+pub mod FoundItems
+pub mod Given
+pub mod Resolved
 pub mod Sound
 pub mod NoFaults
 pub mod NoTypeFaults
+pub mod ByTests
 pub mod SchoolKeeps

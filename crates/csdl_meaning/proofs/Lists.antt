@@ -1,7 +1,7 @@
 -- Lists put behind one another, filtered, numbered and mapped, and what stands in them.
 use Rattle.std.proofs.Common.{Bool, true, false, cond, filter, ◌≡◌, ◌≢◌, ⊎_elim, ℕ, zero, suc, ◌+◌, List, [], ◌∷◌, ◌++◌, length, map, get_or, All, AllPairs, Contains, Option, Some, None, option_map, refl, sym, ap, subst, ◌∙◌, arith}
 use Rattle.std.specs.List.{cons_option, enumerate_from, filter_map, flat_map}
-use Rattle.std.proofs.lemmas.List.Elements.{All-append, All-head, All-map, All-tail, Contains-append_cases}
+use Rattle.std.proofs.lemmas.List.Elements.{All-append, All-contains, All-head, All-map, All-tail, Contains-append_cases, Contains-append_left}
 use Rattle.std.proofs.lemmas.List.Kept.{AllPairs-cons}
 use Rattle.std.proofs.lemmas.Option.{slice_get-get_or, slice_get-map}
 use Rattle.std.proofs.lemmas.List.Concat.{flat_map-cons}
@@ -21,6 +21,11 @@ module _ {X : Type 0} where
   at_right [] ys i j x same is = let here : i ≡ j = omega arith in let P : ℕ → Type 0 = λ k. At ys k x in subst P here is
   at_right (y ∷ xs) ys i zero x same is = absurd (omega arith)
   at_right (y ∷ xs) ys i (suc j) x same is = at_right xs ys i j x (omega arith) is
+
+  -- a list without length has no items
+  pub none_long : (xs : List X) → length xs ≡ 0 → xs ≡ []
+  none_long [] none = refl
+  none_long (x ∷ xs) none = absurd (omega arith)
 
   -- items numbered on
   pub enumerate-append : (n m : ℕ) (xs ys : List X) → n + length xs ≡ m → enumerate_from n (xs ++ ys) ≡ enumerate_from n xs ++ enumerate_from m ys
@@ -52,6 +57,13 @@ module _ {X : Type 0} where
 
   pub pairs_tail : (R : X → X → Type 0) (x : X) (xs : List X) → AllPairs R (x ∷ xs) → AllPairs R xs
   pairs_tail R x xs pairs = λ i j d below within. pairs (suc i) (suc j) d (omega arith) (omega arith)
+
+  -- what goes for two lists behind one another goes for the first
+  pub apart-left : (R : X → X → Type 0) (xs ys : List X) → AllPairs R (xs ++ ys) → AllPairs R xs
+  apart-left R [] ys pairs = λ i j d below within. absurd (omega arith)
+  apart-left R (x ∷ xs) ys pairs = AllPairs-cons R x xs
+      (all_from_members (R x) xs (λ z has. All-contains (R x) (xs ++ ys) z (pairs_head R x (xs ++ ys) pairs) (Contains-append_left xs ys z has)))
+      (apart-left R xs ys (pairs_tail R x (xs ++ ys) pairs))
 
   -- each of one list goes with each of the other
   pub apart-append : (R : X → X → Type 0) (xs ys : List X) → AllPairs R xs → AllPairs R ys → All (λ x. All (R x) ys) xs → AllPairs R (xs ++ ys)

@@ -11,6 +11,8 @@ use Rattle.std.proofs.lemmas.Slice.Eq.{bytes_eq-Decides}
 use Rattle.emc_base.specs.Lists.{At}
 use Rattle.emc_base.proofs.Lists.{at_once, passes_at}
 use Rattle.layouts.specs.declared.fault.Fault.{Fault}
+use Rattle.layouts.specs.declared.rule.Rule.{Rule}
+use Rattle.layouts.specs.declared.rule.Rule.TheVariants.{KeyProperty}
 use Rattle.soundness.specs.Kinds.{largest_bound}
 use Rattle.base_chains.specs.Chains.{IsAncestor}
 use Rattle.csdl_lists.specs.declared.raw.RawBound.{RawBound}
@@ -22,9 +24,8 @@ use Rattle.csdl_lists.specs.declared.raw.RawType.{RawType}
 use Rattle.csdl_lists.specs.References.{Names, base_of}
 use Rattle.csdl_names.specs.Repeated.{IsRepeatedInType}
 use Rattle.csdl_names.specs.Unresolved.{Declares, LacksProp, derived, root}
-use Rattle.csdl_types.specs.declared.simple.Simple.{Simple}
 use Rattle.csdl_types.specs.Inherited.{HasName, IsInherited, IsInheritedNameFault}
-use Rattle.csdl_types.specs.Keys.{CanBeKey, IsKey, IsNoKeyPropFault}
+use Rattle.csdl_types.specs.Keys.{CanBeKey, IsFailingKeyProp, IsKey, IsNoKeyPropFault}
 use Rattle.csdl_types.specs.PropTypes.{BreaksBound, HasLength, IsPropBoundFault, IsPropTypeFault}
 use Rattle.csdl_types.specs.Simple.{simple_of}
 use Rattle.csdl_meaning.proofs.NoFaults.{EachFrom, differ, differ_tells, is_new, none_above_root, none_again, not_among, root_above}
@@ -66,13 +67,17 @@ not_lacked_above names model name i j is has (derived _ base type here next _ la
 pub key_by : (key : List (List ℕ)) → key ≢ [] → length key ≤ 4 → differ (λ name. name) key ≡ true → IsKey key
 key_by key some few apart = record { some = some; few = few; once = differ_tells (λ name. name) key apart }
 
--- V10: no property that isn't of the key is asked for
+-- V10, V23: no property that isn't of the key is asked for
+pub others_pass : (rule : Rule) (Fails : RawProp → Type 0) (key : List (List ℕ)) (n : ℕ) (props : List RawProp) → list_all (is_new (λ prop. prop.name) key) props ≡ true
+    → EachFrom (λ i prop. (fault : Fault) → ¬ IsFailingKeyProp rule Fails key prop fault) n props
+others_pass rule Fails key n [] test = tt
+others_pass rule Fails key n (prop ∷ props) test =
+    let parts = and_parts (is_new (λ prop. prop.name) key prop) (list_all (is_new (λ prop. prop.name) key) props) test in
+    ((λ fault broken. not_among prop.name key (not-true (list_any (bytes_eq prop.name) key) parts.0) broken.0.0), others_pass rule Fails key (n + 1) props parts.1)
+
 pub others_not_in_key : (key : List (List ℕ)) (n : ℕ) (props : List RawProp) → list_all (is_new (λ prop. prop.name) key) props ≡ true
     → EachFrom (λ i prop. (fault : Fault) → ¬ IsNoKeyPropFault key prop fault) n props
-others_not_in_key key n [] test = tt
-others_not_in_key key n (prop ∷ props) test =
-    let parts = and_parts (is_new (λ prop. prop.name) key prop) (list_all (is_new (λ prop. prop.name) key) props) test in
-    ((λ fault broken. not_among prop.name key (not-true (list_any (bytes_eq prop.name) key) parts.0) broken.0.0), others_not_in_key key (n + 1) props parts.1)
+others_not_in_key = others_pass KeyProperty (λ prop. ¬ CanBeKey prop)
 
 -- and one that can be of a key breaks nothing
 pub in_key : (key : List (List ℕ)) {prop : RawProp} → CanBeKey prop → (fault : Fault) → ¬ IsNoKeyPropFault key prop fault
@@ -114,8 +119,8 @@ module _ (base : ℕ → Option ℕ) (types : List RawType) (i : ℕ) where
       (subst (λ type. HasName type name) type inherited.has)
 
 -- V13: a bound of a text or a byte list
-pub fits : (simple : Option Simple) (number : ℤ) → HasLength simple → pos 1 ≤ℤ number → number ≤ℤ pos largest_bound → ¬ BreaksBound simple (Number number)
-fits simple number long some few = ⊎_elim (λ short. short long) (λ wrong. wrong (some, few))
+pub fits : (HasOne : Type 0) (number : ℤ) → HasOne → pos 1 ≤ℤ number → number ≤ℤ pos largest_bound → ¬ BreaksBound HasOne (Number number)
+fits HasOne number long some few = ⊎_elim (λ short. short long) (λ wrong. wrong (some, few))
 
 -- and none where there is none
 abbrev is_unbounded : RawBound → Bool
@@ -129,7 +134,7 @@ unbounded n (prop ∷ props) test =
     let parts = and_parts (is_unbounded prop.bound) (list_all (λ prop. is_unbounded prop.bound) props) test in
     ((λ fault wrong. by prop.bound parts.0 wrong.0), unbounded (n + 1) props parts.1)
   where
-    by : (bound : RawBound) → is_unbounded bound ≡ true → ¬ BreaksBound (simple_of prop.kind) bound
+    by : (bound : RawBound) → is_unbounded bound ≡ true → ¬ BreaksBound (HasLength (simple_of prop.kind)) bound
     by Absent absent wrong = wrong
     by Max absent wrong = absurd cc
     by (Number number) absent wrong = absurd cc

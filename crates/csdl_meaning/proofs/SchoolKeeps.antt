@@ -15,7 +15,7 @@ use Rattle.csdl_types.specs.declared.simple.Simple.TheVariants.{Text, Binary}
 use Rattle.csdl_types.specs.Numbers.{numbers_of, under_of}
 use Rattle.csdl_types.specs.Inherited.{IsAncestorFault, IsInherited, IsInheritedFault}
 use Rattle.csdl_types.specs.Keys.{IsNoKeyPropFault}
-use Rattle.csdl_types.specs.PropTypes.{IsEnumFault, IsNumberFault, IsPropBoundFault}
+use Rattle.csdl_types.specs.PropTypes.{HasLength, IsEnumFault, IsNumberFault, IsPropBoundFault}
 use Rattle.csdl_types.specs.TypeRules.{BreaksTypeRules, IsLaterFault}
 use Rattle.csdl_meaning.specs.Meaning.{base_in}
 use Rattle.csdl_meaning.specs.School.{giving, lessons, levels, parts, persons, school, teachers}
@@ -115,7 +115,7 @@ persons_keep fault = ⊎_elim
     (⊎_elim (none_inherited (base_in school) school.types 1 persons refl fault)
     (⊎_elim (all_typed names.enum_named persons refl fault)
     (none_in (λ k. IsPropBoundFault) (codes "Property") persons.props
-    ((λ fault wrong. fits (Some Text) (pos 40) tt (omega (arith, ints)) (omega (arith, ints)) wrong.0), ((λ fault wrong. wrong.0), tt)) fault))))
+    ((λ fault wrong. fits (HasLength (Some Text)) (pos 40) tt (omega (arith, ints)) (omega (arith, ints)) wrong.0), ((λ fault wrong. wrong.0), tt)) fault))))
 
 abbrev lesson_key : List (List ℕ)
 lesson_key = codes "Room" ∷ codes "Hour" ∷ []
@@ -134,7 +134,7 @@ lessons_keep fault = ⊎_elim
         (λ fault wrong. wrong.0),
         (
           (λ fault wrong. wrong.0 tt),
-          ((λ fault wrong. fits (Some Binary) (pos 9) tt (omega (arith, ints)) (omega (arith, ints)) wrong.0), unbounded 4 (drop 4 lessons.props) refl),
+          ((λ fault wrong. fits (HasLength (Some Binary)) (pos 9) tt (omega (arith, ints)) (omega (arith, ints)) wrong.0), unbounded 4 (drop 4 lessons.props) refl),
         ),
       ),
     ) fault))))

@@ -11,7 +11,7 @@ use Rattle.emc_base.specs.declared.value.Under.{Under}
 use Rattle.emc_base.specs.declared.value.Under.TheVariants as under
 use Rattle.emc_base.specs.declared.value.Value.TheVariants.{Whole}
 use Rattle.emc_base.specs.declared.value.Kind.TheVariants as kind
-use Rattle.soundness.specs.Kinds.{IsKeyKind, IsSoundBound, IsSoundKind, largest_bound, under_kind}
+use Rattle.soundness.specs.Kinds.{IsEnum, IsKeyKind, IsSoundBound, IsSoundKind, largest_bound, under_kind}
 use Rattle.csdl_lists.specs.declared.raw.RawBound.{RawBound}
 use Rattle.csdl_lists.specs.declared.raw.RawBound.TheVariants.{Absent, Max, Number}
 use Rattle.csdl_lists.specs.declared.raw.RawEnum.{RawEnum}
@@ -23,26 +23,30 @@ use Rattle.csdl_types.specs.declared.simple.Simple.{Simple}
 use Rattle.csdl_types.specs.declared.simple.Simple.TheVariants.{Byte, Int16, Int32, Int64, Boolean, Text, Binary}
 use Rattle.csdl_types.specs.Keys.{IsKeySimple}
 use Rattle.csdl_types.specs.Numbers.{numbers_from, numbers_of, under_of}
-use Rattle.csdl_types.specs.PropTypes.{BreaksBound, IsNoBound, IsOutside}
+use Rattle.csdl_types.specs.PropTypes.{BreaksBound, HasLength, IsNoBound, IsOutside}
 use Rattle.csdl_types.specs.Simple.{simple_of}
 use Rattle.csdl_meaning.specs.Kinds.{enum_kind, kind_of, most_of, simple_kind}
 use Rattle.csdl_meaning.specs.Rising.{rising}
 use Rattle.csdl_meaning.proofs.Rising.{rising_all, rising_rises, rising_some}
 
 -- a simple type for keys means a kind for keys
+pub simple_key : (bound : RawBound) (simple : Simple) → IsKeySimple (Some simple) → IsKeyKind (simple_kind bound simple)
+simple_key bound Byte is = absurd is
+simple_key bound Int16 is = tt
+simple_key bound Int32 is = tt
+simple_key bound Int64 is = tt
+simple_key bound Boolean is = absurd is
+simple_key bound Text is = tt
+simple_key bound Binary is = absurd is
+
+-- and so does a property of such a type
 pub key_kind : (raw : RawModel) (prop : RawProp) → IsKeySimple (simple_of prop.kind) → IsKeyKind (kind_of raw prop)
 key_kind raw prop = by (simple_of prop.kind)
   where
     by : (simple : Option Simple) → IsKeySimple simple
         → IsKeyKind (option_map_or (simple_kind prop.bound) simple (option_map_or enum_kind (option_and_then (slice_get raw.enums) ((names_in raw).enum_named prop.kind)) kind.Boolean))
     by None is = absurd is
-    by (Some Byte) is = absurd is
-    by (Some Int16) is = tt
-    by (Some Int32) is = tt
-    by (Some Int64) is = tt
-    by (Some Boolean) is = absurd is
-    by (Some Text) is = tt
-    by (Some Binary) is = absurd is
+    by (Some simple) is = simple_key prop.bound simple is
 
 -- a bound that is none of the wrong ones is 1 to the largest
 sound_number : (number : ℤ) → ¬ IsNoBound number → IsSoundBound (most_of (Number number))
@@ -53,20 +57,30 @@ sound_number (pos most) fine = (
 )
 
 -- a bound that V13 allows
-sound_bound : (simple : Option Simple) (bound : RawBound) → ¬ BreaksBound simple bound → IsSoundBound (most_of bound)
-sound_bound simple Absent fine = tt
-sound_bound simple Max fine = tt
-sound_bound simple (Number number) fine = sound_number number (λ wrong. fine (inr wrong))
+sound_bound : (HasOne : Type 0) (bound : RawBound) → ¬ BreaksBound HasOne bound → IsSoundBound (most_of bound)
+sound_bound HasOne Absent fine = tt
+sound_bound HasOne Max fine = tt
+sound_bound HasOne (Number number) fine = sound_number number (λ wrong. fine (inr wrong))
 
 -- V13: the kind of a simple type has a sound bound
-sound_simple : (bound : RawBound) (simple : Simple) → ¬ BreaksBound (Some simple) bound → IsSoundKind (simple_kind bound simple)
-sound_simple bound Byte fine = tt
-sound_simple bound Int16 fine = tt
-sound_simple bound Int32 fine = tt
-sound_simple bound Int64 fine = tt
-sound_simple bound Boolean fine = tt
-sound_simple bound Text fine = sound_bound (Some Text) bound fine
-sound_simple bound Binary fine = sound_bound (Some Binary) bound fine
+pub sound_simple : (HasOne : Type 0) (bound : RawBound) (simple : Simple) → ¬ BreaksBound HasOne bound → IsSoundKind (simple_kind bound simple)
+sound_simple HasOne bound Byte fine = tt
+sound_simple HasOne bound Int16 fine = tt
+sound_simple HasOne bound Int32 fine = tt
+sound_simple HasOne bound Int64 fine = tt
+sound_simple HasOne bound Boolean fine = tt
+sound_simple HasOne bound Text fine = sound_bound HasOne bound fine
+sound_simple HasOne bound Binary fine = sound_bound HasOne bound fine
+
+-- no simple type is an enumeration
+pub no_enum : (bound : RawBound) (simple : Simple) → ¬ IsEnum (simple_kind bound simple)
+no_enum bound Byte is = is
+no_enum bound Int16 is = is
+no_enum bound Int32 is = is
+no_enum bound Int64 is = is
+no_enum bound Boolean is = is
+no_enum bound Text is = is
+no_enum bound Binary is = is
 
 -- a number that doesn't lie outside lies inside
 between : (low high number : ℤ) → ¬ (¬ IsBetween low high number) → IsBetween low high number
@@ -100,7 +114,7 @@ sound_enum enum u named some within = record {
 
 -- V12, V13
 pub sound_kind : (raw : RawModel) (prop : RawProp) → ((i : ℕ) (enum : RawEnum) → At raw.enums i enum → IsSoundKind (enum_kind enum))
-    → ¬ BreaksBound (simple_of prop.kind) prop.bound → IsSoundKind (kind_of raw prop)
+    → ¬ BreaksBound (HasLength (simple_of prop.kind)) prop.bound → IsSoundKind (kind_of raw prop)
 sound_kind raw prop enums = by (simple_of prop.kind)
   where
     by_enum : (place : Option ℕ) → IsSoundKind (option_map_or enum_kind (option_and_then (slice_get raw.enums) place) kind.Boolean)
@@ -111,7 +125,7 @@ sound_kind raw prop enums = by (simple_of prop.kind)
         by_found None is = tt
         by_found (Some enum) is = enums i enum is
 
-    by : (simple : Option Simple) → ¬ BreaksBound simple prop.bound
+    by : (simple : Option Simple) → ¬ BreaksBound (HasLength simple) prop.bound
         → IsSoundKind (option_map_or (simple_kind prop.bound) simple (option_map_or enum_kind (option_and_then (slice_get raw.enums) ((names_in raw).enum_named prop.kind)) kind.Boolean))
     by None fine = by_enum ((names_in raw).enum_named prop.kind)
-    by (Some simple) fine = sound_simple prop.bound simple fine
+    by (Some simple) fine = sound_simple (HasLength (Some simple)) prop.bound simple fine

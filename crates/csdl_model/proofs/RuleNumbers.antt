@@ -1,12 +1,12 @@
 -- The rules of each search have greater numbers than those of the search before it.
-use Rattle.std.proofs.Common.{◌≡◌, ⊎_elim, ℕ, ◌<◌, ◌≤◌, sym, ap, subst, arith}
+use Rattle.std.proofs.Common.{◌≡◌, ⊎_elim, ◌<◌, ◌≤◌, ap, arith}
 use Rattle.std.specs.Prelude.{codes}
 use Rattle.json_form.specs.declared.pointer.Step.TheVariants.{Member}
 use Rattle.layouts.specs.declared.fault.Fault.{Fault}
 use Rattle.layouts.specs.declared.rule.Rule.{Rule}
 use Rattle.layouts.specs.declared.rule.Rule.TheVariants.{Arrows, ConcreteType, Constraint, DependentKey, EndRoles, EndType, Multiplicities, NamedOnce, Resolves}
 use Rattle.layouts.specs.Rules.{rule_number}
-use Rattle.rule_places.proofs.Rules.{rule_behind, rule_inside}
+use Rattle.rule_places.proofs.Rules.{after_number, rule_behind, rule_inside}
 use Rattle.csdl_lists.specs.declared.raw.RawContainer.{RawContainer}
 use Rattle.csdl_lists.specs.declared.raw.RawModel.{RawModel}
 use Rattle.csdl_lists.specs.References.{base_of, names_in}
@@ -19,12 +19,8 @@ use Rattle.csdl_constraints.specs.Constraints.{BreaksConstraintRules, IsAssociat
 use Rattle.csdl_association_sets.specs.Concrete.{IsElementFault, IsEndsFault, IsEndTypeFault}
 use Rattle.csdl_association_sets.specs.SetRules.{BreaksSetRules, IsContainerFault, IsSetFault}
 use Rattle.csdl_model.specs.ModelFaults.{BreaksAssociationRules, IsFaultAfterNames, IsFaultAfterReferences, IsListFault}
-use Rattle.csdl_model.proofs.RepeatedRule.{repeated_rule}
-use Rattle.csdl_model.proofs.UnresolvedRule.{unresolved_rule}
-
--- a rule that is this one comes after those of lesser numbers
-after_number : (n : ℕ) (known rule : Rule) → rule ≡ known → n < rule_number known → n < rule_number rule
-after_number n known rule is late = subst (λ (r : Rule). n < rule_number r) (sym is) late
+use Rattle.csdl_names.proofs.RepeatedRule.{repeated_rule}
+use Rattle.csdl_names.proofs.UnresolvedRule.{unresolved_rule}
 
 -- the rule comes after V13
 abbrev IsOfAssociations : Rule → Type 0

@@ -4,7 +4,6 @@
 #[cfg(test)]
 mod documents;
 mod reading;
-mod stop;
 #[cfg(test)]
 mod tests;
 

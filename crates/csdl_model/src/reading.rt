@@ -10,9 +10,9 @@ ghost use Rattle.csdl_lists.specs.References.{base_of, names_in};
 ghost use Rattle.csdl_lists.specs.Scopes.{IsScopeOf};
 ghost use Rattle.csdl_meaning.specs.ModelMeaning.{meaning};
 ghost use Rattle.csdl_model.specs.ModelFaults.{BreaksAssociationRules, IsFaultAfterNames, IsFaultAfterReferences, IsListFault, IsModelFault};
-ghost use Rattle.csdl_model.specs.ReadsModel.{Reads, ReadsModel};
+ghost use Rattle.csdl_model.specs.ReadsModel.{ReadsModel};
+ghost use Rattle.told_rules.specs.Reads.{Reads};
 
-use crate::stop::Stop;
 use base_chains::{Walk, chain_roots, walk_bases};
 use csdl_association_sets::first_set_fault;
 use csdl_constraints::{Sides, first_constraint_fault};
@@ -28,7 +28,7 @@ use json_form::Doc;
 use layouts::{Fault, Form, Shape, first_fault};
 use least_fault::earlier;
 use std::alloc::Global;
-use told_rules::told;
+use told_rules::{Stop, told};
 
 /// Reads a CSDL document: `Ok` with the model that it means, which is sound, where it breaks no rule; else `Rule` with the least rule that it
 /// breaks, at its first place. `Memory` comes where memory ran out, and where types stand too deep, inherit too much, or take too many steps

@@ -1,12 +1,8 @@
 -- What lists know of names, by the places of their names.
-use Rattle.std.proofs.Common.{◌≡◌, ◌⊎◌, ⊎_elim, inl, inr, ◌↔◌, ℕ, zero, suc, ◌<◌, List, [], ◌∷◌, ◌++◌, length, map, Contains, Any, Bor, Option, Some, None, true, refl, sym, ap, subst, ◌∙◌, arith}
+use Rattle.std.proofs.Common.{◌≡◌, ◌⊎◌, ⊎_elim, inl, inr, ℕ, zero, suc, ◌<◌, List, [], ◌∷◌, ◌++◌, map, Contains, Any, Bor, Option, true, refl, sym, subst, ◌∙◌, arith}
 use Rattle.std.specs.Option.{is_some}
-use Rattle.std.proofs.lemmas.List.{get_or-map, length-map}
 use Rattle.std.proofs.lemmas.List.Elements.{Contains-append_cases, Contains-append_left, Contains-append_right}
-use Rattle.std.proofs.lemmas.Option.{get_or_from_slice_get, slice_get-get_or, slice_get_within}
 use Rattle.json_form.specs.declared.pointer.Step.TheVariants.{Member}
-use Rattle.emc_base.proofs.Lists.{item_at}
-use Rattle.emc_base.proofs.Mapped.{contains_at, contains_map}
 use Rattle.least_fault.specs.Least.{IsLeast}
 use Rattle.layouts.specs.declared.fault.Fault.{Fault}
 use Rattle.layouts.specs.declared.rule.Rule.TheVariants.{NamedOnce}
@@ -14,10 +10,10 @@ use Rattle.layouts.specs.Faults.{fault_cmp}
 use Rattle.name_places.specs.declared.places.Places.{Places}
 use Rattle.name_places.specs.GivenNames.{first_place, IsGivenBefore}
 use Rattle.name_places.specs.PlacesIn.{place_in}
-use Rattle.name_places.proofs.FirstPlaces.{first_has, first_upto}
+use Rattle.name_places.proofs.KnownNames.{name_of_item, place_of_name}
 use Rattle.rule_places.specs.Places.{IsAt, InList}
-use Rattle.csdl_names.specs.KnownNames.{AreNames, IsKnown}
-use Rattle.csdl_names.specs.Repeated.{IsGivenAgain, IsRepeatedIn}
+use Rattle.csdl_names.specs.KnownNames.{AreNames, IsKnown, IsKnownAgainAt, IsLeastAgain}
+use Rattle.csdl_names.specs.Repeated.{IsGivenAgain}
 use Rattle.rule_places.proofs.LeastFound.{least_in_list}
 
 -- some item of a list: none of the empty one, the first or a later one
@@ -34,37 +30,6 @@ module _ {X : Type 0} (P : X → Type 0) where
   any_cases : (x : X) (xs : List X) → Any P (x ∷ xs) → P x ⊎ Any P xs
   any_cases x xs (zero, y, within, is, holds) = inl (subst P (sym is) holds)
   any_cases x xs (suc k, y, within, is, holds) = inr (k, y, omega arith, is, holds)
-
--- a name that has a place is the name of an item, and back
-module _ {X : Type 0} (name_in : X → List ℕ) (items : List X) (name : List ℕ) where
-  name_of_item : is_some (first_place name_in items name) ≡ true → Contains (map name_in items) name
-  name_of_item known = by (first_place name_in items name) refl known
-    where
-      by : (place : Option ℕ) → first_place name_in items name ≡ place → is_some place ≡ true → Contains (map name_in items) name
-      by None none is = absurd cc
-      by (Some i) found is =
-          let first = first_has name_in items name i found in
-          subst (Contains (map name_in items)) first.2 (contains_map name_in items first.0 (contains_at items i first.0 first.1))
-
-  place_of_name : Contains (map name_in items) name → is_some (first_place name_in items name) ≡ true
-  place_of_name has =
-      let within : has.0 < length items = subst (λ n. has.0 < n) (length-map items name_in) has.1 in
-      let item = item_at items has.0 within in
-      let same : name_in item.0 ≡ name = sym (get_or-map name_in items has.0 item.0 name within ∙ ap name_in (get_or_from_slice_get items has.0 item.0 item.0 item.1)) ∙ has.2 in
-      ap is_some (first_upto name_in items name has.0 item.0 item.1 same).1
-
-  -- and so it is said of some item
-  pub some_named : is_some (first_place name_in items name) ≡ true ↔ Any (λ item. name_in item ≡ name) items
-  some_named = (λ known. by (first_place name_in items name) refl known, back)
-    where
-      by : (place : Option ℕ) → first_place name_in items name ≡ place → is_some place ≡ true → Any (λ item. name_in item ≡ name) items
-      by None none is = absurd cc
-      by (Some i) found is =
-          let first = first_has name_in items name i found in
-          (i, first.0, slice_get_within items i first.0 first.1, get_or_from_slice_get items i first.0 first.0 first.1, first.2)
-
-      back : Any (λ item. name_in item ≡ name) items → is_some (first_place name_in items name) ≡ true
-      back (k, item, within, is, same) = ap is_some (first_upto name_in items name k item (slice_get-get_or items k item within ∙ ap Some is) same).1
 
 -- no list knows no name
 pub of_none : AreNames [] []
@@ -108,20 +73,16 @@ of_two one other names more first second name = (to, back)
         (Contains-append_cases names more name has)
 
 -- the least by what lists know is the least by the names that they know
-pub again_by_names : {X : Type 0} (name_in : X → List ℕ) (lists : List (Bor Places)) (names : List (List ℕ)) (member last : List ℕ) (items : List X) (found : Option Fault)
-    → AreNames lists names
-    → IsLeast fault_cmp (InList member (λ i item fault. (IsKnown lists (name_in item) ⊎ IsGivenBefore name_in items i item) × IsAt NamedOnce (Member last ∷ []) fault) items) found
-    → IsLeast fault_cmp (IsRepeatedIn name_in names member last items) found
-again_by_names {X} name_in lists names member last items found are = least_in_list member Known Again items found to back
+pub again_by_names : {X : Type 0} (name_in : X → List ℕ) (lists : List (Bor Places)) (member last : List ℕ) (items : List X) (found : Option Fault)
+    → IsLeast fault_cmp (InList member (IsKnownAgainAt name_in lists last items) items) found → IsLeastAgain name_in lists member last items found
+again_by_names {X} name_in lists member last items found least names are =
+    least_in_list member (IsKnownAgainAt name_in lists last items) Again items found to back least
   where
-    Known : ℕ → X → Fault → Type 0
-    Known i item fault = (IsKnown lists (name_in item) ⊎ IsGivenBefore name_in items i item) × IsAt NamedOnce (Member last ∷ []) fault
-
     Again : ℕ → X → Fault → Type 0
     Again i item fault = IsGivenAgain name_in names items i item × IsAt NamedOnce (Member last ∷ []) fault
 
-    to : (i : ℕ) (item : X) (fault : Fault) → Known i item fault → Again i item fault
+    to : (i : ℕ) (item : X) (fault : Fault) → IsKnownAgainAt name_in lists last items i item fault → Again i item fault
     to i item fault holds = (⊎_elim (λ (known : IsKnown lists (name_in item)). inl ((are (name_in item)).0 known)) (λ (given : IsGivenBefore name_in items i item). inr given) holds.0, holds.1)
 
-    back : (i : ℕ) (item : X) (fault : Fault) → Again i item fault → Known i item fault
+    back : (i : ℕ) (item : X) (fault : Fault) → Again i item fault → IsKnownAgainAt name_in lists last items i item fault
     back i item fault holds = (⊎_elim (λ (has : Contains names (name_in item)). inl ((are (name_in item)).1 has)) (λ (given : IsGivenBefore name_in items i item). inr given) holds.0, holds.1)

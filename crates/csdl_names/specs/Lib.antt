@@ -1,3 +1,4 @@
+pub mod Climbs
 pub mod KnownNames
 pub mod PropPlaces
 pub mod Repeated

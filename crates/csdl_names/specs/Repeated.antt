@@ -24,6 +24,13 @@ module _ {X : Type 0} (name_in : X → List ℕ) where
   abbrev pub IsRepeatedIn : List (List ℕ) → List ℕ → List ℕ → List X → Fault → Type 0
   IsRepeatedIn others member last items = InList member (λ i item fault. IsGivenAgain others items i item × IsAt NamedOnce (Member last ∷ []) fault) items
 
+module _ {X Y : Type 0} (name_in : X → List ℕ) (other_in : Y → List ℕ) where
+  -- the items of two lists at these members, each with its name at its Name: the first list stands before the second in their scope
+  abbrev pub IsRepeatedInBoth : List ℕ → List X → List ℕ → List Y → Fault → Type 0
+  IsRepeatedInBoth first firsts second seconds fault =
+      IsRepeatedIn name_in [] first (codes "Name") firsts fault
+      ⊎ IsRepeatedIn other_in (map name_in firsts) second (codes "Name") seconds fault
+
 -- the associations, the types and the enumeration types of a schema
 abbrev pub IsRepeatedInSchema : RawModel → Fault → Type 0
 IsRepeatedInSchema model fault =
@@ -35,15 +42,13 @@ IsRepeatedInSchema model fault =
 
 -- the association sets and the entity sets of a container
 abbrev pub IsRepeatedInContainer : RawContainer → Fault → Type 0
-IsRepeatedInContainer container fault =
-    IsRepeatedIn (λ set. set.name) [] (codes "AssociationSet") (codes "Name") container.association_sets fault
-    ⊎ IsRepeatedIn (λ set. set.name) (map (λ set. set.name) container.association_sets) (codes "EntitySet") (codes "Name") container.sets fault
+IsRepeatedInContainer container =
+    IsRepeatedInBoth (λ set. set.name) (λ set. set.name) (codes "AssociationSet") container.association_sets (codes "EntitySet") container.sets
 
 -- the navigation properties and the properties of a type
 abbrev pub IsRepeatedInType : ℕ → RawType → Fault → Type 0
-IsRepeatedInType i type fault =
-    IsRepeatedIn (λ nav. nav.name) [] (codes "NavigationProperty") (codes "Name") type.navs fault
-    ⊎ IsRepeatedIn (λ prop. prop.name) (map (λ nav. nav.name) type.navs) (codes "Property") (codes "Name") type.props fault
+IsRepeatedInType i type =
+    IsRepeatedInBoth (λ nav. nav.name) (λ prop. prop.name) (codes "NavigationProperty") type.navs (codes "Property") type.props
 
 -- the members of an enumeration type
 abbrev pub IsRepeatedInEnum : ℕ → RawEnum → Fault → Type 0

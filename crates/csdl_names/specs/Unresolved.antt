@@ -51,6 +51,10 @@ module _ (names : Names) (model : RawModel) where
   abbrev pub LacksRole : List ℕ → List ℕ → Type 0
   LacksRole reference role = MatchOption (association_of reference) ⊥ (λ association. end_of_role association role ≡ None)
 
+  -- so the rule is broken at the member that has the role
+  abbrev pub LacksRoleAt : List ℕ → List ℕ → List ℕ → Fault → Type 0
+  LacksRoleAt member reference role fault = LacksRole reference role × IsAt Resolves (Member member ∷ []) fault
+
   -- an entity set: its element type
   abbrev pub IsUnresolvedInSet : ℕ → RawSet → Fault → Type 0
   IsUnresolvedInSet i set = NamesNothing (names.type_named set.element) (codes "EntityType")
@@ -58,7 +62,7 @@ module _ (names : Names) (model : RawModel) where
   -- an end of an association set: its role and its entity set
   abbrev pub IsUnresolvedInSetEnd : RawAssociationSet → ℕ → RawSetEnd → Fault → Type 0
   IsUnresolvedInSetEnd set i end fault =
-      (LacksRole set.association end.role × IsAt Resolves (Member (codes "Role") ∷ []) fault)
+      LacksRoleAt (codes "Role") set.association end.role fault
       ⊎ NamesNothing (names.set_named end.set) (codes "EntitySet") fault
 
   -- an association set: its association, and its ends
@@ -71,8 +75,8 @@ module _ (names : Names) (model : RawModel) where
   abbrev pub IsUnresolvedInNav : ℕ → RawNav → Fault → Type 0
   IsUnresolvedInNav i nav fault =
       NamesNothing (names.association_named nav.relationship) (codes "Relationship") fault
-      ⊎ (LacksRole nav.relationship nav.from_role × IsAt Resolves (Member (codes "FromRole") ∷ []) fault)
-      ⊎ (LacksRole nav.relationship nav.to_role × IsAt Resolves (Member (codes "ToRole") ∷ []) fault)
+      ⊎ LacksRoleAt (codes "FromRole") nav.relationship nav.from_role fault
+      ⊎ LacksRoleAt (codes "ToRole") nav.relationship nav.to_role fault
 
   -- a name in a list of names of properties of this type
   abbrev pub IsUnresolvedProp : ℕ → ℕ → List ℕ → Fault → Type 0

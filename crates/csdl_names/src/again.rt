@@ -1,9 +1,9 @@
-ghost use Rattle.std.specs.Prelude.{◌≡◌, ◌↔◌, ◌⊎◌, [], ℕ, List, IfOk, IsTrue};
+ghost use Rattle.std.specs.Prelude.{◌≡◌, ◌↔◌, [], IfOk, IsTrue};
 ghost use Rattle.least_fault.specs.Least.{IsLeast};
 ghost use Rattle.layouts.specs.Faults.{fault_cmp};
-ghost use Rattle.name_places.specs.GivenNames.{first_place, IsGivenBefore};
+ghost use Rattle.name_places.specs.GivenNames.{first_place};
 ghost use Rattle.name_places.specs.PlacesIn.{place_in};
-ghost use Rattle.csdl_names.specs.KnownNames.{AreNames, IsKnown};
+ghost use Rattle.csdl_names.specs.KnownNames.{IsKnown, IsKnownAgain, IsKnownAgainAt, IsLeastAgain};
 ghost use Rattle.csdl_names.specs.Repeated.{IsRepeatedIn};
 
 use emc_base::{Memory, Seq, Txt};
@@ -28,12 +28,7 @@ pub struct Again<'a, T: Named> {
 }
 
 impl<'a, T: Named> Finder<T, Fault> for Again<'a, T> {
-    ghost use Rattle.std.specs.Prelude.{◌∷◌};
-    ghost use Rattle.json_form.specs.declared.pointer.Step.TheVariants.{Member};
-    ghost use Rattle.layouts.specs.declared.rule.Rule.TheVariants.{NamedOnce};
-    ghost use Rattle.rule_places.specs.Places.{IsAt};
-
-    ghost wrong = { λ s i item fault. (IsKnown s.others.now (T.name_in item) ⊎ IsGivenBefore T.name_in s.items.now i item) × IsAt NamedOnce (Member s.last.now ∷ []) fault };
+    ghost wrong = { λ s. IsKnownAgainAt T.name_in s.others.now s.last.now s.items.now };
 
     fn find(&self, alloc: Global, place: usize, item: &T) -> Result<Option<Fault>, Memory> {
         let is_again = self.is_again(place, item);
@@ -45,7 +40,7 @@ impl<'a, T: Named> Finder<T, Fault> for Again<'a, T> {
 impl<'a, T: Named> Again<'a, T> {
     /// The first of the items, which stand at this member, whose name is given before.
     pub fn first_again(&self, alloc: Global, member: &str) -> Result<Option<Fault>, Memory>
-        ensures { (names : List (List ℕ)) → AreNames self.now.others.now names → IfOk result (λ found. IsLeast fault_cmp (IsRepeatedIn T.name_in names member.now self.now.last.now self.now.items.now) found) }
+        ensures { IfOk result (IsLeastAgain T.name_in self.now.others.now member.now self.now.last.now self.now.items.now) }
     {
         let found = first_at(alloc, member, self, self.items)?;
         Ok(found)
@@ -53,7 +48,7 @@ impl<'a, T: Named> Again<'a, T> {
 
     // Whether the name of the item is known, or that of an item before its place.
     fn is_again(&self, place: usize, item: &T) -> bool
-        ensures { IsTrue result ↔ (IsKnown self.now.others.now (T.name_in item.now) ⊎ IsGivenBefore T.name_in self.now.items.now place item.now) }
+        ensures { IsTrue result ↔ IsKnownAgain T.name_in self.now.others.now self.now.items.now place item.now }
     {
         is_known(self.others, item.name()) || self.own.is_given_before(place, item)
     }

@@ -1,8 +1,8 @@
-ghost use Rattle.std.specs.Prelude.{◌≡◌, ◌⊎◌, [], IfOk, map, codes};
+ghost use Rattle.std.specs.Prelude.{IfOk};
 ghost use Rattle.least_fault.specs.Least.{IsLeast};
 ghost use Rattle.layouts.specs.Faults.{fault_cmp};
 ghost use Rattle.csdl_lists.specs.Scopes.{IsScopeOf};
-ghost use Rattle.csdl_names.specs.Repeated.{IsRepeated, IsRepeatedIn, IsRepeatedInContainer, IsRepeatedInSchema};
+ghost use Rattle.csdl_names.specs.Repeated.{IsRepeated, IsRepeatedInBoth, IsRepeatedInContainer, IsRepeatedInSchema};
 
 use crate::again::{Again, first_twice};
 use csdl_lists::{RawAssociation, RawContainer, RawEnum, RawModel, RawType, Scope};
@@ -67,7 +67,7 @@ fn first_in_both<T: Named, U: Named>(
     second: &str,
     seconds: &Seq<U>,
 ) -> Result<Option<Fault>, Memory>
-    ensures { IfOk result (λ found. IsLeast fault_cmp (λ fault. IsRepeatedIn T.name_in [] first.now (codes "Name") firsts.now fault ⊎ IsRepeatedIn U.name_in (map T.name_in firsts.now) second.now (codes "Name") seconds.now fault) found) }
+    ensures { IfOk result (λ found. IsLeast fault_cmp (IsRepeatedInBoth T.name_in U.name_in first.now firsts.now second.now seconds.now) found) }
 {
     let known = places_of(alloc, firsts)?;
     let own = places_of(alloc, seconds)?;

@@ -1,11 +1,8 @@
-ghost use Rattle.std.specs.Prelude.{◌≡◌, ◌∷◌, [], IfOk};
-ghost use Rattle.json_form.specs.declared.pointer.Step.TheVariants.{Member};
-ghost use Rattle.layouts.specs.declared.rule.Rule.TheVariants.{Resolves};
+ghost use Rattle.std.specs.Prelude.{◌≡◌, IfOk};
 ghost use Rattle.layouts.specs.Faults.{fault_cmp};
 ghost use Rattle.least_fault.specs.Least.{IsLeast};
-ghost use Rattle.rule_places.specs.Places.{IsAt};
 ghost use Rattle.csdl_lists.specs.References.{names_in};
-ghost use Rattle.csdl_names.specs.Unresolved.{IsUnresolved, IsUnresolvedBase, IsUnresolvedInConstraint, IsUnresolvedInContainer, IsUnresolvedInKey, IsUnresolvedInRole, LacksRole, NamesNothing};
+ghost use Rattle.csdl_names.specs.Unresolved.{IsUnresolved, IsUnresolvedBase, IsUnresolvedInConstraint, IsUnresolvedInContainer, IsUnresolvedInKey, IsUnresolvedInRole, LacksRoleAt, NamesNothing};
 
 use crate::climbs::allow_climbs;
 use crate::lookups::{Lookups, end_of_role};
@@ -177,7 +174,7 @@ fn first_of_role(
     role: &Txt,
     member: &str,
 ) -> Result<Option<Fault>, Memory>
-    ensures { IfOk result (λ found. IsLeast fault_cmp (λ fault. LacksRole (names_in lookups.now.model.now) lookups.now.model.now reference.now role.now × IsAt Resolves (Member member.now ∷ []) fault) found) }
+    ensures { IfOk result (IsLeast fault_cmp (LacksRoleAt (names_in lookups.now.model.now) lookups.now.model.now member.now reference.now role.now)) }
 {
     let is_lacking = lookups.lacks_role(reference, role);
     let found = fault_if(alloc, is_lacking, Rule::Resolves, member)?;
@@ -223,7 +220,7 @@ fn first_in_role(
     association: &RawAssociation,
     role: &RawRole,
 ) -> Result<Option<Fault>, Memory>
-    ensures { IfOk result (λ found. IsLeast fault_cmp (IsUnresolvedInRole (names_in lookups.now.model.now) lookups.now.model.now association.now role.now) found) }
+    ensures { IfOk result (IsLeast fault_cmp (IsUnresolvedInRole (names_in lookups.now.model.now) lookups.now.model.now association.now role.now)) }
 {
     let is_lacking = end_of_role(association, &role.role).is_none();
     let end = fault_if(alloc, is_lacking, Rule::Resolves, "Role")?;
@@ -246,7 +243,7 @@ fn first_in_constraint(
     association: &RawAssociation,
     constraint: &RawConstraint,
 ) -> Result<Option<Fault>, Memory>
-    ensures { IfOk result (λ found. IsLeast fault_cmp (IsUnresolvedInConstraint (names_in lookups.now.model.now) lookups.now.model.now association.now constraint.now) found) }
+    ensures { IfOk result (IsLeast fault_cmp (IsUnresolvedInConstraint (names_in lookups.now.model.now) lookups.now.model.now association.now constraint.now)) }
 {
     let in_principal = first_in_role(alloc, lookups, association, &constraint.principal)?;
     let in_dependent = first_in_role(alloc, lookups, association, &constraint.dependent)?;
@@ -261,7 +258,7 @@ fn first_in_container(
     lookups: &Lookups<'_>,
     container: &RawContainer,
 ) -> Result<Option<Fault>, Memory>
-    ensures { IfOk result (λ found. IsLeast fault_cmp (IsUnresolvedInContainer (names_in lookups.now.model.now) lookups.now.model.now container.now) found) }
+    ensures { IfOk result (IsLeast fault_cmp (IsUnresolvedInContainer (names_in lookups.now.model.now) lookups.now.model.now container.now)) }
 {
     let sets = first_at(alloc, "EntitySet", lookups, &container.sets)?;
     let associations = first_at(

@@ -20,7 +20,7 @@ use Rattle.csdl_association_sets.specs.SetEnds.{HasOtherType}
 use Rattle.csdl_association_sets.specs.SetRules.{BreaksSetRules, IsContainerFault, IsSetFault}
 use Rattle.csdl_meaning.proofs.NoFaults.{differ_tells, none_in, none_under}
 use Rattle.csdl_sound.specs.Classes.{classes, gives, giving, helping, helps, lessons, teacher_of_lesson, teachers}
-use Rattle.csdl_sound.proofs.ByTests.{each_once, none_of_two}
+use Rattle.csdl_meaning.proofs.ByTests.{each_once, none_of_two}
 
 -- what names stand for
 abbrev names : Names

@@ -10,7 +10,7 @@ use Rattle.csdl_lists.specs.References.{Names, names_in}
 use Rattle.csdl_types.specs.declared.simple.Simple.TheVariants.{Text}
 use Rattle.csdl_types.specs.Inherited.{IsAncestorFault, IsInherited, IsInheritedFault}
 use Rattle.csdl_types.specs.Keys.{IsNoKeyPropFault}
-use Rattle.csdl_types.specs.PropTypes.{IsEnumFault, IsPropBoundFault}
+use Rattle.csdl_types.specs.PropTypes.{HasLength, IsEnumFault, IsPropBoundFault}
 use Rattle.csdl_types.specs.TypeRules.{BreaksTypeRules, IsLaterFault}
 use Rattle.csdl_meaning.specs.Meaning.{base_in}
 use Rattle.csdl_meaning.proofs.NoFaults.{none_above_root, none_in, root_above}
@@ -50,7 +50,7 @@ persons_keep fault = ⊎_elim
     (⊎_elim (none_inherited (base_in classes) classes.types 1 persons refl fault)
     (⊎_elim (all_typed names.enum_named persons refl fault)
     (none_in (λ k. IsPropBoundFault) (codes "Property") persons.props
-    ((λ fault wrong. fits (Some Text) (pos 20) tt (omega (arith, ints)) (omega (arith, ints)) wrong.0), unbounded 1 (drop 1 persons.props) refl) fault))))
+    ((λ fault wrong. fits (HasLength (Some Text)) (pos 20) tt (omega (arith, ints)) (omega (arith, ints)) wrong.0), unbounded 1 (drop 1 persons.props) refl) fault))))
 
 lessons_keep : (fault : Fault) → ¬ IsLaterFault names classes 2 lessons fault
 lessons_keep fault = ⊎_elim
@@ -62,7 +62,7 @@ lessons_keep fault = ⊎_elim
     (⊎_elim (all_typed names.enum_named lessons refl fault)
     (none_in (λ k. IsPropBoundFault) (codes "Property") lessons.props (
       (λ fault wrong. wrong.0),
-      ((λ fault wrong. fits (Some Text) (pos 9) tt (omega (arith, ints)) (omega (arith, ints)) wrong.0), ((λ fault wrong. wrong.0), ((λ fault wrong. wrong.0 tt), tt))),
+      ((λ fault wrong. fits (HasLength (Some Text)) (pos 9) tt (omega (arith, ints)) (omega (arith, ints)) wrong.0), ((λ fault wrong. wrong.0), ((λ fault wrong. wrong.0 tt), tt))),
     ) fault))))
 
 -- V8: no type is its own ancestor

@@ -9,11 +9,12 @@ use Rattle.csdl_lists.specs.declared.raw.RawAssociation.{RawAssociation}
 use Rattle.csdl_lists.specs.declared.raw.RawConstraint.{RawConstraint}
 use Rattle.csdl_lists.specs.declared.raw.RawModel.{RawModel}
 use Rattle.csdl_lists.specs.References.{names_in}
+use Rattle.csdl_types.specs.Simple.{types_by}
 use Rattle.csdl_constraints.specs.Constraints.{BreaksConstraintRules, BreaksLists, HasOtherElement, IsAssociationFault}
 use Rattle.csdl_constraints.specs.Multiplicities.{BreaksConstraintMults, BreaksFreeMults}
 use Rattle.csdl_constraints.specs.Sides.{IsNamed, IsWholeKey, types_of_side}
 use Rattle.csdl_meaning.proofs.FaultPlaces.{fault_at, in_list}
-use Rattle.csdl_sound.proofs.Stable.{has_each}
+use Rattle.csdl_meaning.proofs.Stable.{has_each}
 
 module _ (raw : RawModel) (never : (fault : Fault) → ¬ BreaksConstraintRules raw fault) (i : ℕ) (association : RawAssociation) (here : At raw.associations i association) (named : IsNamed (names_in raw) raw i) where
   -- seen from the association, none is broken
@@ -50,7 +51,7 @@ module _ (raw : RawModel) (never : (fault : Fault) → ¬ BreaksConstraintRules 
     dependents_apart = λ k l d before within same. none_in_lists (inr (inr (inl (λ apart. apart k l d before within same))))
 
     -- the two lists match
-    pub types_match : ¬ (types_of_side (names_in raw) raw association constraint.principal ≢ types_of_side (names_in raw) raw association constraint.dependent)
+    pub types_match : ¬ (types_of_side (names_in raw) raw (types_by (names_in raw)) association constraint.principal ≢ types_of_side (names_in raw) raw (types_by (names_in raw)) association constraint.dependent)
     types_match other = none_in_lists (inr (inr (inr (inl other))))
 
     -- each association set has the principal's type at its role

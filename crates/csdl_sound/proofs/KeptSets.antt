@@ -20,7 +20,7 @@ use Rattle.csdl_association_sets.specs.SetArrows.{IsOnCircle}
 use Rattle.csdl_association_sets.specs.SetEnds.{HasOtherDependent, HasOtherType}
 use Rattle.csdl_association_sets.specs.SetRules.{BreaksSetRules, IsContainerFault, IsSetFault}
 use Rattle.csdl_meaning.proofs.FaultPlaces.{fault_at, in_list}
-use Rattle.csdl_sound.proofs.Stable.{has_each, same_places}
+use Rattle.csdl_meaning.proofs.Stable.{has_each, same_places}
 
 module _ (raw : RawModel) (never : (fault : Fault) → ¬ BreaksSetRules raw fault) where
   -- seen from the container, no rule is broken

@@ -29,7 +29,7 @@ use Rattle.csdl_meaning.proofs.KeptTypes.{none_above_itself, none_inherited, roo
 use Rattle.csdl_meaning.proofs.Lists.{found_apart, in_found}
 use Rattle.csdl_meaning.proofs.Props.{has_at}
 use Rattle.csdl_meaning.proofs.Sound.{sound}
-use Rattle.csdl_sound.proofs.FoundItems.{contains_found, member_of, some_member}
+use Rattle.csdl_meaning.proofs.FoundItems.{contains_found, member_of, some_member}
 use Rattle.csdl_sound.proofs.MeantTypes.{meant}
 use Rattle.csdl_sound.proofs.PropIds.{of_id, one_name}
 use Rattle.csdl_sound.proofs.Roots.{from_top, top_found, top_here, top_inside, top_is_root, top_of, top_step}

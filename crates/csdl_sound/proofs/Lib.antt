@@ -1,15 +1,9 @@
-pub mod Stable
-pub mod Finds
-pub mod Given
-pub mod Resolved
 pub mod KeptSets
 pub mod KeptConstraints
 pub mod MeantTypes
 pub mod PropIds
-pub mod FoundItems
 pub mod Roots
 pub mod KeyIds
-pub mod PropKinds
 pub mod SideProps
 pub mod MeantAssocs
 pub mod MeantEnds
@@ -24,6 +18,5 @@ pub mod SetIds
 pub mod SoundModel
 pub mod ClassesResolve
 pub mod ClassesTypes
-pub mod ByTests
 pub mod ClassesSets
 pub mod ClassesKeep

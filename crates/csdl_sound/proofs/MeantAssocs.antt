@@ -16,7 +16,7 @@ use Rattle.csdl_constraints.specs.Sides.{IsNamed}
 use Rattle.csdl_meaning.specs.ModelMeaning.{assoc_between, assoc_of, constraint_of, end_of, meaning}
 use Rattle.csdl_meaning.proofs.Bases.{and_then_some}
 use Rattle.csdl_meaning.proofs.Lists.{in_found}
-use Rattle.csdl_sound.proofs.FoundItems.{some_member}
+use Rattle.csdl_meaning.proofs.FoundItems.{some_member}
 
 -- what an association set of an association with two ends means
 abbrev pub two_ended : RawModel → RawAssociationSet → RawAssociation → RawEnd → RawEnd → Assoc

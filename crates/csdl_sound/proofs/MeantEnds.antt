@@ -29,14 +29,14 @@ use Rattle.csdl_meaning.specs.ModelMeaning.{end_of, meaning, set_numbered, set_o
 use Rattle.csdl_meaning.proofs.Bases.{and_then_some, type_at}
 use Rattle.csdl_meaning.proofs.Lists.{at_map}
 use Rattle.csdl_sound.specs.SoundMeaning.{KeepsRules}
-use Rattle.csdl_sound.proofs.Finds.{found_named, itself_found, named_found}
-use Rattle.csdl_sound.proofs.FoundItems.{some_member}
-use Rattle.csdl_sound.proofs.Given.{roles_apart}
+use Rattle.csdl_meaning.proofs.Finds.{found_named, itself_found, named_found}
+use Rattle.csdl_meaning.proofs.FoundItems.{some_member}
+use Rattle.csdl_meaning.proofs.Given.{roles_apart}
 use Rattle.csdl_sound.proofs.KeptSets.{end_concrete, no_other_type, roles_once}
 use Rattle.csdl_sound.proofs.KeyIds.{never}
 use Rattle.csdl_sound.proofs.MeantAssocs.{IsMeantBy, association_is, is_named}
 use Rattle.csdl_sound.proofs.MeantTypes.{has_concrete, is_under, meant}
-use Rattle.csdl_sound.proofs.Resolved.{element_found, set_found, type_found}
+use Rattle.csdl_meaning.proofs.Resolved.{element_found, set_found, type_found}
 
 -- what stands at an end of an association set: the type of the association's end, the end of the set that names its role, and the set there
 pub record IsEndAt (raw : RawModel) (set : RawAssociationSet) (association : RawAssociation) (end : RawEnd) : Type 0 where

@@ -16,7 +16,7 @@ use Rattle.csdl_association_sets.specs.Concrete.{IsConcrete as IsRawConcrete, Ha
 use Rattle.csdl_meaning.specs.Meaning.{IsMeant, base_in, type_of}
 use Rattle.csdl_meaning.specs.ModelMeaning.{meaning}
 use Rattle.csdl_meaning.proofs.Bases.{base_inside, has_type, type_at}
-use Rattle.csdl_sound.proofs.Stable.{below, settled, up_or_not}
+use Rattle.csdl_meaning.proofs.Stable.{below, settled, up_or_not}
 
 module _ (raw : RawModel) where
   -- a document means its model

@@ -6,7 +6,7 @@ use Rattle.edm_types.specs.declared.model.Mult.TheVariants.{Many, One, ZeroOrOne
 use Rattle.csdl_lists.specs.declared.raw.RawEnd.{RawEnd}
 use Rattle.csdl_constraints.specs.Multiplicities.{BreaksFreeMults}
 use Rattle.csdl_meaning.specs.ModelMeaning.{mult_of}
-use Rattle.csdl_sound.proofs.Stable.{same_names}
+use Rattle.csdl_meaning.proofs.Stable.{same_names}
 
 -- exactly one is a 1
 pub one_text : (text : List ℕ) → mult_of text ≡ One → text ≡ codes "1"

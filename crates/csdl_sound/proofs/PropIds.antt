@@ -23,7 +23,7 @@ use Rattle.csdl_meaning.specs.ModelMeaning.{prop_id}
 use Rattle.csdl_meaning.proofs.Bases.{and_then_some, base_inside}
 use Rattle.csdl_meaning.proofs.Keys.{declared_is, map_some}
 use Rattle.csdl_meaning.proofs.Props.{prop_at as meant_at}
-use Rattle.csdl_sound.proofs.Finds.{there_is}
+use Rattle.csdl_meaning.proofs.Finds.{there_is}
 
 -- a property of this name that a type declares: it is one of those that the type at the first place has
 pub record IsPropHere (raw : RawModel) (i : ℕ) (name : List ℕ) (place : PropPlace) : Type 0 where

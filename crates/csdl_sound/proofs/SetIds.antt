@@ -23,7 +23,7 @@ use Rattle.csdl_sound.proofs.KeyIds.{never}
 use Rattle.csdl_sound.proofs.MeantAssocs.{IsMeantBy, first_at, meant_by, second_at}
 use Rattle.csdl_sound.proofs.MeantEnds.{end_at, named_type_id, set_id, set_is, type_is}
 use Rattle.csdl_sound.proofs.MeantTypes.{has_concrete}
-use Rattle.csdl_sound.proofs.Resolved.{element_found}
+use Rattle.csdl_meaning.proofs.Resolved.{element_found}
 use Rattle.csdl_sound.proofs.SideProps.{ids_inside}
 
 module _ (raw : RawModel) (keeps : KeepsRules raw) where

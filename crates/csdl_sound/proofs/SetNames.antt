@@ -19,8 +19,8 @@ use Rattle.csdl_meaning.proofs.Bases.{raw_at}
 use Rattle.csdl_meaning.proofs.Lists.{all_from_places, apart-append, apart-map}
 use Rattle.csdl_meaning.proofs.Sound.{sound}
 use Rattle.csdl_sound.specs.SoundMeaning.{KeepsRules}
-use Rattle.csdl_sound.proofs.FoundItems.{pairs_found}
-use Rattle.csdl_sound.proofs.Given.{association_sets_apart, associations_apart, roles_apart, set_is_other, sets_apart, type_is_other}
+use Rattle.csdl_meaning.proofs.FoundItems.{pairs_found}
+use Rattle.csdl_meaning.proofs.Given.{association_sets_apart, associations_apart, roles_apart, set_is_other, sets_apart, type_is_other}
 use Rattle.csdl_sound.proofs.MeantAssocs.{IsMeantBy, first_at, meant_by, second_at, set_name_is}
 use Rattle.csdl_sound.proofs.MeantTypes.{meant}
 

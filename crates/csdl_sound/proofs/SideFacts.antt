@@ -17,12 +17,13 @@ use Rattle.csdl_lists.specs.References.{names_in}
 use Rattle.csdl_names.specs.SetRoles.{element_of_role}
 use Rattle.csdl_names.specs.Unresolved.{end_of_role, type_of_role}
 use Rattle.csdl_types.specs.declared.simple.PropType.{PropType}
+use Rattle.csdl_types.specs.Simple.{types_by}
 use Rattle.csdl_constraints.specs.Multiplicities.{HasMult}
 use Rattle.csdl_constraints.specs.Sides.{type_of_prop, types_of_side}
 use Rattle.csdl_meaning.specs.ModelMeaning.{meaning, mult_of, prop_id, set_numbered}
 use Rattle.csdl_sound.proofs.ConstraintSides.{IsSideAt}
 use Rattle.csdl_sound.proofs.MeantEnds.{is_element_of, set_is, type_is}
-use Rattle.csdl_sound.proofs.PropKinds.{kind_named}
+use Rattle.csdl_meaning.proofs.PropKinds.{kind_named}
 use Rattle.csdl_sound.proofs.SideProps.{kinds_are}
 
 module _ {raw : RawModel} {set : RawAssociationSet} {association : RawAssociation} {side : RawRole} {end : End} {props : List PropId} (it : IsSideAt raw set association side end props) where
@@ -63,9 +64,9 @@ module _ {raw : RawModel} {set : RawAssociationSet} {association : RawAssociatio
 
   -- the kinds of the properties, by the Types that they name
   pub side_kinds : ((name : List ℕ) → Contains side.props name → (id : PropId) × (prop_id raw it.there.type name ≡ Some id))
-      → map (λ prop. option_map without_bound (prop_kind (meaning raw) prop)) props ≡ map (λ type. Some (kind_named raw type)) (types_of_side (names_in raw) raw association side)
+      → map (λ prop. option_map without_bound (prop_kind (meaning raw) prop)) props ≡ map (λ type. Some (kind_named raw type)) (types_of_side (names_in raw) raw (types_by (names_in raw)) association side)
   side_kinds all =
       ap (map (λ (prop : PropId). option_map without_bound (prop_kind (meaning raw) prop))) it.are_props
       ∙ kinds_are raw it.there.type side.props all
-      ∙ sym (map-map (λ (type : Option PropType). Some (kind_named raw type)) (λ (name : List ℕ). type_of_prop (names_in raw) raw it.there.type name) side.props)
-      ∙ ap (λ (found : Option ℕ). map (λ (type : Option PropType). Some (kind_named raw type)) (map (λ name. option_and_then (λ i. type_of_prop (names_in raw) raw i name) found) side.props)) (sym it.of_role)
+      ∙ sym (map-map (λ (type : Option PropType). Some (kind_named raw type)) (λ (name : List ℕ). type_of_prop (names_in raw) raw (types_by (names_in raw)) it.there.type name) side.props)
+      ∙ ap (λ (found : Option ℕ). map (λ (type : Option PropType). Some (kind_named raw type)) (map (λ name. option_and_then (λ i. type_of_prop (names_in raw) raw (types_by (names_in raw)) i name) found) side.props)) (sym it.of_role)

@@ -19,7 +19,7 @@ use Rattle.csdl_lists.specs.declared.raw.RawProp.{RawProp}
 use Rattle.csdl_lists.specs.References.{names_in}
 use Rattle.csdl_names.specs.declared.lookups.PropPlace.{PropPlace}
 use Rattle.csdl_names.specs.PropPlaces.{prop_at, prop_of_type}
-use Rattle.csdl_types.specs.Simple.{prop_type}
+use Rattle.csdl_types.specs.Simple.{types_by}
 use Rattle.csdl_constraints.specs.Sides.{IsNullable, type_of_prop}
 use Rattle.csdl_meaning.specs.Meaning.{base_in, chain_in, declared_before, own_props, prop_of, props_in}
 use Rattle.csdl_meaning.specs.ModelMeaning.{meaning, prop_id}
@@ -27,10 +27,10 @@ use Rattle.csdl_meaning.proofs.Bases.{base_inside}
 use Rattle.csdl_meaning.proofs.Keys.{named_own}
 use Rattle.csdl_meaning.proofs.Lists.{in_found}
 use Rattle.csdl_meaning.proofs.Props.{has_at}
-use Rattle.csdl_sound.proofs.FoundItems.{contains_flat_map, contains_found, map_found, member_of, some_member}
+use Rattle.csdl_meaning.proofs.FoundItems.{contains_flat_map, contains_found, map_found, member_of, some_member}
 use Rattle.csdl_sound.proofs.MeantTypes.{meant}
 use Rattle.csdl_sound.proofs.PropIds.{IsIdOf, named_there, of_id, raw_prop_is, stands}
-use Rattle.csdl_sound.proofs.PropKinds.{kind_by_type, kind_named}
+use Rattle.csdl_meaning.proofs.PropKinds.{kind_by_type, kind_named}
 
 module _ (raw : RawModel) (t : ℕ) where
   -- ids of names are in range
@@ -59,17 +59,17 @@ module _ (raw : RawModel) (t : ℕ) where
 
   -- the kind of a property, its bound aside
   kind_at : (name : List ℕ) (id : PropId) → IsIdOf raw t name id
-      → option_map without_bound (prop_kind (meaning raw) id) ≡ Some (kind_named raw (type_of_prop (names_in raw) raw t name))
+      → option_map without_bound (prop_kind (meaning raw) id) ≡ Some (kind_named raw (type_of_prop (names_in raw) raw (types_by (names_in raw)) t name))
   kind_at name id it =
       ap (λ (found : Option Prop). option_map without_bound (option_map (λ declared. declared.kind) found)) (stands raw t name id it)
       ∙ ap Some (kind_by_type raw it.here.prop)
-      ∙ ap (λ (found : Option RawProp). Some (kind_named raw (option_and_then (λ prop. prop_type (names_in raw).enum_named prop.kind) found))) (sym (raw_prop_is raw t name id it))
+      ∙ ap (λ (found : Option RawProp). Some (kind_named raw (option_and_then (λ prop. types_by (names_in raw) prop.kind) found))) (sym (raw_prop_is raw t name id it))
 
   -- V17: the kinds of a side are what the Types of its properties name
   pub kinds_are : (names : List (List ℕ)) → ((name : List ℕ) → Contains names name → (id : PropId) × (prop_id raw t name ≡ Some id))
       → map (λ prop. option_map without_bound (prop_kind (meaning raw) prop)) (filter_map (prop_id raw t) names)
-      ≡ map (λ name. Some (kind_named raw (type_of_prop (names_in raw) raw t name))) names
-  kinds_are names all = map_found (prop_id raw t) (λ prop. option_map without_bound (prop_kind (meaning raw) prop)) (λ name. Some (kind_named raw (type_of_prop (names_in raw) raw t name))) names
+      ≡ map (λ name. Some (kind_named raw (type_of_prop (names_in raw) raw (types_by (names_in raw)) t name))) names
+  kinds_are names all = map_found (prop_id raw t) (λ prop. option_map without_bound (prop_kind (meaning raw) prop)) (λ name. Some (kind_named raw (type_of_prop (names_in raw) raw (types_by (names_in raw)) t name))) names
       (λ name has. let id = all name has in (id.0, id.1, kind_at name id.0 (of_id raw t name id.0 id.1)))
 
   -- V16, V19: none of them may be null where the document says so of none

@@ -19,7 +19,7 @@ use Rattle.csdl_association_sets.specs.SetArrows.{IsArrow, IsArrowOf, LeadsBetwe
 use Rattle.csdl_meaning.specs.ModelMeaning.{meaning}
 use Rattle.csdl_sound.specs.SoundMeaning.{KeepsRules}
 use Rattle.csdl_sound.proofs.ConstraintSides.{IsConstrained, IsSideAt, constrained}
-use Rattle.csdl_sound.proofs.FoundItems.{some_member}
+use Rattle.csdl_meaning.proofs.FoundItems.{some_member}
 use Rattle.csdl_sound.proofs.KeptSets.{not_on_circle}
 use Rattle.csdl_sound.proofs.MeantAssocs.{IsMeantBy, association_is, meant_by}
 use Rattle.csdl_sound.proofs.SideFacts.{of_type, side_set}

@@ -14,13 +14,14 @@ use Rattle.csdl_lists.specs.References.{names_in}
 use Rattle.csdl_names.specs.SetRoles.{element_of_role}
 use Rattle.csdl_names.specs.Unresolved.{LacksProp, type_of_role}
 use Rattle.csdl_types.specs.declared.simple.PropType.{PropType}
+use Rattle.csdl_types.specs.Simple.{types_by}
 use Rattle.csdl_constraints.specs.Multiplicities.{BreaksConstraintMults}
 use Rattle.csdl_constraints.specs.Sides.{HasKeyProp, IsNullable, IsWholeKey, key_names, types_of_side}
 use Rattle.csdl_meaning.specs.ModelMeaning.{meaning, mult_of, prop_id}
 use Rattle.csdl_meaning.proofs.KeptNames.{no_reference}
 use Rattle.csdl_sound.specs.SoundMeaning.{KeepsRules}
 use Rattle.csdl_sound.proofs.ConstraintSides.{IsConstrained, IsSideAt}
-use Rattle.csdl_sound.proofs.FoundItems.{some_member}
+use Rattle.csdl_meaning.proofs.FoundItems.{some_member}
 use Rattle.csdl_sound.proofs.KeptConstraints.{constraint_mults, dependents_apart, no_other_element, principal_key, types_match}
 use Rattle.csdl_sound.proofs.KeptSets.{dependent_element}
 use Rattle.csdl_sound.proofs.KeyIds.{by_key, ids_apart, never, whole_key}
@@ -28,11 +29,11 @@ use Rattle.csdl_sound.proofs.MeantAssocs.{IsMeantBy, association_is, is_named}
 use Rattle.csdl_sound.proofs.MeantEnds.{type_inside}
 use Rattle.csdl_sound.proofs.Mults.{few_text, not_many, one_text}
 use Rattle.csdl_sound.proofs.PropIds.{id_found}
-use Rattle.csdl_sound.proofs.PropKinds.{kind_named, same_types}
-use Rattle.csdl_sound.proofs.Resolved.{dependent_has, principal_has}
+use Rattle.csdl_meaning.proofs.PropKinds.{kind_named, same_types}
+use Rattle.csdl_meaning.proofs.Resolved.{dependent_has, principal_has}
 use Rattle.csdl_sound.proofs.SideFacts.{has_mult, mult_has, of_side, of_type, side_element, side_kinds, side_mult, side_type, to_type}
 use Rattle.csdl_sound.proofs.SideProps.{all_needed, ids_of_type}
-use Rattle.csdl_sound.proofs.Stable.{has_each, same_places}
+use Rattle.csdl_meaning.proofs.Stable.{has_each, same_places}
 
 module _ (raw : RawModel) (keeps : KeepsRules raw) (assoc : Assoc) (by : IsMeantBy raw assoc) (constraint : Constraint) (it : IsConstrained raw assoc by constraint) where
   -- the principal side, and the dependent one
@@ -124,7 +125,7 @@ module _ (raw : RawModel) (keeps : KeepsRules raw) (assoc : Assoc) (by : IsMeant
         has_id above name
         (principal_has raw keeps.types.resolves_all by.number by.association by.is_association it.raw_constraint it.is_raw above.there.type above.of_role has.0 name (place_of_member it.raw_constraint.principal.props name has)))
         ∙ ap (map (λ (type : Option PropType). Some (kind_named raw type)))
-        (same_types (types_of_side (names_in raw) raw by.association it.raw_constraint.principal) (types_of_side (names_in raw) raw by.association it.raw_constraint.dependent)
+        (same_types (types_of_side (names_in raw) raw (types_by (names_in raw)) by.association it.raw_constraint.principal) (types_of_side (names_in raw) raw (types_by (names_in raw)) by.association it.raw_constraint.dependent)
         (types_match raw keeps.constraints by.number by.association by.is_association (is_named raw assoc by) it.raw_constraint it.is_raw))
         ∙ sym (side_kinds below (λ name has.
         has_id below name

@@ -1,5 +1,5 @@
 -- Inherited names, found by the places of a type's own names.
-use Rattle.std.proofs.Common.{subst, ◌≡◌, ⊎_elim, inl, inr, ℕ, ◌≤◌, List, codes, slice_get, Any, MatchOption, Option, Some, None, refl, sym, ap, ◌∙◌}
+use Rattle.std.proofs.Common.{subst, ◌≡◌, ⊎_elim, inl, inr, ℕ, ◌≤◌, List, [], codes, slice_get, Any, MatchOption, Option, Some, None, refl, sym, ap, ◌∙◌}
 use Rattle.std.specs.Ordering.{nat_cmp}
 use Rattle.std.proofs.lemmas.Option.{get_or_from_slice_get, slice_get-get_or, slice_get_within}
 use Rattle.emc_base.specs.Lists.{At}
@@ -7,12 +7,14 @@ use Rattle.emc_base.proofs.Mapped.{contains_at}
 use Rattle.base_chains.proofs.Orders.{place_of_member}
 use Rattle.least_fault.specs.Least.{Among, IsLeast}
 use Rattle.layouts.specs.declared.fault.Fault.{Fault}
+use Rattle.layouts.proofs.Walks.{among_none}
+use Rattle.rule_places.specs.Places.{InItem, InItems, InList}
 use Rattle.name_places.specs.GivenNames.{first_place}
 use Rattle.name_places.proofs.FirstPlaces.{first_has, first_upto}
 use Rattle.rule_places.proofs.Rules.{in_list_map, least_by_first}
 use Rattle.csdl_lists.specs.declared.raw.RawType.{RawType}
 use Rattle.csdl_types.specs.Inherited.{HasName, IsInNamesFault, IsInherited, IsInheritedFault}
-use Rattle.csdl_types.specs.OwnNames.{IsItemAbove, IsPlaceOfName}
+use Rattle.csdl_types.specs.OwnNames.{DeclaresNone, IsItemAbove, IsPlaceOfName}
 
 module _ {X : Type 0} (name_in : X → List ℕ) (items : List X) (known : List ℕ → Option ℕ) (are : known ≡ first_place name_in items) where
   known_at : (name : List ℕ) → known name ≡ first_place name_in items name
@@ -89,3 +91,16 @@ inherited_same A B to types type fault = ⊎_elim
   where
     moved : (name : List ℕ) → IsInherited A types name → IsInherited B types name
     moved name it = record { ancestor = it.ancestor; above = to it.ancestor it.above; type = it.type; is_type = it.is_type; has = it.has }
+
+-- nothing is wrong with the items of an empty list
+none_listed : {X : Type 0} (member : List ℕ) (P : ℕ → X → Fault → Type 0) (items : List X) → items ≡ [] → (fault : Fault) → ¬ InList member P items fault
+none_listed {X} member P items none fault some =
+    let inside : Fault = record { rule = fault.rule; place = some.rest } in
+    let Q : List X → Type 0 = λ xs. InItems P xs inside in
+    among_none (InItem P) inside (subst Q none some.holds)
+
+-- a type without a name of its own has none that is inherited
+pub none_declared : (IsAbove : ℕ → Type 0) (types : List RawType) (type : RawType) → DeclaresNone type → (fault : Fault) → ¬ IsInNamesFault IsAbove types type fault
+none_declared IsAbove types type none fault = ⊎_elim
+    (none_listed (codes "Property") (λ k prop. IsInheritedFault IsAbove types prop.name) type.props none.0 fault)
+    (none_listed (codes "NavigationProperty") (λ k nav. IsInheritedFault IsAbove types nav.name) type.navs none.1 fault)

@@ -1,22 +1,11 @@
--- Names in lists: which stand there, and whether all are apart.
-use Rattle.std.proofs.Common.{◌≡◌, ◌≢◌, ◌↔◌, ℕ, ◌+◌, List, Contains, AllPairs, IsTrue, Option, Some, None, is_some, take, refl, sym, ap, subst, ◌∙◌}
+-- Names in lists: whether all are apart.
+use Rattle.std.proofs.Common.{◌≢◌, ℕ, ◌+◌, List, Contains, AllPairs, take, sym, subst, ◌∙◌}
 use Rattle.std.proofs.lemmas.List.Quantifiers.{all_pairs_push}
 use Rattle.std.proofs.lemmas.List.Elements.{Contains-get_or}
-use Rattle.std.proofs.lemmas.Option.{get_or_from_slice_get, none-some, slice_get_within}
+use Rattle.std.proofs.lemmas.Option.{get_or_from_slice_get, slice_get_within}
 use Rattle.emc_base.specs.Lists.{At}
 use Rattle.emc_base.proofs.Loops.{take_item}
-use Rattle.emc_base.proofs.Mapped.{contains_at}
-use Rattle.base_chains.proofs.Orders.{earlier_place, place_of_member}
-use Rattle.name_places.specs.GivenNames.{first_place}
-use Rattle.name_places.proofs.FirstPlaces.{first_has, first_upto}
-
--- a name stands in a list where it has a first place there
-pub named_by_place : (names : List (List ℕ)) (name : List ℕ) (found : Option ℕ) → first_place (λ other. other) names name ≡ found
-    → (IsTrue (is_some found) ↔ Contains names name)
-named_by_place names name None none =
-    (λ is. absurd cc, λ has. let first = first_upto (λ other. other) names name has.0 name (place_of_member names name has) refl in absurd (none-some first.0 (sym none ∙ first.1)))
-named_by_place names name (Some i) is =
-    (λ _. let first = first_has (λ other. other) names name i is in contains_at names i name (first.1 ∙ ap Some first.2), λ _. refl)
+use Rattle.base_chains.proofs.Orders.{earlier_place}
 
 -- one name more that doesn't stand before
 pub apart_more : (names : List (List ℕ)) (i : ℕ) (name : List ℕ) → At names i name → ¬ Contains (take i names) name

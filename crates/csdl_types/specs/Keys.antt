@@ -3,6 +3,7 @@
 use Rattle.std.specs.Prelude.{◌≡◌, ◌≢◌, ℕ, ◌≤◌, List, [], ◌∷◌, length, codes, AllPairs, Contains, Option, Some, None, MatchOption, false, ⊤}
 use Rattle.json_form.specs.declared.pointer.Step.TheVariants.{Member}
 use Rattle.layouts.specs.declared.fault.Fault.{Fault}
+use Rattle.layouts.specs.declared.rule.Rule.{Rule}
 use Rattle.layouts.specs.declared.rule.Rule.TheVariants.{TypeKey, KeyProperty}
 use Rattle.rule_places.specs.Places.{IsAt, InList}
 use Rattle.csdl_lists.specs.declared.raw.RawProp.{RawProp}
@@ -41,10 +42,19 @@ pub record CanBeKey (prop : RawProp) : Type 0 where
   pub needed : prop.nullable ≡ false
   pub simple : IsKeySimple (simple_of prop.kind)
 
+module _ (rule : Rule) (Fails : RawProp → Type 0) where
+  -- a property that is in a key fails, seen from a property of a type with this key
+  abbrev pub IsFailingKeyProp : List (List ℕ) → RawProp → Fault → Type 0
+  IsFailingKeyProp names prop fault = (Contains names prop.name × Fails prop) × IsAt rule [] fault
+
+  -- the same, seen from the type
+  abbrev pub HasFailingKeyProp : RawType → Fault → Type 0
+  HasFailingKeyProp type fault = MatchOption type.key ⊥ (λ names. InList (codes "Property") (λ k. IsFailingKeyProp names) type.props fault)
+
 -- V10, seen from a property of a type with this key
 abbrev pub IsNoKeyPropFault : List (List ℕ) → RawProp → Fault → Type 0
-IsNoKeyPropFault names prop fault = (Contains names prop.name × (¬ CanBeKey prop)) × IsAt KeyProperty [] fault
+IsNoKeyPropFault = IsFailingKeyProp KeyProperty (λ prop. ¬ CanBeKey prop)
 
 -- V10, seen from the type
 abbrev pub IsKeyPropFault : RawType → Fault → Type 0
-IsKeyPropFault type fault = MatchOption type.key ⊥ (λ names. InList (codes "Property") (λ k. IsNoKeyPropFault names) type.props fault)
+IsKeyPropFault = HasFailingKeyProp KeyProperty (λ prop. ¬ CanBeKey prop)

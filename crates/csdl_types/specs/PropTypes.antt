@@ -66,15 +66,15 @@ HasLength _ = ⊥
 abbrev pub IsNoBound : ℤ → Type 0
 IsNoBound number = ¬ ((pos 1 ≤ℤ number) × (number ≤ℤ pos largest_bound))
 
--- the MaxLength stands at a type without lengths, or is no bound
-abbrev pub BreaksBound : Option Simple → RawBound → Type 0
-BreaksBound simple Absent = ⊥
-BreaksBound simple Max = ¬ HasLength simple
-BreaksBound simple (Number number) = (¬ HasLength simple) ⊎ IsNoBound number
+-- the MaxLength stands at a type whose values have no length, or is no bound
+abbrev pub BreaksBound : Type 0 → RawBound → Type 0
+BreaksBound HasOne Absent = ⊥
+BreaksBound HasOne Max = ¬ HasOne
+BreaksBound HasOne (Number number) = (¬ HasOne) ⊎ IsNoBound number
 
 -- V13, seen from the property
 abbrev pub IsPropBoundFault : RawProp → Fault → Type 0
-IsPropBoundFault prop fault = BreaksBound (simple_of prop.kind) prop.bound × IsAt Bound (Member (codes "MaxLength") ∷ []) fault
+IsPropBoundFault prop fault = BreaksBound (HasLength (simple_of prop.kind)) prop.bound × IsAt Bound (Member (codes "MaxLength") ∷ []) fault
 
 -- V13, seen from the type
 abbrev pub IsBoundFault : RawType → Fault → Type 0

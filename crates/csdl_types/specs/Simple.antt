@@ -3,7 +3,7 @@
 use Rattle.std.specs.Prelude.{ℕ, List, Option, Some, None, option_map, unwrap_or, if◌then◌else◌, codes}
 use Rattle.std.specs.Option.{option_or}
 use Rattle.std.specs.Str.{bytes_eq}
-use Rattle.csdl_lists.specs.References.{rest_after}
+use Rattle.csdl_lists.specs.References.{Names, rest_after}
 use Rattle.csdl_types.specs.declared.simple.PropType.{PropType}
 use Rattle.csdl_types.specs.declared.simple.PropType.TheVariants as named
 use Rattle.csdl_types.specs.declared.simple.Simple.{Simple}
@@ -27,3 +27,7 @@ simple_of text = simple_named (unwrap_or (rest_after (codes "Edm.") text) text)
 -- what the Type of a property names: a simple type, or else the enumeration type at a place
 abbrev pub prop_type : (List ℕ → Option ℕ) → List ℕ → Option PropType
 prop_type enum_named text = option_or (option_map named.Simple (simple_of text)) (option_map named.Enum (enum_named text))
+
+-- what the Types of properties name, where names stand for these
+abbrev pub types_by : Names → List ℕ → Option PropType
+types_by names = prop_type names.enum_named

@@ -25,7 +25,7 @@ impl Finder<RawProp, Fault> for Bounds {
     ghost wrong = { λ _ _ prop. IsPropBoundFault prop };
 
     fn find(&self, alloc: Global, _place: usize, item: &RawProp) -> Result<Option<Fault>, Memory> {
-        let found = fault_if(alloc, breaks_bound(item), Rule::Bound, "MaxLength")?;
+        let found = fault_if(alloc, prop_breaks_bound(item), Rule::Bound, "MaxLength")?;
         Ok(found)
     }
 }
@@ -38,18 +38,25 @@ pub(crate) fn first_bound_fault(alloc: Global, ty: &RawType) -> Result<Option<Fa
     Ok(found)
 }
 
-fn breaks_bound(prop: &RawProp) -> bool
-    ensures { IsTrue result ↔ BreaksBound (simple_of prop.now.kind) prop.now.bound }
+fn prop_breaks_bound(prop: &RawProp) -> bool
+    ensures { IsTrue result ↔ BreaksBound (HasLength (simple_of prop.now.kind)) prop.now.bound }
 {
-    let can_have = has_length(simple_of(prop.kind.as_str()));
-    match prop.bound {
+    breaks_bound(has_length(simple_of(prop.kind.as_str())), prop.bound)
+}
+
+/// Whether a MaxLength stands at a type whose values have no length, or is no bound.
+pub fn breaks_bound(has_length: bool, bound: RawBound) -> bool
+    ensures { IsTrue result ↔ BreaksBound (IsTrue has_length) bound }
+{
+    match bound {
         RawBound::Absent => false,
-        RawBound::Max => !can_have,
-        RawBound::Number(number) => !can_have || is_no_bound(number),
+        RawBound::Max => !has_length,
+        RawBound::Number(number) => !has_length || is_no_bound(number),
     }
 }
 
-fn has_length(simple: Option<Simple>) -> bool
+/// Whether the values of a simple type have a length.
+pub fn has_length(simple: Option<Simple>) -> bool
     ensures { IsTrue result ↔ HasLength simple }
 {
     matches!(simple, Some(Simple::Text | Simple::Binary))

@@ -1,4 +1,4 @@
-ghost use Rattle.std.specs.Prelude.{◌≡◌, ◌↔◌, ℕ, length, Contains, IfOk};
+ghost use Rattle.std.specs.Prelude.{◌≡◌, ◌↔◌, ℕ, length, Contains, IfOk, IsTrue};
 ghost use Rattle.std.specs.Ordering.{nat_cmp};
 ghost use Rattle.base_chains.specs.Chains.{base_at, IsAncestor, StaysWithin};
 ghost use Rattle.least_fault.specs.Least.{Among, IsLeast};
@@ -7,7 +7,7 @@ ghost use Rattle.name_places.specs.GivenNames.{first_place};
 ghost use Rattle.name_places.specs.PlacesIn.{place_in};
 ghost use Rattle.rule_places.specs.Places.{InList};
 ghost use Rattle.csdl_types.specs.Inherited.{IsInheritedFault, IsInheritedNameFault, IsInNamesFault};
-ghost use Rattle.csdl_types.specs.OwnNames.{IsItemAbove, IsPlaceOfName};
+ghost use Rattle.csdl_types.specs.OwnNames.{DeclaresNone, IsItemAbove, IsPlaceOfName};
 
 use base_chains::places_above;
 use csdl_lists::{RawNav, RawProp, RawType};
@@ -131,7 +131,17 @@ pub(crate) fn first_inherited_fault(
     requires rooted { (i : ℕ) → ¬ IsAncestor (base_at bases.now) i i }
     ensures { IfOk result (IsLeast fault_cmp (IsInheritedNameFault (base_at bases.now) types.now place ty.now)) }
 {
+    if declares_none(ty) {
+        return Ok(None);
+    }
     let above = places_above(alloc, bases, place)?;
     let found = first_below(alloc, types, above.as_slice(), ty)?;
     Ok(found)
+}
+
+// Whether the type declares neither a property nor a navigation property.
+fn declares_none(ty: &RawType) -> bool
+    ensures { IsTrue result ↔ DeclaresNone ty.now }
+{
+    ty.props.is_empty() && ty.navs.is_empty()
 }

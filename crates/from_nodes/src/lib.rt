@@ -6,6 +6,6 @@ mod lists;
 mod members;
 mod objects;
 
-pub use lists::{FromNode, list_at, texts_at};
+pub use lists::{FromNode, items_at, list_at, texts_at};
 pub use members::{flag_at, optional_text_at, text_at, whole_at};
 pub use objects::{object_at, optional_object_at};

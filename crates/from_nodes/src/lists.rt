@@ -24,13 +24,14 @@ pub fn list_at<T: FromNode>(alloc: Global, node: Node<'_>, name: &str) -> Result
     ensures { IfOk result (λ list. list ≡ map T.of (items_at name.now (part_of node.entry))) }
 {
     let mut list = Seq::empty(alloc);
-    for item in items_of_member(node, name) {
+    for item in items_at(node, name) {
         list.push(T::read(alloc, Node::new(item))?)?;
     }
     Ok(list)
 }
 
-fn items_of_member<'a>(node: Node<'a>, name: &str) -> &'a [Value]
+/// The items of the array of this name; none where there is no array.
+pub fn items_at<'a>(node: Node<'a>, name: &str) -> &'a [Value]
     ensures { map view result.now ≡ items_at name.now (part_of node.entry) }
 {
     match node.member(name) {

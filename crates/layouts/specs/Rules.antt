@@ -1,7 +1,7 @@
 -- The numbers of the rules.
 use Rattle.std.specs.Prelude.{ℕ}
 use Rattle.layouts.specs.declared.rule.Rule.{Rule}
-use Rattle.layouts.specs.declared.rule.Rule.TheVariants.{IsJson, HasForm, HasMembers, IsKnown, IsSupported, NamedOnce, Resolves, Ancestors, TypeKey, KeyProperty, InheritedName, PropertyType, Bound, ConcreteType, EndRoles, Multiplicities, Constraint, DependentKey, Arrows, EndType, IsBuilt}
+use Rattle.layouts.specs.declared.rule.Rule.TheVariants.{IsJson, HasForm, HasMembers, IsKnown, IsSupported, NamedOnce, Resolves, Ancestors, TypeKey, KeyProperty, InheritedName, PropertyType, Bound, ConcreteType, EndRoles, Multiplicities, Constraint, DependentKey, Arrows, EndType, ColumnType, TableKey, KeyColumn, ForeignKey, PointsElsewhere, ContainerName, PickedType, SharedProperty, Corresponds, WritesKey, OnePairing, OneOwner, ConditionForm, ConditionValue, KeyCondition, LinkPlace, ConstraintMapping, ForeignValue, WrittenOnce, MappedAssociation, IsBuilt}
 
 -- the number that is printed, and by which rules are ordered
 abbrev pub rule_number : Rule → ℕ
@@ -25,4 +25,24 @@ rule_number Constraint = 17
 rule_number DependentKey = 18
 rule_number Arrows = 19
 rule_number EndType = 20
+rule_number ColumnType = 21
+rule_number TableKey = 22
+rule_number KeyColumn = 23
+rule_number ForeignKey = 24
+rule_number PointsElsewhere = 25
+rule_number ContainerName = 26
+rule_number PickedType = 27
+rule_number SharedProperty = 28
+rule_number Corresponds = 29
+rule_number WritesKey = 30
+rule_number OnePairing = 31
+rule_number OneOwner = 32
+rule_number ConditionForm = 33
+rule_number ConditionValue = 34
+rule_number KeyCondition = 35
+rule_number LinkPlace = 36
+rule_number ConstraintMapping = 37
+rule_number ForeignValue = 38
+rule_number WrittenOnce = 39
+rule_number MappedAssociation = 40
 rule_number IsBuilt = 99

@@ -45,6 +45,46 @@ pub enum Rule {
     Arrows,
     /// 20: the type of an end is the element type of its entity set, or derived from it.
     EndType,
+    /// 21: the type of a column is one of those that a column may have.
+    ColumnType,
+    /// 22: the key of a table has one to four columns, each once, none of which may be null.
+    TableKey,
+    /// 23: the columns of a key hold whole numbers of two to eight bytes, or texts.
+    KeyColumn,
+    /// 24: a foreign key points to the whole key of a table, from as many columns of the same kinds, each once.
+    ForeignKey,
+    /// 25: a foreign key doesn't match each column with itself.
+    PointsElsewhere,
+    /// 26: a container has the name that its document gives it.
+    ContainerName,
+    /// 27: each type that a fragment picks is the element type of its set, or derived from it.
+    PickedType,
+    /// 28: a property that a fragment names is one and the same of all types that it picks.
+    SharedProperty,
+    /// 29: a column can hold what its property does.
+    Corresponds,
+    /// 30: a fragment writes the whole key to the whole key of its table.
+    WritesKey,
+    /// 31: two fragments by which one set owns a table pair its key alike.
+    OnePairing,
+    /// 32: no table has two owners.
+    OneOwner,
+    /// 33: a condition names a property or a column, and a value or whether it is null.
+    ConditionForm,
+    /// 34: the value of a condition lies in the domain of what it is compared with.
+    ConditionValue,
+    /// 35: no condition speaks of a key.
+    KeyCondition,
+    /// 36: the links of an association are hosted at an end, or have a table of their own.
+    LinkPlace,
+    /// 37: an association with a constraint has no mapping of its own.
+    ConstraintMapping,
+    /// 38: no value is compared with what holds another entity's key.
+    ForeignValue,
+    /// 39: a fragment names no property twice at one end, and no column twice.
+    WrittenOnce,
+    /// 40: the mapping of an association set names the association of that set.
+    MappedAssociation,
     /// 99: the documents are of the form that is built so far.
     IsBuilt,
 }
@@ -75,6 +115,26 @@ impl Rule {
             Rule::DependentKey => 18,
             Rule::Arrows => 19,
             Rule::EndType => 20,
+            Rule::ColumnType => 21,
+            Rule::TableKey => 22,
+            Rule::KeyColumn => 23,
+            Rule::ForeignKey => 24,
+            Rule::PointsElsewhere => 25,
+            Rule::ContainerName => 26,
+            Rule::PickedType => 27,
+            Rule::SharedProperty => 28,
+            Rule::Corresponds => 29,
+            Rule::WritesKey => 30,
+            Rule::OnePairing => 31,
+            Rule::OneOwner => 32,
+            Rule::ConditionForm => 33,
+            Rule::ConditionValue => 34,
+            Rule::KeyCondition => 35,
+            Rule::LinkPlace => 36,
+            Rule::ConstraintMapping => 37,
+            Rule::ForeignValue => 38,
+            Rule::WrittenOnce => 39,
+            Rule::MappedAssociation => 40,
             Rule::IsBuilt => 99,
         }
     }

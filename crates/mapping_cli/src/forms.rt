@@ -21,6 +21,12 @@ const NO_MEMBERS: (&str, u8) = ("rule V12 csdl \"/EnumType/0/Member\"\n", 1);
 
 const NO_BOUND: (&str, u8) = ("rule V13 csdl \"/EntityType/0/Property/1/MaxLength\"\n", 1);
 
+const UNKNOWN_IN_STORE: (&str, u8) = ("rule V4 ssdl \"/EnumType\"\n", 1);
+
+const NO_COLUMN_TYPE: (&str, u8) = ("rule V21 ssdl \"/EntityType/0/Property/1/Type\"\n", 1);
+
+const NO_TABLE_KEY: (&str, u8) = ("rule V22 ssdl \"/EntityType/0/Key\"\n", 1);
+
 const LEFT_OUT: (&str, u8) = (
     "rule V5 csdl \"/EntityType/0/Property/0/DefaultValue\"\n",
     1,
@@ -37,7 +43,7 @@ const LOST_WITH_QUOTES: (&str, u8) = (
 );
 
 /// What the documents show, their edits, and what is told of them with which number.
-pub(crate) const FORMS: [(&str, &[Edit], (&str, u8)); 31] = [
+pub(crate) const FORMS: [(&str, &[Edit], (&str, u8)); 35] = [
     ("the first example", &[], ACCEPTED),
     (
         "a name that isn't written",
@@ -321,5 +327,35 @@ pub(crate) const FORMS: [(&str, &[Edit], (&str, u8)); 31] = [
             ("P", r#"{"EntityContainerMapping":"#, r#""#),
         ],
         UNKNOWN,
+    ),
+    (
+        "an enumeration type in a store",
+        &[(
+            "S",
+            r#"{"Namespace":"S""#,
+            r#"{"EnumType":[],"Namespace":"S""#,
+        )],
+        UNKNOWN_IN_STORE,
+    ),
+    (
+        "a column of no type",
+        &[
+            ("S", r#""Type":"nvarchar""#, r#""Type":"varchar(20)""#),
+            ("S", r#","MaxLength":20"#, ""),
+        ],
+        NO_COLUMN_TYPE,
+    ),
+    (
+        "a table's key that may be null",
+        &[("S", r#","Nullable":false"#, "")],
+        NO_TABLE_KEY,
+    ),
+    (
+        "a model and a store that break a rule each",
+        &[
+            ("S", r#","Nullable":false"#, ""),
+            ("M", r#""Key":["Id"],"#, ""),
+        ],
+        NO_KEY,
     ),
 ];

@@ -15,10 +15,10 @@ use Rattle.edm_types.specs.declared.faults.VocabFile.TheVariants.{Csdl, Ssdl, Ms
 use Rattle.round_trip.specs.Words.{Schema, VocabFile}
 use Rattle.first_form.specs.Meaning.{first_form_meaning, meaning_of_texts}
 use Rattle.mapping_core.specs.Compiles.{ReadsSchema}
-use Rattle.csdl_model.specs.ReadsModel.{ReadsModel}
+use Rattle.told_rules.specs.Reads.{Answers}
 use Rattle.mapping_core.specs.Reading.{ReadsFile, TellsTree}
 use Rattle.told_rules.specs.Told.{IsToldOrMemory, told_as}
-use Rattle.mapping_core.specs.Rules.{Breaks, IsFileFault, IsToldRule, Means, bytes_of, file_number}
+use Rattle.mapping_core.specs.Rules.{Breaks, IsFileFault, IsToldRule, IsTreeFault, Means, bytes_of, file_number}
 
 -- files of one number are one file
 pub same_file : (one two : VocabFile) → file_number one ≡ file_number two → one ≡ two
@@ -125,11 +125,12 @@ pub handed_on : (csdl ssdl msl : List ℕ) (told : VocabFault) (result : Result 
 handed_on csdl ssdl msl told (Ok schema) is reads = absurd is
 handed_on csdl ssdl msl told (Err fault) is reads = let P : VocabFault → Type 0 = λ other. ReadsSchema csdl ssdl msl (Err other) in subst P (sym is) reads
 
--- what stops the reading of a CSDL document is told of its tree
-pub tells_model : (d : Data) (told : VocabFault) (result : Result Unit VocabFault) → IsErrAnd result (λ fault. fault ≡ told) → ReadsModel d (Err told) → TellsTree Csdl d result
-tells_model d told (Ok done) is reads = absurd is
-tells_model d told (Err fault) is reads = let P : VocabFault → Type 0 = λ other. TellsTree Csdl d (Err other) in subst P (sym is) (tells told reads)
+-- what stops the reading of a document is told of its tree
+pub tells_tree : {X : Type 0} (file : VocabFile) (d : Data) (IsRead : X → Type 0) (told : VocabFault) (result : Result Unit VocabFault)
+    → IsErrAnd result (λ fault. fault ≡ told) → Answers file (IsTreeFault file d) IsRead (Err told) → TellsTree file d result
+tells_tree file d IsRead told (Ok done) is reads = absurd is
+tells_tree {X} file d IsRead told (Err fault) is reads = let P : VocabFault → Type 0 = λ other. TellsTree file d (Err other) in subst P (sym is) (tells told reads)
   where
-    tells : (other : VocabFault) → ReadsModel d (Err other) → TellsTree Csdl d (Err other)
+    tells : (other : VocabFault) → Answers {X = X} file (IsTreeFault file d) IsRead (Err other) → TellsTree file d (Err other)
     tells (read.Rule rule) found = found
     tells read.Memory found = cc

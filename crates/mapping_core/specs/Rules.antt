@@ -1,6 +1,6 @@
 -- Which rules three documents break, which of them is told, and what the documents mean where they break none.
--- Source: CSDL, SSDL and MSL version 3. Built so far: that each file is JSON; the rules of CSDL that its reader knows; and, last of all,
--- that the documents are of the form that is built so far.
+-- Source: CSDL, SSDL and MSL version 3. Built so far: that each file is JSON; the rules of CSDL and of SSDL; and, last of all, that the
+-- documents are of the form that is built so far.
 use Rattle.std.specs.Prelude.{◌≡◌, ◌≢◌, ◌⊎◌, ℕ, ◌≤◌, List, [], Some, None}
 use Rattle.std.specs.declared.cmp.Ordering.TheVariants.{Greater}
 use Rattle.serde_json.specs.Data.{Data}
@@ -10,6 +10,7 @@ use Rattle.layouts.specs.declared.rule.Rule.TheVariants.{IsBuilt, IsJson}
 use Rattle.layouts.specs.Faults.{fault_cmp}
 use Rattle.told_rules.specs.Told.{told_as}
 use Rattle.csdl_model.specs.ModelFaults.{IsModelFault}
+use Rattle.ssdl_model.specs.StoreFaults.{IsStoreFault}
 use Rattle.round_trip.specs.Words.{RuleFault, Schema, VocabFile}
 use Rattle.edm_types.specs.declared.faults.VocabFile.TheVariants.{Csdl, Ssdl, Msl}
 use Rattle.first_form.specs.Meaning.{meaning_of_texts}
@@ -23,7 +24,7 @@ file_number Msl = 2
 -- a fault of a document by the rules of its vocabulary
 abbrev pub IsTreeFault : VocabFile → Data → Fault → Type 0
 IsTreeFault Csdl d fault = IsModelFault d fault
-IsTreeFault Ssdl d fault = ⊥
+IsTreeFault Ssdl d fault = IsStoreFault d fault
 IsTreeFault Msl d fault = ⊥
 
 -- a fault of a file by itself: that it isn't JSON, at its root; or one of the document that it holds

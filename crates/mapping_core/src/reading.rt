@@ -10,6 +10,7 @@ use emc_base::{Bin, Memory};
 use first_form::read_first_form;
 use json_form::{Doc, DocFault};
 use layouts::{Fault, Rule};
+use ssdl_model::read_ssdl;
 use std::alloc::Global;
 use told_rules::told;
 
@@ -49,8 +50,8 @@ fn read_file(alloc: Global, file: VocabFile, bytes: &Bin) -> Result<Doc, VocabFa
     Ok(doc)
 }
 
-// Whether a document keeps the rules of its vocabulary; or its least fault. The model that a CSDL document means is let go: the first form
-// is asked of the trees.
+// Whether a document keeps the rules of its vocabulary; or its least fault. The model and the store that documents mean are let go: the
+// first form is asked of the trees.
 fn check_tree(alloc: Global, file: VocabFile, doc: &Doc) -> Result<(), VocabFault>
     ensures { TellsTree file (tree_of doc.now) result }
 {
@@ -59,6 +60,10 @@ fn check_tree(alloc: Global, file: VocabFile, doc: &Doc) -> Result<(), VocabFaul
             let _model = read_csdl(alloc, doc)?;
             Ok(())
         }
-        VocabFile::Ssdl | VocabFile::Msl => Ok(()),
+        VocabFile::Ssdl => {
+            let _store = read_ssdl(alloc, doc)?;
+            Ok(())
+        }
+        VocabFile::Msl => Ok(()),
     }
 }

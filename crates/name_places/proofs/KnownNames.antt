@@ -1,9 +1,10 @@
 -- Names of lists by their places: which a list has, and whether all are apart.
-use Rattle.std.proofs.Common.{◌≡◌, ℕ, ◌<◌, List, length, get_or, map, All, Contains, true, Option, Some, None, refl, sym, ap, subst, ◌∙◌, arith}
+use mathlib.Core.List.{map-id}
+use Rattle.std.proofs.Common.{◌≡◌, ◌↔◌, ℕ, ◌<◌, List, length, get_or, map, All, Any, Contains, IsTrue, true, Option, Some, None, refl, sym, ap, subst, ◌∙◌, arith}
 use Rattle.std.specs.Option.{is_some}
 use Rattle.std.proofs.lemmas.List.{get_or-map, length-map}
 use Rattle.std.proofs.lemmas.List.Elements.{All-map}
-use Rattle.std.proofs.lemmas.Option.{get_or_from_slice_get, slice_get_within}
+use Rattle.std.proofs.lemmas.Option.{get_or_from_slice_get, slice_get-get_or, slice_get_within}
 use Rattle.emc_base.specs.Lists.{At, AreApart}
 use Rattle.emc_base.proofs.Lists.{item_at}
 use Rattle.emc_base.proofs.Mapped.{contains_at, contains_map}
@@ -33,6 +34,19 @@ module _ {X : Type 0} (name_in : X → List ℕ) (items : List X) where
       let same : name_in item.0 ≡ name = sym (name_at has.0 item.0 name item.1) ∙ has.2 in
       ap is_some (first_upto name_in items name has.0 item.0 item.1 same).1
 
+  -- and so it is said of some item
+  pub some_named : (name : List ℕ) → is_some (first_place name_in items name) ≡ true ↔ Any (λ item. name_in item ≡ name) items
+  some_named name = (λ known. by (first_place name_in items name) refl known, back)
+    where
+      by : (place : Option ℕ) → first_place name_in items name ≡ place → is_some place ≡ true → Any (λ item. name_in item ≡ name) items
+      by None none is = absurd cc
+      by (Some i) found is =
+          let first = first_has name_in items name i found in
+          (i, first.0, slice_get_within items i first.0 first.1, get_or_from_slice_get items i first.0 first.0 first.1, first.2)
+
+      back : Any (λ item. name_in item ≡ name) items → is_some (first_place name_in items name) ≡ true
+      back (k, item, within, is, same) = ap is_some (first_upto name_in items name k item (slice_get-get_or items k item within ∙ ap Some is) same).1
+
   -- where none was given before, all names are apart
   pub apart_names : ((j : ℕ) (item : X) → At items j item → j < length items → ¬ IsGivenBefore name_in items j item) → AreApart (map name_in items)
   apart_names never i j d before within = λ same.
@@ -48,6 +62,15 @@ module _ {X : Type 0} (name_in : X → List ℕ) (items : List X) where
   not_apart j item here given apart =
       apart given.i j (name_in item) given.before (subst (λ n. j < n) (sym (length-map items name_in)) (slice_get_within items j item here))
       (name_at given.i given.other (name_in item) given.here ∙ given.same ∙ sym (name_at j item (name_in item) here))
+
+-- a name stands in a list of names exactly where it has a first place there
+pub named_by_place : (names : List (List ℕ)) (name : List ℕ) (found : Option ℕ) → first_place (λ other. other) names name ≡ found
+    → (IsTrue (is_some found) ↔ Contains names name)
+named_by_place names name found is =
+    let Has : List (List ℕ) → Type 0 = λ xs. Contains xs name in (
+      λ known. subst Has (map-id names) (name_of_item (λ other. other) names name (ap is_some is ∙ known)),
+      λ has. ap is_some (sym is) ∙ place_of_name (λ other. other) names name (subst Has (sym (map-id names)) has),
+    )
 
 -- all names of items are among those of a list where each has a place there
 module _ {X Y : Type 0} (name_in : X → List ℕ) (other_in : Y → List ℕ) (places : List ℕ → Option ℕ) (xs : List X) (ys : List Y) (are : places ≡ first_place name_in xs) where

@@ -16,10 +16,10 @@ use Rattle.layouts.specs.declared.fault.Fault.{Fault}
 use Rattle.layouts.specs.declared.rule.Rule.{Rule}
 use Rattle.layouts.specs.FaultOrder.{fault_cmp_total}
 use Rattle.layouts.specs.Faults.{fault_cmp}
-use Rattle.layouts.specs.Inside.{Under, after}
+use Rattle.layouts.specs.Inside.{Under}
 use Rattle.layouts.proofs.Faults.{least_under, not_after_itself, same_fault}
 use Rattle.layouts.specs.Rules.{rule_number}
-use Rattle.rule_places.specs.Places.{InItems, InList, IsAt}
+use Rattle.rule_places.specs.Places.{InItems, InList, IsAt, item_fault}
 
 -- where a test says whether P holds, the least by the test is the least by P
 pub least_where : {B P : Type 0} (Q : Fault → Type 0) (found : Option Fault) → (B ↔ P) → IsLeast fault_cmp (λ fault. B × Q fault) found
@@ -82,10 +82,10 @@ least_by_first P Q (Some one) to back is = (
       upto_not_greater one k (omega arith),
 )
 
--- what holds of items may be weakened
-pub in_list_map : {X : Type 0} (member : List ℕ) (P Q : ℕ → X → Fault → Type 0) (items : List X) → ((i : ℕ) (item : X) (fault : Fault) → P i item fault → Q i item fault)
-    → (fault : Fault) → InList member P items fault → InList member Q items fault
-in_list_map member P Q items to fault some = record {
+-- what is wrong with items may be said in other words, which are as good for the item at the place
+pub in_list_at : {X : Type 0} (member : List ℕ) (P Q : ℕ → X → Fault → Type 0) (items : List X)
+    → ((i : ℕ) (item : X) → At items i item → (fault : Fault) → P i item fault → Q i item fault) → (fault : Fault) → InList member P items fault → InList member Q items fault
+in_list_at member P Q items to fault some = record {
   rest = some.rest;
   reached = some.reached;
   holds = record {
@@ -95,10 +95,15 @@ in_list_map member P Q items to fault some = record {
     holds = record {
       rest = some.holds.holds.rest;
       reached = some.holds.holds.reached;
-      holds = to some.holds.i some.holds.item (record { rule = fault.rule; place = some.holds.holds.rest }) some.holds.holds.holds;
+      holds = to some.holds.i some.holds.item some.holds.here (record { rule = fault.rule; place = some.holds.holds.rest }) some.holds.holds.holds;
     };
   };
 }
+
+-- what holds of items may be weakened
+pub in_list_map : {X : Type 0} (member : List ℕ) (P Q : ℕ → X → Fault → Type 0) (items : List X) → ((i : ℕ) (item : X) (fault : Fault) → P i item fault → Q i item fault)
+    → (fault : Fault) → InList member P items fault → InList member Q items fault
+in_list_map member P Q items to = in_list_at member P Q items (λ i item here. to i item)
 
 -- of two things that may be wrong with items, each fault is of the one or of the other
 in_list_either : {X : Type 0} (member : List ℕ) (P Q : ℕ → X → Fault → Type 0) (items : List X) (fault : Fault)
@@ -164,7 +169,7 @@ module _ {X : Type 0} (rule : Rule) (rest : List Step) (P : ℕ → X → Type 0
 
   -- the same, seen from the object that has the list at a member
   pub least_by_place : (member : List ℕ) (found : Option ℕ) → IsLeast nat_cmp (λ i. (item : X) × At items i item × P i item) found
-      → IsLeast fault_cmp (InList member (λ i item fault. P i item × IsAt rule rest fault) items) (option_map (after (Member member)) (option_map at_item found))
+      → IsLeast fault_cmp (InList member (λ i item fault. P i item × IsAt rule rest fault) items) (item_fault rule member rest found)
   least_by_place member found is = least_under (Member member) (InItems (λ i item fault. P i item × IsAt rule rest fault) items) (option_map at_item found) (least_in_items found is)
 
 -- two searches that were joined
@@ -177,3 +182,13 @@ least_joined P Q one other both is first second = subst (λ (found : Option Faul
 pub least_where_some : {X : Type 0} (P : X → Fault → Type 0) (known : Option X) (x : X) (found : Option Fault) → known ≡ Some x → IsLeast fault_cmp (P x) found
     → IsLeast fault_cmp (λ fault. MatchOption known ⊥ (λ y. P y fault)) found
 least_where_some {X} P known x found is least = let Q : Option X → Type 0 = λ o. IsLeast fault_cmp (λ fault. MatchOption o ⊥ (λ y. P y fault)) found in subst Q (sym is) least
+
+-- a rule that is this one comes after those of lesser numbers
+pub after_number : (n : ℕ) (known rule : Rule) → rule ≡ known → n < rule_number known → n < rule_number rule
+after_number n known rule is late = subst (λ (r : Rule). n < rule_number r) (sym is) late
+
+-- what holds of the rule of each fault of what may be there holds of that of the fault
+pub rule_where : {X : Type 0} (B : Rule → Type 0) (P : X → Fault → Type 0) (known : Option X) (fault : Fault) → ((x : X) → P x fault → B fault.rule)
+    → MatchOption known ⊥ (λ x. P x fault) → B fault.rule
+rule_where B P None fault each is = absurd is
+rule_where B P (Some x) fault each is = each x is

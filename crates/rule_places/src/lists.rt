@@ -1,9 +1,9 @@
 ghost use Rattle.std.specs.Prelude.{◌≡◌, ◌∷◌, [], IfOk, option_map};
-ghost use Rattle.json_form.specs.declared.pointer.Step.TheVariants.{Member, Item};
+ghost use Rattle.json_form.specs.declared.pointer.Step.TheVariants.{Member};
 ghost use Rattle.least_fault.specs.Least.{Among, IsLeast};
 ghost use Rattle.layouts.specs.Faults.{fault_cmp};
 ghost use Rattle.layouts.specs.Inside.{after};
-ghost use Rattle.rule_places.specs.Places.{InItems, InList};
+ghost use Rattle.rule_places.specs.Places.{InItems, InList, item_fault};
 
 use crate::sites::fault_at;
 use emc_base::{Memory, Seq, Txt};
@@ -68,7 +68,7 @@ pub fn fault_at_item(
     place: Option<usize>,
     member: &str,
 ) -> Result<Option<Fault>, Memory>
-    ensures { IfOk result (λ found. found ≡ option_map (after (Member list.now)) (option_map (λ i. record { rule = rule; place = Item i ∷ Member member.now ∷ [] }) place)) }
+    ensures { IfOk result (λ found. found ≡ item_fault rule list.now (Member member.now ∷ []) place) }
 {
     let Some(place) = place else {
         return Ok(None);
@@ -88,7 +88,7 @@ pub fn fault_on_item(
     list: &str,
     place: Option<usize>,
 ) -> Result<Option<Fault>, Memory>
-    ensures { IfOk result (λ found. found ≡ option_map (after (Member list.now)) (option_map (λ i. record { rule = rule; place = Item i ∷ [] }) place)) }
+    ensures { IfOk result (λ found. found ≡ item_fault rule list.now [] place) }
 {
     let Some(place) = place else {
         return Ok(None);

@@ -1,21 +1,9 @@
-//! Broken rules of documents as they are told: by the file, the number of the rule, and the pointer of the place.
+//! What a reader of a document answers: why it stops, and a broken rule as it is told, by the file, the number of the rule, and the pointer
+//! of the place.
 #![tactic(auto)]
 
-ghost use Rattle.told_rules.specs.Told.{IsToldOrMemory, told_as};
+mod stop;
+mod telling;
 
-use edm_types::{RuleFault, VocabFault, VocabFile};
-use emc_base::Memory;
-use json_form::pointer_of;
-use layouts::Fault;
-use std::alloc::Global;
-
-/// The fault of a file as it is told. `Memory` comes where memory ran out.
-pub fn told(alloc: Global, file: VocabFile, fault: Fault) -> VocabFault
-    ensures { IsToldOrMemory (told_as file fault) result }
-{
-    let rule = fault.rule.number();
-    match pointer_of(alloc, fault.place.as_slice()) {
-        Ok(place) => VocabFault::Rule(RuleFault { file, rule, place }),
-        Err(Memory) => VocabFault::Memory,
-    }
-}
+pub use stop::Stop;
+pub use telling::told;

@@ -7,7 +7,7 @@ use Rattle.csdl_constraints.proofs.InModel.{last_of_five}
 use Rattle.csdl_constraints.proofs.matching.breaks_lists.Goals as goal
 
 pub returns-then-not-branch-3 : goal.returns-then-not-branch-3
-returns-then-not-branch-3 c =
+returns-then-not-branch-3 g c =
     let Apart : List (List ℕ) → Type 0 = λ names. AreApart names in
     let same : map (λ (name : List ℕ). name) c.as_slice-2.result.now ≡ c.args.constraint.now.dependent.props = map-id c.as_slice-2.result.now ∙ c.as_slice-2.ensures.items in (
       λ _. inr (inr (inl (λ apart. both_ways c.in_ok-are_apart.field-0 c.if-not-branch-3.true (c.in_ok-are_apart.ensures.1 (subst Apart (sym same) apart))))),
@@ -15,7 +15,7 @@ returns-then-not-branch-3 c =
     )
 
 pub returns : goal.returns
-returns c =
+returns g c =
     let constraint = c.args.constraint.now in
     let Apart : List (List ℕ) → Type 0 = λ names. AreApart names in
     let same : map (λ (name : List ℕ). name) c.as_slice-2.result.now ≡ constraint.dependent.props = map-id c.as_slice-2.result.now ∙ c.as_slice-2.ensures.items in

@@ -6,6 +6,6 @@ use Rattle.csdl_constraints.proofs.matching.match_types.Given as goal
 
 -- those that were passed name the same
 abbrev pub invariant-loop-place : goal.invariant-loop-place
-invariant-loop-place l =
+invariant-loop-place g l =
     let model = l.sides.lookups.now.model.now in
-    (j : ℕ) (x y : List ℕ) → At l.ones j x → At l.others j y → j < l.place → type_in (names_in model) model l.one x ≡ type_in (names_in model) model l.other y
+    (j : ℕ) (x y : List ℕ) → At l.ones j x → At l.others j y → j < l.place → type_in (names_in model) model (g.T.Typing.types l.typing) l.one x ≡ type_in (names_in model) model (g.T.Typing.types l.typing) l.other y

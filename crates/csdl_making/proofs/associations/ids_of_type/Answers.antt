@@ -1,9 +1,18 @@
-use Rattle.std.proofs.Common.{ap, refl, ◌∙◌, option_map}
+use Rattle.std.proofs.Common.{◌<◌, length, Option, option_map, refl, sym, ap, subst, ◌∙◌}
+use Rattle.std.specs.Option.{IfSome}
 use Rattle.std.proofs.lemmas.Option.{slice_get_read}
+use Rattle.csdl_names.specs.declared.lookups.PropPlace.{PropPlace}
 use Rattle.csdl_meaning.specs.ModelMeaning.{prop_id}
 use Rattle.csdl_making.specs.Making.{id_of_place}
+use Rattle.csdl_making.proofs.Numbered.{found_inside}
 use Rattle.csdl_making.proofs.Places.{found_more}
 use Rattle.csdl_making.proofs.associations.ids_of_type.Goals as goal
+
+pub found_id-requires-clause-inside : goal.found_id-requires-clause-inside
+found_id-requires-clause-inside c =
+    let raw = c.args.lookups.now.model.now in
+    let P : Option PropPlace → Type 0 = λ found. IfSome found (λ place. place.owner < length raw.types) in
+    subst P (sym c.prop_of_type-found.ensures) (found_inside raw c.args.place c.name-item.result)
 
 pub loop-name-preserved : goal.loop-name-preserved
 loop-name-preserved c =

@@ -1,23 +1,10 @@
-use Rattle.std.proofs.Common.{◌≡◌, ℕ, List, Option, Some, None, sym, ap, subst, ◌∙◌}
+use Rattle.std.proofs.Common.{◌≡◌, Some, None, sym, ap, subst, ◌∙◌}
 use Rattle.std.specs.Prelude.{IfOk}
 use Rattle.emc_base.specs.declared.value.Kind.{Kind}
-use Rattle.csdl_types.specs.declared.simple.PropType.{PropType}
 use Rattle.csdl_types.specs.declared.simple.PropType.TheVariants as named
-use Rattle.csdl_types.specs.Simple.{prop_type, simple_of}
-use Rattle.csdl_meaning.specs.Kinds.{kind_of}
-use Rattle.csdl_lists.specs.declared.raw.RawModel.{RawModel}
-use Rattle.csdl_lists.specs.declared.raw.RawProp.{RawProp}
-use Rattle.csdl_lists.specs.References.{Names, names_in}
 use Rattle.csdl_lists.specs.Scopes.{names_of}
-use Rattle.csdl_making.proofs.KindsOf.{enum_kept, kind_by, kind_named}
+use Rattle.csdl_making.proofs.KindsOf.{enum_kept, tells}
 use Rattle.csdl_making.proofs.kinds.kind_of.Goals as goal
-
--- what the Type names, by the names of the model
-tells : (raw : RawModel) (prop : RawProp) (names : Names) (text : List ℕ) (found : Option PropType) → names ≡ names_in raw → text ≡ prop.kind
-    → found ≡ prop_type names.enum_named text → kind_by prop.bound raw.enums found ≡ kind_of raw prop
-tells raw prop names text found known spelled is =
-    ap (kind_by prop.bound raw.enums) (is ∙ (λ k. prop_type (known k).enum_named (spelled k)))
-    ∙ kind_named prop.bound raw.enums (simple_of prop.kind) ((names_in raw).enum_named prop.kind)
 
 pub returns-in-None : goal.returns-in-None
 returns-in-None c =

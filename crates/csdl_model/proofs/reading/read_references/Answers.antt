@@ -4,7 +4,7 @@ use Rattle.least_fault.specs.Least.{IsLeast}
 use Rattle.csdl_names.specs.Unresolved.{IsUnresolved}
 use Rattle.csdl_meaning.specs.ModelMeaning.{meaning}
 use Rattle.csdl_model.specs.ModelFaults.{IsFaultAfterReferences}
-use Rattle.csdl_model.proofs.Readings.{goes_on, stops_there}
+use Rattle.told_rules.proofs.Readings.{goes_on, stops_there}
 use Rattle.csdl_model.proofs.RuleNumbers.{after_unresolved}
 use Rattle.csdl_model.proofs.reading.read_references.Goals as goal
 

@@ -5,7 +5,7 @@ use Rattle.csdl_types.specs.TypeRules.{BreaksTypeRules}
 use Rattle.csdl_meaning.specs.ModelMeaning.{meaning}
 use Rattle.csdl_meaning.proofs.KeptTypes.{none_above_itself}
 use Rattle.csdl_model.specs.ModelFaults.{BreaksAssociationRules}
-use Rattle.csdl_model.proofs.Readings.{goes_on, stops_there}
+use Rattle.told_rules.proofs.Readings.{goes_on, stops_there}
 use Rattle.csdl_model.proofs.RuleNumbers.{after_types}
 use Rattle.csdl_model.proofs.reading.read_types.Goals as goal
 

@@ -3,8 +3,11 @@ use Rattle.least_fault.proofs.Leasts.{least_same}
 use Rattle.layouts.specs.Faults.{fault_cmp}
 use Rattle.base_chains.specs.Chains.{IsAncestor, StandAbove, base_at}
 use Rattle.csdl_types.specs.Inherited.{IsInNamesFault}
-use Rattle.csdl_types.proofs.Inheriting.{inherited_same}
+use Rattle.csdl_types.proofs.Inheriting.{inherited_same, none_declared}
 use Rattle.csdl_types.proofs.inherited.first_inherited_fault.Goals as goal
+
+pub returns-then-declares_none : goal.returns-then-declares_none
+returns-then-declares_none c = none_declared (IsAncestor (base_at c.args.bases.now) c.args.place) c.args.types.now c.args.ty.now (c.declares_none.ensures.0 c.if-declares_none.true)
 
 pub returns : goal.returns
 returns c =

@@ -5,5 +5,5 @@ use Rattle.from_nodes.proofs.lists.list_at.Goals as goal
 
 pub returns : goal.returns
 returns g c =
-    map-taken g.T.FromNode.of view c.items_of_member-item-items.result.now c.loop-item.list c.loop-item.item-index c.loop-item-test.false c.loop-item.invariant
-    ∙ ap (map g.T.FromNode.of) c.items_of_member-item-items.ensures
+    map-taken g.T.FromNode.of view c.items_at-item-items.result.now c.loop-item.list c.loop-item.item-index c.loop-item-test.false c.loop-item.invariant
+    ∙ ap (map g.T.FromNode.of) c.items_at-item-items.ensures

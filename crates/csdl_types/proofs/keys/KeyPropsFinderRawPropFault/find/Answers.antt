@@ -2,4 +2,4 @@ use Rattle.rule_places.proofs.Rules.{least_where}
 use Rattle.csdl_types.proofs.keys.KeyPropsFinderRawPropFault.find.Goals as goal
 
 pub returns : goal.returns
-returns c = least_where _ c.in_ok-found.found c.is_broken.ensures c.in_ok-found.ensures
+returns g c = least_where _ c.in_ok-found.found c.is_broken.ensures c.in_ok-found.ensures

@@ -1,7 +1,0 @@
-use Rattle.std.proofs.Common.{Some, sym, ap, ◌∙◌}
-use Rattle.rule_places.proofs.Rules.{least_in_same, least_where_some}
-use Rattle.csdl_types.proofs.keys.first_key_prop_fault.Goals as goal
-
-pub returns : goal.returns
-returns c = least_where_some _ _ c.as_slice-key.result.now c.in_ok-found.found (c.in-Some.is ∙ ap Some (sym c.as_slice-key.ensures.items))
-    (least_in_same _ _ _ _ c.in_ok-found.found c.as_slice.ensures.items c.in_ok-found.ensures)

@@ -1,0 +1,11 @@
+//! Makes the store that an SSDL document means, from its lists.
+#![tactic(auto)]
+
+mod foreign;
+mod ids;
+mod store;
+mod tables;
+#[cfg(test)]
+mod tests;
+
+pub use store::make_store;

@@ -1,0 +1,9 @@
+use Rattle.rule_places.proofs.Rules.{least_joined}
+use Rattle.csdl_names.specs.Repeated.{IsRepeated}
+use Rattle.ssdl_rules.specs.Owned.{IsShared}
+use Rattle.ssdl_model.proofs.reading.first_given_twice.Goals as goal
+
+pub returns : goal.returns
+returns c =
+    let store = c.args.owners.now.lookups.now.model.now in
+    least_joined (IsRepeated store) (IsShared store) c.in_ok-repeated.repeated c.in_ok-shared.shared c.earlier.result c.earlier.ensures c.in_ok-repeated.ensures c.in_ok-shared.ensures

@@ -1,0 +1,2 @@
+pub mod StoreFaults
+pub mod ReadsStore

@@ -1,0 +1,39 @@
+-- V24 and V25: a foreign key points to a whole key, and not each column to itself.
+-- Source: SSDL version 3, Association and ReferentialConstraint.
+use Rattle.std.specs.Prelude.{◌≡◌, ◌⊎◌, ℕ, [], ◌∷◌, MatchOption, codes}
+use Rattle.json_form.specs.declared.pointer.Step.TheVariants.{Member}
+use Rattle.layouts.specs.declared.fault.Fault.{Fault}
+use Rattle.layouts.specs.declared.rule.Rule.TheVariants.{ForeignKey, PointsElsewhere}
+use Rattle.rule_places.specs.Places.{IsAt}
+use Rattle.csdl_lists.specs.declared.raw.RawAssociation.{RawAssociation}
+use Rattle.csdl_lists.specs.declared.raw.RawConstraint.{RawConstraint}
+use Rattle.csdl_lists.specs.declared.raw.RawModel.{RawModel}
+use Rattle.csdl_lists.specs.References.{Names}
+use Rattle.csdl_names.specs.Unresolved.{type_of_role}
+use Rattle.csdl_constraints.specs.Constraints.{BreaksListsOr}
+use Rattle.ssdl_lists.specs.Columns.{column_type}
+
+module _ (names : Names) (model : RawModel) where
+  -- the lists don't match, by the types of columns
+  abbrev pub BreaksForeignKey : RawAssociation → RawConstraint → Type 0
+  BreaksForeignKey association constraint = BreaksListsOr names model column_type association constraint ⊥
+
+  -- each column of a type is matched with itself
+  abbrev pub PointsToItself : RawAssociation → RawConstraint → Type 0
+  PointsToItself association constraint =
+      (type_of_role names model association constraint.principal.role ≡ type_of_role names model association constraint.dependent.role)
+      × (constraint.principal.props ≡ constraint.dependent.props)
+
+  -- V24, seen from the association
+  abbrev pub IsUnlikeFault : RawAssociation → Fault → Type 0
+  IsUnlikeFault association fault =
+      MatchOption association.constraint ⊥ (BreaksForeignKey association) × IsAt ForeignKey (Member (codes "ReferentialConstraint") ∷ []) fault
+
+  -- V25, seen from the association
+  abbrev pub IsItselfFault : RawAssociation → Fault → Type 0
+  IsItselfFault association fault =
+      MatchOption association.constraint ⊥ (PointsToItself association) × IsAt PointsElsewhere (Member (codes "ReferentialConstraint") ∷ []) fault
+
+  -- V24 and V25
+  abbrev pub IsForeignKeyFault : ℕ → RawAssociation → Fault → Type 0
+  IsForeignKeyFault a association fault = IsUnlikeFault association fault ⊎ IsItselfFault association fault

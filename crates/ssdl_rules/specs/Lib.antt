@@ -1,0 +1,4 @@
+pub mod Owned
+pub mod TableRules
+pub mod ForeignKeys
+pub mod StoreRules

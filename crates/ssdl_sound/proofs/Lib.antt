@@ -1,0 +1,15 @@
+pub mod Unbased
+pub mod KeptTables
+pub mod ColumnIds
+pub mod ColumnKinds
+pub mod MeantTables
+pub mod SoundTables
+pub mod TablesFound
+pub mod KeptKeys
+pub mod KeySides
+pub mod MeantKeys
+pub mod SoundKeys
+pub mod SoundStores
+pub mod ShelvesNames
+pub mod ShelvesTables
+pub mod ShelvesKeep

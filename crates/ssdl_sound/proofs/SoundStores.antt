@@ -1,0 +1,16 @@
+-- What a document means is a sound store where it breaks no rule.
+use Rattle.soundness.specs.Stores.{IsSoundStore}
+use Rattle.csdl_lists.specs.declared.raw.RawModel.{RawModel}
+use Rattle.ssdl_making.specs.StoreMeaning.{store_meaning}
+use Rattle.ssdl_sound.specs.SoundStore.{KeepsStoreRules}
+use Rattle.ssdl_sound.proofs.SoundKeys.{keys_apart, keys_inside as foreign_inside, sound_keys}
+use Rattle.ssdl_sound.proofs.SoundTables.{all_columns_apart, keys_inside, sound_tables, tables_apart}
+
+-- its parts, joined
+pub sound_store : (raw : RawModel) → KeepsStoreRules raw → IsSoundStore (store_meaning raw)
+sound_store raw keeps = record {
+  ids = record { keys = keys_inside raw keeps; foreign = foreign_inside raw keeps };
+  names = record { tables = tables_apart raw keeps; columns = all_columns_apart raw keeps; keys = keys_apart raw keeps };
+  tables = sound_tables raw keeps;
+  keys = sound_keys raw keeps;
+}
