@@ -33,6 +33,10 @@ module _ (raw : RawModel) where
   abbrev pub AreInherited : (ℕ → List PropId) → List (List PropId) → Type 0
   AreInherited own lists = (i : ℕ) → i < length raw.types → list_at lists i ≡ flat_map own (chain_in raw i)
 
+  -- the same, where these lists are what each type has of its own
+  abbrev pub AddInherited : List (List PropId) → List (List PropId) → Type 0
+  AddInherited owns lists = (own : ℕ → List PropId) → owns ≡ map own (range_with_len 0 (length raw.types)) → AreInherited own lists
+
   -- a type with this key and these properties
   abbrev pub type_with : ℕ → RawType → List PropId → List PropId → EntityType
   type_with i type key props = record {

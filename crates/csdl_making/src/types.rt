@@ -4,7 +4,7 @@ ghost use Rattle.std.specs.Option.{option_and_then, option_copied};
 ghost use Rattle.base_chains.specs.Chains.{base_at};
 ghost use Rattle.base_chains.specs.Walks.{IsBasesFirst};
 ghost use Rattle.csdl_meaning.specs.Meaning.{declared_by, nav_of, own_key, own_props, prop_named, types_in};
-ghost use Rattle.csdl_making.specs.Making.{AreInherited, AreStarts, type_with};
+ghost use Rattle.csdl_making.specs.Making.{AddInherited, AreInherited, AreStarts, type_with};
 
 use crate::ids::{base_id, found_id, prop_id};
 use crate::lists::{inherited, put_found, take_at};
@@ -41,7 +41,7 @@ fn with_inherited(
 ) -> Result<Vec<Seq<PropId>>, Memory>
     requires alike { length own.items ≡ length lookups.now.model.now.types }
     requires order { IsBasesFirst (base_at lookups.now.bases.now) (length lookups.now.bases.now) order.now }
-    ensures { IfOk result (λ lists. (each : ℕ → List PropId) → own.items ≡ map each (range_with_len 0 (length lookups.now.model.now.types)) → AreInherited lookups.now.model.now each lists.items) }
+    ensures { IfOk result (λ lists. AddInherited lookups.now.model.now own.items lists.items) }
 {
     let lists = inherited(alloc, own, lookups.bases.as_slice(), order)?;
     Ok(lists)

@@ -57,31 +57,31 @@ fn read_document(alloc: Global, doc: &Doc) -> Result<EntityModel, Stop>
     }
 }
 
-// The rules on what is written: on names that are given twice first.
+// The rules on what is written, by what the names stand for.
 fn read_lists(alloc: Global, model: &RawModel) -> Result<EntityModel, Stop>
     ensures { Reads (IsListFault model.now) (meaning model.now) result }
 {
     let scope = Scope::of(alloc, model)?;
-    match first_repeated(alloc, model, &scope)? {
-        Some(fault) => Err(Stop::Fault(fault)),
-        None => read_in_scope(alloc, model, &scope),
-    }
-}
-
-// All others, by what the names stand for.
-fn read_in_scope(alloc: Global, model: &RawModel, scope: &Scope) -> Result<EntityModel, Stop>
-    requires { IsScopeOf model.now scope.now }
-    ensures { Reads (IsFaultAfterNames model.now) (meaning model.now) result }
-{
-    let bases = bases_of(alloc, model, scope)?;
+    let bases = bases_of(alloc, model, &scope)?;
     let props = props_of(alloc, &model.types)?;
     let lookups = Lookups {
         model,
-        scope,
+        scope: &scope,
         props: &props,
         bases: &bases,
     };
-    read_references(alloc, &lookups)
+    read_names(alloc, &lookups)
+}
+
+// On names that are given twice, and then the others.
+fn read_names(alloc: Global, lookups: &Lookups<'_>) -> Result<EntityModel, Stop>
+    requires { IsScopeOf lookups.now.model.now lookups.now.scope.now }
+    ensures { Reads (IsListFault lookups.now.model.now) (meaning lookups.now.model.now) result }
+{
+    match first_repeated(alloc, lookups)? {
+        Some(fault) => Err(Stop::Fault(fault)),
+        None => read_references(alloc, lookups),
+    }
 }
 
 // On names that resolve to nothing, and then the others.

@@ -4,5 +4,6 @@ pub mod LeastFound
 pub mod PropClimbs
 pub mod PropTables
 pub mod RepeatedRule
+pub mod RepeatedTypes
 pub mod StepsLeft
 pub mod UnresolvedRule

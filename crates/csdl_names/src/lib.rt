@@ -10,6 +10,7 @@ mod tables;
 mod tests;
 mod unresolved;
 
+pub use again::first_twice;
 pub use lookups::{Lookups, PropPlace, end_of_role};
 pub use repeated::first_repeated;
 pub use tables::props_of;

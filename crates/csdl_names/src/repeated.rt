@@ -1,34 +1,50 @@
-ghost use Rattle.std.specs.Prelude.{IfOk};
+ghost use Rattle.std.specs.Prelude.{◌≡◌, IfOk};
 ghost use Rattle.least_fault.specs.Least.{IsLeast};
 ghost use Rattle.layouts.specs.Faults.{fault_cmp};
+ghost use Rattle.name_places.specs.GivenNames.{first_place};
+ghost use Rattle.name_places.specs.PlacesIn.{place_in};
 ghost use Rattle.csdl_lists.specs.Scopes.{IsScopeOf};
 ghost use Rattle.csdl_names.specs.Repeated.{IsRepeated, IsRepeatedInBoth, IsRepeatedInContainer, IsRepeatedInSchema};
 
 use crate::again::{Again, first_twice};
+use crate::lookups::Lookups;
 use csdl_lists::{RawAssociation, RawContainer, RawEnum, RawModel, RawType, Scope};
 use emc_base::{Memory, Seq};
 use layouts::Fault;
 use least_fault::{Finder, earlier};
-use name_places::{Named, places_of};
+use name_places::{Named, Places, places_of};
 use rule_places::{behind_member, first_at};
 use std::alloc::Global;
+
+/// Searches the types of a model for names that are given twice in one.
+#[derive(Clone, Copy)]
+struct InTypes<'a> {
+    lookups: &'a Lookups<'a>,
+}
+
+impl<'a> Finder<RawType, Fault> for InTypes<'a> {
+    ghost use Rattle.std.specs.Prelude.{slice_get, MatchOption};
+    ghost use Rattle.csdl_names.specs.Repeated.{IsRepeatedInType};
+
+    ghost wrong = { λ s i _ fault. MatchOption (slice_get s.lookups.now.model.now.types i) ⊥ (λ type. IsRepeatedInType i type fault) };
+
+    fn find(&self, alloc: Global, place: usize, _: &RawType) -> Result<Option<Fault>, Memory> {
+        let Some(ty) = self.lookups.model.types.get(place) else {
+            return Ok(None);
+        };
+        let Some(own) = self.lookups.props.get(place) else {
+            return Ok(None);
+        };
+        let navs = &ty.navs;
+        let props = &ty.props;
+        let found = first_in_both(alloc, "NavigationProperty", navs, "Property", props, own)?;
+        Ok(found)
+    }
+}
 
 /// Searches what stands in the items of a list for names that are given twice.
 #[derive(Clone, Copy)]
 struct Inside {}
-
-impl Finder<RawType, Fault> for Inside {
-    ghost use Rattle.csdl_names.specs.Repeated.{IsRepeatedInType};
-
-    ghost wrong = { λ _. IsRepeatedInType };
-
-    fn find(&self, alloc: Global, _: usize, item: &RawType) -> Result<Option<Fault>, Memory> {
-        let navs = &item.navs;
-        let props = &item.props;
-        let found = first_in_both(alloc, "NavigationProperty", navs, "Property", props)?;
-        Ok(found)
-    }
-}
 
 impl Finder<RawEnum, Fault> for Inside {
     ghost use Rattle.csdl_names.specs.Repeated.{IsRepeatedInEnum};
@@ -59,23 +75,25 @@ impl Finder<RawAssociation, Fault> for Inside {
     }
 }
 
-// The least of the names that are given twice in two lists, of which the first stands before the second in their scope.
+// The least of the names that are given twice in two lists, of which the first stands before the second in their scope. The places of
+// the second are known.
 fn first_in_both<T: Named, U: Named>(
     alloc: Global,
     first: &str,
     firsts: &Seq<T>,
     second: &str,
     seconds: &Seq<U>,
+    own: &Places,
 ) -> Result<Option<Fault>, Memory>
+    requires { place_in own.now ≡ first_place U.name_in seconds.now }
     ensures { IfOk result (λ found. IsLeast fault_cmp (IsRepeatedInBoth T.name_in U.name_in first.now firsts.now second.now seconds.now) found) }
 {
     let known = places_of(alloc, firsts)?;
-    let own = places_of(alloc, seconds)?;
     let found = first_twice(alloc, first, "Name", firsts, &known)?;
     let search = Again {
         others: &[&known],
         items: seconds,
-        own: &own,
+        own,
         last: "Name",
     };
     let other = search.first_again(alloc, second)?;
@@ -112,7 +130,12 @@ fn first_in_schema(alloc: Global, model: &RawModel, scope: &Scope) -> Result<Opt
 }
 
 // The least of the names of sets that are given twice.
-fn first_in_container(alloc: Global, container: &RawContainer) -> Result<Option<Fault>, Memory>
+fn first_in_container(
+    alloc: Global,
+    container: &RawContainer,
+    scope: &Scope,
+) -> Result<Option<Fault>, Memory>
+    requires { place_in scope.now.sets ≡ first_place (λ set. set.name) container.now.sets }
     ensures { IfOk result (λ found. IsLeast fault_cmp (IsRepeatedInContainer container.now) found) }
 {
     let found = first_in_both(
@@ -121,24 +144,23 @@ fn first_in_container(alloc: Global, container: &RawContainer) -> Result<Option<
         &container.association_sets,
         "EntitySet",
         &container.sets,
+        &scope.sets,
     )?;
     Ok(found)
 }
 
 /// The least of the names that are given twice in their scope. Of two names the later one is told, in the order of places.
 /// `Memory` comes where memory ran out.
-pub fn first_repeated(
-    alloc: Global,
-    model: &RawModel,
-    scope: &Scope,
-) -> Result<Option<Fault>, Memory>
-    requires { IsScopeOf model.now scope.now }
-    ensures { IfOk result (λ found. IsLeast fault_cmp (IsRepeated model.now) found) }
+pub fn first_repeated(alloc: Global, lookups: &Lookups<'_>) -> Result<Option<Fault>, Memory>
+    requires { IsScopeOf lookups.now.model.now lookups.now.scope.now }
+    ensures { IfOk result (λ found. IsLeast fault_cmp (IsRepeated lookups.now.model.now) found) }
 {
+    let model = lookups.model;
+    let scope = lookups.scope;
     let schema = first_in_schema(alloc, model, scope)?;
-    let inside = first_in_container(alloc, &model.container)?;
+    let inside = first_in_container(alloc, &model.container, scope)?;
     let container = behind_member(alloc, "EntityContainer", inside)?;
-    let types = first_at(alloc, "EntityType", &Inside {}, &model.types)?;
+    let types = first_at(alloc, "EntityType", &InTypes { lookups }, &model.types)?;
     let enums = first_at(alloc, "EnumType", &Inside {}, &model.enums)?;
     let roles = first_at(alloc, "Association", &Inside {}, &model.associations)?;
     let in_items = earlier(types, earlier(enums, roles));

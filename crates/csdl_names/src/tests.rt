@@ -1,5 +1,3 @@
-ghost use Rattle.csdl_lists.specs.Scopes.{IsScopeOf};
-
 use crate::{Lookups, first_repeated, first_unresolved, props_of};
 use csdl_lists::{RawModel, Scope, bases_of};
 use emc_base::{Bin, Txt};
@@ -172,29 +170,22 @@ fn pointer(rt: &impl Abort, alloc: Global, fault: Option<Fault>, rule: u8) -> Op
     Some(pointer_of(alloc, fault.place.as_slice()).expect(rt, "memory"))
 }
 
-// The least name that resolves to nothing.
-fn unresolved(rt: &impl Abort, alloc: Global, model: &RawModel, scope: &Scope) -> Option<Fault>
-    requires { IsScopeOf model.now scope.now }
-{
-    let props = props_of(alloc, &model.types).expect(rt, "memory");
-    let bases = bases_of(alloc, model, scope).expect(rt, "memory");
-    let lookups = Lookups {
-        model,
-        scope,
-        props: &props,
-        bases: &bases,
-    };
-    first_unresolved(alloc, &lookups).expect(rt, "memory")
-}
-
 // That just this is told of a document.
 fn tells(rt: &impl Abort, alloc: Global, (text, again, lost): Case) {
     let bytes = Bin::of(alloc, text.as_bytes()).expect(rt, "memory");
     let doc = Doc::of_bytes(alloc, &bytes).expect(rt, "no document");
     let model = RawModel::read(alloc, doc.root()).expect(rt, "memory");
     let scope = Scope::of(alloc, &model).expect(rt, "memory");
-    let repeated = first_repeated(alloc, &model, &scope).expect(rt, "memory");
-    let unresolved = unresolved(rt, alloc, &model, &scope);
+    let props = props_of(alloc, &model.types).expect(rt, "memory");
+    let bases = bases_of(alloc, &model, &scope).expect(rt, "memory");
+    let lookups = Lookups {
+        model: &model,
+        scope: &scope,
+        props: &props,
+        bases: &bases,
+    };
+    let repeated = first_repeated(alloc, &lookups).expect(rt, "memory");
+    let unresolved = first_unresolved(alloc, &lookups).expect(rt, "memory");
     let told = pointer(rt, alloc, repeated, 6);
     assert_eq!(rt; told.as_ref().map(Txt::as_str), again, "V6 of {text}");
     let told = pointer(rt, alloc, unresolved, 7);

@@ -79,6 +79,9 @@ fn first_inherited<T: Named>(
 ) -> Result<Option<usize>, Memory>
     ensures { IfOk result (IsLeast nat_cmp (IsItemAbove T.name_in types.now above.now items.now)) }
 {
+    if above.is_empty() {
+        return Ok(None);
+    }
     let own = first_places(alloc, items)?;
     let found = first_among(alloc, &TypesAbove { types, own: &own }, above)?;
     Ok(found)

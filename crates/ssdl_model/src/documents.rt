@@ -207,7 +207,12 @@ pub(crate) const GIVEN_TWICE: [Case; 13] = [
 ];
 
 /// Names that resolve to nothing, ends that lead to no table, and some that do.
-pub(crate) const UNRESOLVED: [Case; 13] = [
+pub(crate) const UNRESOLVED: [Case; 14] = [
+    (
+        "a table whose type is an empty text",
+        &[(r#""EntityType":"S.T.Book"}"#, r#""EntityType":""}"#)],
+        Some((7, "/Association/0/End/1/Type")),
+    ),
     (
         "a table of no type",
         &[(
@@ -328,7 +333,12 @@ pub(crate) const UNRESOLVED: [Case; 13] = [
 ];
 
 /// Types of columns, bounds and keys.
-pub(crate) const COLUMNS: [Case; 22] = [
+pub(crate) const COLUMNS: [Case; 23] = [
+    (
+        "a column whose type is an empty text",
+        &[(r#""Type":"varbinary(max)""#, r#""Type":"""#)],
+        Some((21, "/EntityType/0/Property/4/Type")),
+    ),
     (
         "a bound of none",
         &[(r#""MaxLength":80"#, r#""MaxLength":0"#)],

@@ -93,7 +93,7 @@ fn first_given_twice(alloc: Global, owners: &Owners<'_>) -> Result<Option<Fault>
     ensures { IfOk result (λ found. IsLeast fault_cmp (IsGivenTwice owners.now.lookups.now.model.now) found) }
 {
     let lookups = owners.lookups;
-    let repeated = first_repeated(alloc, lookups.model, lookups.scope)?;
+    let repeated = first_repeated(alloc, lookups)?;
     let shared = first_shared(alloc, owners)?;
     Ok(earlier(repeated, shared))
 }

@@ -18,6 +18,10 @@ module _ (names : Names) (model : RawModel) where
   abbrev pub BreaksForeignKey : RawAssociation → RawConstraint → Type 0
   BreaksForeignKey association constraint = BreaksListsOr names model column_type association constraint ⊥
 
+  -- the same of an association, which has no lists where it has no constraint
+  abbrev pub IsUnlike : RawAssociation → Type 0
+  IsUnlike association = MatchOption association.constraint ⊥ (BreaksForeignKey association)
+
   -- each column of a type is matched with itself
   abbrev pub PointsToItself : RawAssociation → RawConstraint → Type 0
   PointsToItself association constraint =
@@ -26,8 +30,7 @@ module _ (names : Names) (model : RawModel) where
 
   -- V24, seen from the association
   abbrev pub IsUnlikeFault : RawAssociation → Fault → Type 0
-  IsUnlikeFault association fault =
-      MatchOption association.constraint ⊥ (BreaksForeignKey association) × IsAt ForeignKey (Member (codes "ReferentialConstraint") ∷ []) fault
+  IsUnlikeFault association fault = IsUnlike association × IsAt ForeignKey (Member (codes "ReferentialConstraint") ∷ []) fault
 
   -- V25, seen from the association
   abbrev pub IsItselfFault : RawAssociation → Fault → Type 0

@@ -1,6 +1,6 @@
 ghost use Rattle.std.specs.Prelude.{◌≡◌, ◌↔◌, ℕ, List, IfOk, IsTrue, MatchOption};
 ghost use Rattle.csdl_lists.specs.References.{names_in};
-ghost use Rattle.ssdl_rules.specs.ForeignKeys.{BreaksForeignKey, PointsToItself};
+ghost use Rattle.ssdl_rules.specs.ForeignKeys.{IsUnlike, PointsToItself};
 
 use csdl_constraints::{Sides, breaks_lists};
 use csdl_lists::{RawAssociation, RawConstraint};
@@ -44,7 +44,7 @@ impl<'a> Finder<RawAssociation, Fault> for ForeignKeys<'a> {
 
 // Whether the lists of a foreign key don't match.
 fn is_unlike(alloc: Global, sides: &Sides<'_>, association: &RawAssociation) -> Result<bool, Memory>
-    ensures { IfOk result (λ answer. IsTrue answer ↔ MatchOption association.now.constraint ⊥ (BreaksForeignKey (names_in sides.now.lookups.now.model.now) sides.now.lookups.now.model.now association.now)) }
+    ensures { IfOk result (λ answer. IsTrue answer ↔ IsUnlike (names_in sides.now.lookups.now.model.now) sides.now.lookups.now.model.now association.now) }
 {
     let Some(constraint) = &association.constraint else {
         return Ok(false);

@@ -6,16 +6,16 @@ use Rattle.csdl_meaning.specs.ModelMeaning.{meaning}
 use Rattle.csdl_model.specs.ModelFaults.{IsFaultAfterNames}
 use Rattle.told_rules.proofs.Readings.{goes_on, stops_there}
 use Rattle.csdl_model.proofs.RuleNumbers.{after_repeated}
-use Rattle.csdl_model.proofs.reading.read_lists.Goals as goal
+use Rattle.csdl_model.proofs.reading.read_names.Goals as goal
 
 pub returns-in-Some : goal.returns-in-Some
 returns-in-Some c =
-    let model = c.args.model.now in
+    let model = c.args.lookups.now.model.now in
     let found : IsLeast fault_cmp (IsRepeated model) (Some c.in-Some.fault) = subst (IsLeast fault_cmp (IsRepeated model)) c.in-Some.is c.in_ok-fault.ensures in
     stops_there (IsRepeated model) (IsFaultAfterNames model) (meaning model) c.in-Some.fault found (λ other. after_repeated model other c.in-Some.fault found.0)
 
-pub returns : goal.returns
-returns c =
-    let model = c.args.model.now in
+pub returns-in-None : goal.returns-in-None
+returns-in-None c =
+    let model = c.args.lookups.now.model.now in
     let none : IsLeast fault_cmp (IsRepeated model) None = subst (IsLeast fault_cmp (IsRepeated model)) c.in-None.is c.in_ok-fault.ensures in
-    goes_on (IsRepeated model) (IsFaultAfterNames model) (meaning model) c.read_in_scope.result none c.read_in_scope.ensures
+    goes_on (IsRepeated model) (IsFaultAfterNames model) (meaning model) c.read_references.result none c.read_references.ensures

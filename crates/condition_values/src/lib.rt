@@ -1,0 +1,9 @@
+//! The value that the text of a mapping's condition gives for a property or a column of some kind.
+#![tactic(auto)]
+
+mod numbers;
+#[cfg(test)]
+mod tests;
+mod values;
+
+pub use values::value_of;

@@ -1,0 +1,27 @@
+-- Names that are given twice in a type, looked for at the place of the type.
+use Rattle.std.proofs.Common.{◌≡◌, ◌↔◌, ℕ, codes, slice_get, MatchOption, Option, Some, sym, subst}
+use Rattle.least_fault.specs.Least.{IsLeast}
+use Rattle.least_fault.proofs.Leasts.{least_same}
+use Rattle.layouts.specs.declared.fault.Fault.{Fault}
+use Rattle.layouts.specs.Faults.{fault_cmp}
+use Rattle.rule_places.specs.Places.{InList}
+use Rattle.rule_places.proofs.Rules.{in_list_at}
+use Rattle.csdl_lists.specs.declared.raw.RawModel.{RawModel}
+use Rattle.csdl_lists.specs.declared.raw.RawType.{RawType}
+use Rattle.csdl_names.specs.Repeated.{IsRepeatedInType}
+
+module _ (model : RawModel) where
+  -- what is wrong with the type at a place, whatever stands beside
+  abbrev pub IsWrongAt : ℕ → RawType → Fault → Type 0
+  IsWrongAt i other fault = MatchOption (slice_get model.types i) ⊥ (λ type. IsRepeatedInType i type fault)
+
+  at_place : (i : ℕ) (type : RawType) (fault : Fault) (found : Option RawType) → found ≡ Some type
+      → (MatchOption found ⊥ (λ other. IsRepeatedInType i other fault) ↔ IsRepeatedInType i type fault)
+  at_place i type fault found is =
+      subst (λ (other : Option RawType). MatchOption other ⊥ (λ one. IsRepeatedInType i one fault) ↔ IsRepeatedInType i type fault) (sym is) (λ holds. holds, λ holds. holds)
+
+  pub types_found : (found : Option Fault) → IsLeast fault_cmp (InList (codes "EntityType") IsWrongAt model.types) found
+      → IsLeast fault_cmp (InList (codes "EntityType") IsRepeatedInType model.types) found
+  types_found found = least_same fault_cmp (InList (codes "EntityType") IsWrongAt model.types) (InList (codes "EntityType") IsRepeatedInType model.types) found
+      (in_list_at (codes "EntityType") IsWrongAt IsRepeatedInType model.types (λ i type here fault. (at_place i type fault (slice_get model.types i) here).0))
+      (in_list_at (codes "EntityType") IsRepeatedInType IsWrongAt model.types (λ i type here fault. (at_place i type fault (slice_get model.types i) here).1))

@@ -1,0 +1,5 @@
+pub mod Alone
+pub mod Linking
+pub mod Lists
+pub mod Moving
+pub mod Numbering

@@ -1,0 +1,14 @@
+//! What is written in an MSL document, as lists.
+#![tactic(auto)]
+
+mod named;
+mod picks;
+mod raw;
+#[cfg(test)]
+mod tests;
+
+pub use picks::read_picks;
+pub use raw::{
+    RawCond, RawEndMapping, RawFragment, RawLinkMapping, RawMapping, RawPair, RawPick,
+    RawSetMapping, RawTypeMapping,
+};

@@ -1,0 +1,6 @@
+pub mod Declared
+pub mod Inherits
+pub mod Listed
+pub mod LookUps
+pub mod Rests
+pub mod SoundStaff

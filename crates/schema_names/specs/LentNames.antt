@@ -1,0 +1,11 @@
+-- The places of names that a closure lends.
+use Rattle.std.specs.Prelude.{◌≡◌, ℕ, List}
+use Rattle.std.specs.Borrow.{Bor}
+use Rattle.name_places.specs.declared.places.Places.{Places}
+use Rattle.name_places.specs.GivenNames.{first_place}
+use Rattle.name_places.specs.PlacesIn.{place_in}
+
+-- where the name is given first that is lent of each item, whichever name of an item that is
+abbrev pub ArePlacesBy : {T : Type 0} → (Bor T → Bor (List ℕ) → Type 0) → List T → Places → Type 0
+ArePlacesBy {T} Lends items places =
+    (name_in : T → List ℕ) → ((item : Bor T) (name : Bor (List ℕ)) → Lends item name → name.now ≡ name_in item.now) → place_in places ≡ first_place name_in items

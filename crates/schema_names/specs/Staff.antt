@@ -1,0 +1,90 @@
+-- The model that the tests are about: persons, employees, who are persons, and managers, who are employees; and who is whose boss.
+use Rattle.std.specs.Prelude.{ℕ, List, [], ◌∷◌, map, codes, false, Option, Some, None}
+use Rattle.emc_base.specs.declared.value.Kind.TheVariants as kind
+use Rattle.edm_types.specs.declared.model.Mult.TheVariants.{Many, ZeroOrOne}
+use Rattle.edm_types.specs.declared.model.TypeNode.{roll-TypeNode}
+use Rattle.edm_types.specs.Forest.{type_numbered}
+use Rattle.round_trip.specs.Words.{TypeId, EntityModel, EntityType, Prop, TypeNode, EntitySet, Assoc, End, Mult}
+use Rattle.soundness.specs.Inheritance.{prop_numbered}
+
+-- a type whose key is the second property, by its name, base and properties
+abbrev pub type_of : List ℕ → Option TypeId → List ℕ → EntityType
+type_of name base props = record { name = name; base = base; is_abstract = false; key = prop_numbered 1 ∷ []; props = map prop_numbered props; navs = [] }
+
+-- a property by the type that declares it, and its name
+abbrev pub prop_of : TypeId → List ℕ → Prop
+prop_of owner name = record { owner = owner; name = name; kind = kind.Int32; nullable = false }
+
+-- the node of a type
+abbrev pub node_of : TypeId → List TypeNode → TypeNode
+node_of t children = roll-TypeNode (record { id = t; is_abstract = false; children = children })
+
+-- a set by its name and element type
+abbrev pub set_of : List ℕ → TypeId → EntitySet
+set_of name element = record { name = name; element = element }
+
+-- an end by its role, set, type and multiplicity
+abbrev pub end_of : List ℕ → ℕ → TypeId → Mult → End
+end_of role set type mult = record { role = role; set = record { index = set }; ty = type; mult = mult }
+
+-- the three types, and their ids
+abbrev pub person : TypeId
+person = type_numbered 0
+
+abbrev pub employee : TypeId
+employee = type_numbered 1
+
+abbrev pub manager : TypeId
+manager = type_numbered 2
+
+abbrev pub person_type : EntityType
+person_type = type_of (codes "Person") None (1 ∷ 3 ∷ [])
+
+abbrev pub employee_type : EntityType
+employee_type = type_of (codes "Employee") (Some person) (1 ∷ 3 ∷ 0 ∷ [])
+
+abbrev pub manager_type : EntityType
+manager_type = type_of (codes "Manager") (Some employee) (1 ∷ 3 ∷ 0 ∷ 2 ∷ [])
+
+abbrev pub staff_types : List EntityType
+staff_types = person_type ∷ employee_type ∷ manager_type ∷ []
+
+-- what they declare
+abbrev pub staff_props : List Prop
+staff_props = prop_of employee (codes "Salary") ∷ prop_of person (codes "Id") ∷ prop_of manager (codes "Bonus") ∷ prop_of person (codes "Number") ∷ []
+
+-- their trees
+abbrev pub manager_node : TypeNode
+manager_node = node_of manager []
+
+abbrev pub employee_node : TypeNode
+employee_node = node_of employee (manager_node ∷ [])
+
+abbrev pub person_node : TypeNode
+person_node = node_of person (employee_node ∷ [])
+
+-- the sets
+abbrev pub staff_sets : List EntitySet
+staff_sets = set_of (codes "People") person ∷ set_of (codes "Heads") manager ∷ []
+
+-- each employee has a manager at most
+abbrev pub bosses : Assoc
+bosses = record {
+  set_name = codes "Bosses";
+  assoc_name = codes "Boss";
+  first = end_of (codes "Worker") 0 employee Many;
+  second = end_of (codes "Head") 1 manager ZeroOrOne;
+  constraint = None;
+}
+
+abbrev pub staff : EntityModel
+staff = record {
+  namespace = codes "Firm";
+  alias = Some (codes "F");
+  container = codes "C";
+  types = staff_types;
+  props = staff_props;
+  forest = person_node ∷ [];
+  sets = staff_sets;
+  assocs = bosses ∷ [];
+}

@@ -1,0 +1,14 @@
+//! The names that documents over a schema use, looked up in its entity model and its store.
+#![tactic(auto)]
+
+mod ends;
+mod lent_names;
+mod local_names;
+mod names;
+mod own_props;
+mod tables;
+#[cfg(test)]
+mod tests;
+
+pub use ends::WhichEnd;
+pub use names::SchemaNames;

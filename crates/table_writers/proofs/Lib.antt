@@ -1,0 +1,5 @@
+pub mod Agreeing
+pub mod FirstOfKey
+pub mod Orders
+pub mod Pairs
+pub mod Writing

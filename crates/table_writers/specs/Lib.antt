@@ -1,0 +1,2 @@
+pub mod Ownerships
+pub mod Writers
