@@ -1,0 +1,6 @@
+pub mod Apart
+pub mod Grouping
+pub mod Lists
+pub mod Placed
+pub mod Placing
+pub mod Writing

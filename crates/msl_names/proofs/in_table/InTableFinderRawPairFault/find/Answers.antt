@@ -1,0 +1,11 @@
+use Rattle.std.proofs.Common.{codes, ap, ◌∙◌}
+use Rattle.schema_names.specs.SchemaNames.{column_named}
+use Rattle.msl_names.proofs.Named.{names_nothing}
+use Rattle.msl_names.proofs.in_table.InTableFinderRawPairFault.find.Goals as goal
+
+pub returns : goal.returns
+returns c =
+    let self = c.args.self.now in
+    let column = column_named self.names.now.store.now self.table in
+    names_nothing c.column_named-col.result (column c.args.item.now.col) (codes "ColumnName") c.in_ok-found.found (c.column_named-col.ensures ∙ ap column c.as_str.ensures.text)
+    c.in_ok-found.ensures
