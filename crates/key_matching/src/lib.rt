@@ -1,0 +1,8 @@
+//! Whether some of the pairs of a fragment match the properties of a key with the columns of a primary key, one for one.
+#![tactic(auto)]
+
+mod matching;
+#[cfg(test)]
+mod tests;
+
+pub use matching::matches;

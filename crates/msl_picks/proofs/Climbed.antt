@@ -1,0 +1,76 @@
+-- A type and what stands above it: by a climb over base types, each type is asked whether it is the wanted one.
+use Rattle.std.proofs.Common.{◌≡◌, ◌≢◌, ◌⊎◌, ⊎_elim, inl, inr, ◌↔◌, ℕ, MatchOption, Option, Some, None, option_map, slice_get, refl, sym, ap, subst, ◌∙◌}
+use Rattle.std.specs.Option.{option_and_then}
+use Rattle.edm_types.specs.Forest.{type_numbered}
+use Rattle.edm_types.specs.IsA.{same, base, chain}
+use Rattle.round_trip.specs.Words.{EntityModel, EntityType, TypeId, HasBase, IsA}
+use Rattle.schema_names.specs.Inherited.{base_place}
+
+module _ (model : EntityModel) where
+  -- the base type at a place
+  has_base : (i j : ℕ) → base_place model i ≡ Some j → HasBase model (type_numbered i) (type_numbered j)
+  has_base i j = by (slice_get model.types i) refl
+    where
+      base_is : (type : EntityType) (from : Option TypeId) → type.base ≡ from → option_map (λ u. u.index) from ≡ Some j → type.base ≡ Some (type_numbered j)
+      base_is type None is none = absurd cc
+      base_is type (Some t) is one = is ∙ ap (λ (found : Option ℕ). option_map type_numbered found) one
+
+      by : (found : Option EntityType) → slice_get model.types i ≡ found → option_map (λ u. u.index) (option_and_then (λ type. type.base) found) ≡ Some j → HasBase model (type_numbered i) (type_numbered j)
+      by None at none = absurd cc
+      by (Some type) at one = (type, at, base_is type type.base refl one)
+
+  -- and back
+  base_here : (t u : TypeId) → HasBase model t u → base_place model t.index ≡ Some u.index
+  base_here t u has =
+      ap (λ (found : Option EntityType). option_map (λ (v : TypeId). v.index) (option_and_then (λ type. type.base) found)) has.1
+      ∙ ap (λ (found : Option TypeId). option_map (λ (v : TypeId). v.index) found) has.2
+
+  -- what a type is derived from it is itself, or its base type is derived from that
+  first_step : (t u : TypeId) → IsA model t u → (t.index ≡ u.index) ⊎ ((v : TypeId) × HasBase model t v × IsA model v u)
+  first_step t u (same _) = inl refl
+  first_step t u (base _ _ has) = inr (u, has, same u)
+  first_step t u (chain _ v _ first second) = ⊎_elim
+      (λ (one : t.index ≡ v.index).
+      let P : TypeId → Type 0 = λ s. (s.index ≡ u.index) ⊎ ((w : TypeId) × HasBase model s w × IsA model w u) in
+      let alike : t ≡ v = λ k. record { index = one k } in
+      subst P (sym alike) (first_step v u second))
+      (λ (step : (w : TypeId) × HasBase model t w × IsA model w v). inr (step.0, step.1, chain step.0 v u step.2 second))
+      (first_step t v first)
+
+  module _ (wanted : TypeId) where
+    -- the type at a place is derived from the wanted one
+    abbrev pub IsBelow : ℕ → Type 0
+    IsBelow t = IsA model (type_numbered t) wanted
+
+    -- a type that isn't the wanted one is derived from it by its base type
+    by_base : (t : ℕ) → t ≢ wanted.index → IsBelow t ↔ MatchOption (base_place model t) ⊥ IsBelow
+    by_base t other = (down, up (base_place model t) refl)
+      where
+        down : IsBelow t → MatchOption (base_place model t) ⊥ IsBelow
+        down is = ⊎_elim
+            (λ (one : t ≡ wanted.index). absurd (other one))
+            (λ (step : (v : TypeId) × HasBase model (type_numbered t) v × IsA model v wanted).
+            let P : Option ℕ → Type 0 = λ found. MatchOption found ⊥ IsBelow in
+            subst P (sym (base_here (type_numbered t) step.0 step.1)) step.2)
+            (first_step (type_numbered t) wanted is)
+
+        up : (found : Option ℕ) → base_place model t ≡ found → MatchOption found ⊥ IsBelow → IsBelow t
+        up None root none = absurd none
+        up (Some j) here is = chain (type_numbered t) (type_numbered j) wanted (base (type_numbered t) (type_numbered j) (has_base t j here)) is
+
+    -- the climb may go on from the base type
+    pub climbed : (T : Type 0) (place : ℕ) (next after : Option ℕ) → next ≡ Some place → after ≡ base_place model place → place ≢ wanted.index
+        → (T ↔ MatchOption next ⊥ IsBelow) → (T ↔ MatchOption after ⊥ IsBelow)
+    climbed T place next after here above other known =
+        let P : Option ℕ → Type 0 = λ found. T ↔ MatchOption found ⊥ IsBelow in
+        let now : T ↔ IsBelow place = subst P here known in
+        let step = by_base place other in
+        subst P (sym above) (λ holds. step.0 (now.0 holds), λ holds. now.1 (step.1 holds))
+
+    -- the climb reached the wanted type
+    pub reached : (T : Type 0) (place : ℕ) (next : Option ℕ) → next ≡ Some place → place ≡ wanted.index → (T ↔ MatchOption next ⊥ IsBelow) → T
+    reached T place next here one known =
+        let P : Option ℕ → Type 0 = λ found. T ↔ MatchOption found ⊥ IsBelow in
+        let now : T ↔ IsBelow place = subst P here known in
+        let alike : type_numbered place ≡ wanted = λ k. record { index = one k } in
+        now.1 (subst (λ (t : TypeId). IsA model t wanted) (sym alike) (same wanted))

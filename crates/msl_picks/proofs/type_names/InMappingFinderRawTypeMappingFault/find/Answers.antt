@@ -1,0 +1,13 @@
+use Rattle.std.proofs.Common.{List, codes, subst}
+use Rattle.least_fault.specs.Least.{IsLeast}
+use Rattle.layouts.specs.Faults.{fault_cmp}
+use Rattle.rule_places.specs.Places.{InList}
+use Rattle.msl_lists.specs.declared.raw.RawPick.{RawPick}
+use Rattle.msl_rules.specs.NameRules.{IsSharedFault}
+use Rattle.msl_picks.proofs.type_names.InMappingFinderRawTypeMappingFault.find.Goals as goal
+
+pub returns : goal.returns
+returns c =
+    let model = c.args.self.now.names.now.model.now in
+    let P : List RawPick → Type 0 = λ picks. IsLeast fault_cmp (InList (codes "MappingFragment") (IsSharedFault model picks) c.args.item.now.fragments) c.in_ok-found.found in
+    subst P c.as_slice.ensures.items c.in_ok-found.ensures

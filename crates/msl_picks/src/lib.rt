@@ -1,0 +1,14 @@
+//! What a mapping picks: types of its sets, properties that those types share, and the association of each association set.
+#![tactic(auto)]
+
+mod derived;
+mod link;
+mod shared;
+#[cfg(test)]
+mod staff;
+#[cfg(test)]
+mod tests;
+mod type_names;
+
+pub use link::first_other_association;
+pub use type_names::first_type_name_fault;
