@@ -1,21 +1,21 @@
 -- V29, V30, V33 to V35, V38 and V39 of the fragments of entities: what a fragment writes, and its conditions.
 -- Source: MSL version 3, MappingFragment, ScalarProperty and Condition. That the primary key is written whole, what a Value may be, and that no
 -- condition is on a key, is the profile's choice.
-use Rattle.std.specs.Prelude.{◌≡◌, ◌⊎◌, ℕ, List, [], ◌∷◌, map, codes, All, Contains, Option, Some, MatchOption}
+use Rattle.std.specs.Prelude.{◌≡◌, ◌⊎◌, ℕ, List, [], ◌∷◌, codes, Contains, Option, Some, MatchOption}
 use Rattle.std.specs.Option.{is_some}
-use Rattle.emc_base.specs.Lists.{HoldsEachOnce}
 use Rattle.json_form.specs.declared.pointer.Step.TheVariants.{Member}
 use Rattle.layouts.specs.declared.fault.Fault.{Fault}
 use Rattle.layouts.specs.declared.rule.Rule.TheVariants as rule
 use Rattle.rule_places.specs.Places.{IsAt, InList}
 use Rattle.name_places.specs.GivenNames.{IsGivenBefore}
-use Rattle.round_trip.specs.Words.{PropId, ColId, Value, Kind, CondOn, Pair, Schema, key_columns}
+use Rattle.round_trip.specs.Words.{PropId, Value, Kind, CondOn, Schema, key_columns}
 use Rattle.edm_types.specs.declared.mapping.CondOn.TheVariants as on
 use Rattle.soundness.specs.Lookups.{set_key}
 use Rattle.soundness.specs.Fragments.{WritesToFitting}
 use Rattle.soundness.specs.Joined.{ComparesNoBarred, WritesNoBarredEnum}
 use Rattle.schema_names.specs.SchemaNames.{set_named, table_named}
 use Rattle.condition_values.specs.Spelled.{IsSpelled}
+use Rattle.key_matching.specs.Matchings.{Matches}
 use Rattle.msl_lists.specs.declared.raw.RawPair.{RawPair}
 use Rattle.msl_lists.specs.declared.raw.RawCond.{RawCond}
 use Rattle.msl_lists.specs.declared.raw.RawFragment.{RawFragment}
@@ -32,13 +32,6 @@ IsIllFormed cond = (is_some cond.prop ≡ is_some cond.col) ⊎ (is_some cond.va
 -- V39: the property of a pair, or its column, was written before in the list
 abbrev pub IsWrittenBefore : List RawPair → ℕ → RawPair → Type 0
 IsWrittenBefore pairs k pair = IsGivenBefore (λ other. other.prop) pairs k pair ⊎ IsGivenBefore (λ other. other.col) pairs k pair
-
--- V30: some of the pairs write each property of the key once to a column of the primary key, each of them once
-pub record WritesWholeKey (key : List PropId) (cols : List ColId) (pairs : List Pair) : Type 0 where
-  pub chosen : List Pair
-  pub among : All (Contains pairs) chosen
-  pub props : HoldsEachOnce key (map (λ pair. pair.prop) chosen)
-  pub columns : HoldsEachOnce cols (map (λ pair. pair.col) chosen)
 
 -- in a schema, by what a name of a property stands for, and in the table at this place
 module _ (schema : Schema) (named : List ℕ → Option PropId) (t : ℕ) where
@@ -81,10 +74,10 @@ module _ (schema : Schema) (named : List ℕ → Option PropId) (t : ℕ) where
   IsEnumFault k pair fault = MatchOption (pair_in schema.model schema.store named t pair) ⊥ (λ found. ¬ WritesNoBarredEnum schema found) × IsAt rule.ForeignValue [] fault
 
 module _ (schema : Schema) where
-  -- V30 of a fragment, of the set and to the table at these places
+  -- V30 of a fragment, of the set and to the table at these places: no pairs match the set's key with the primary key
   abbrev pub IsKeyUnwritten : RawTypeMapping → RawFragment → ℕ → ℕ → Type 0
   IsKeyUnwritten types fragment s t =
-      ¬ WritesWholeKey (set_key schema.model (set_numbered s)) (key_columns schema.store (table_numbered t))
+      ¬ Matches (set_key schema.model (set_numbered s)) (key_columns schema.store (table_numbered t))
       (pairs_in schema.model schema.store (prop_of_picks schema.model types.picks) t fragment.pairs)
 
   -- all these rules of a fragment, of the set and to the table at these places

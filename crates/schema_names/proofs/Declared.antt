@@ -16,7 +16,7 @@ use Rattle.schema_names.specs.OwnProps.{AddsProp, AreOwnProps, HaveNoProps, prop
 use Rattle.schema_names.specs.SchemaNames.{has_name}
 
 -- nothing behind what was found
-pub or_none : {X : Type 0} (found : Option X) → option_or found None ≡ found
+or_none : {X : Type 0} (found : Option X) → option_or found None ≡ found
 or_none None = refl
 or_none (Some x) = refl
 

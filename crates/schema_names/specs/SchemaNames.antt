@@ -36,7 +36,7 @@ NamesAssociation model text = MatchOption (local_name model text) ⊥ (λ name. 
 abbrev pub IsOfAssociation : EntityModel → ℕ → List ℕ → Type 0
 IsOfAssociation model place text = (assoc : Assoc) × At model.assocs place assoc × (local_name model text ≡ Some assoc.assoc_name)
 
--- the end of an association that has a role
+-- the end of an association that has a role; the first where both have it
 abbrev pub end_of_role : Assoc → List ℕ → Option WhichEnd
 end_of_role assoc role = if bytes_eq role assoc.first.role then Some First else (if bytes_eq role assoc.second.role then Some Second else None)
 

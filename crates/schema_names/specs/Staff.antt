@@ -27,43 +27,51 @@ set_of name element = record { name = name; element = element }
 abbrev pub end_of : List ℕ → ℕ → TypeId → Mult → End
 end_of role set type mult = record { role = role; set = record { index = set }; ty = type; mult = mult }
 
--- the three types, and their ids
+-- the type of persons, by its id
 abbrev pub person : TypeId
 person = type_numbered 0
 
+-- that of employees
 abbrev pub employee : TypeId
 employee = type_numbered 1
 
+-- that of managers
 abbrev pub manager : TypeId
 manager = type_numbered 2
 
+-- a person has an Id, which is the key, and a Number
 abbrev pub person_type : EntityType
 person_type = type_of (codes "Person") None (1 ∷ 3 ∷ [])
 
+-- an employee has a Salary, too
 abbrev pub employee_type : EntityType
 employee_type = type_of (codes "Employee") (Some person) (1 ∷ 3 ∷ 0 ∷ [])
 
+-- and a manager a Bonus
 abbrev pub manager_type : EntityType
 manager_type = type_of (codes "Manager") (Some employee) (1 ∷ 3 ∷ 0 ∷ 2 ∷ [])
 
+-- the three types
 abbrev pub staff_types : List EntityType
 staff_types = person_type ∷ employee_type ∷ manager_type ∷ []
 
--- what they declare
+-- the properties that they declare
 abbrev pub staff_props : List Prop
 staff_props = prop_of employee (codes "Salary") ∷ prop_of person (codes "Id") ∷ prop_of manager (codes "Bonus") ∷ prop_of person (codes "Number") ∷ []
 
--- their trees
+-- the node of managers
 abbrev pub manager_node : TypeNode
 manager_node = node_of manager []
 
+-- that of employees, above it
 abbrev pub employee_node : TypeNode
 employee_node = node_of employee (manager_node ∷ [])
 
+-- and that of persons, above both
 abbrev pub person_node : TypeNode
 person_node = node_of person (employee_node ∷ [])
 
--- the sets
+-- the set of persons and that of managers
 abbrev pub staff_sets : List EntitySet
 staff_sets = set_of (codes "People") person ∷ set_of (codes "Heads") manager ∷ []
 
@@ -77,6 +85,7 @@ bosses = record {
   constraint = None;
 }
 
+-- the model of all this
 abbrev pub staff : EntityModel
 staff = record {
   namespace = codes "Firm";
