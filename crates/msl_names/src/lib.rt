@@ -6,8 +6,6 @@ mod in_table;
 mod lacking;
 mod repeats;
 #[cfg(test)]
-mod staff;
-#[cfg(test)]
 mod tests;
 mod unresolved;
 

@@ -1,4 +1,3 @@
-use crate::staff::{staff, store};
 use crate::{first_mapped_twice, first_other_container, first_unresolved_name};
 use emc_base::{Bin, Txt};
 use from_nodes::FromNode;
@@ -6,6 +5,7 @@ use json_form::{Doc, pointer_of};
 use layouts::Fault;
 use msl_lists::RawMapping;
 use schema_names::SchemaNames;
+use staff_example::{staff, staff_store};
 use std::alloc::Global;
 use std::process::Abort;
 use std::test::Fail;
@@ -186,7 +186,7 @@ fn tells(
 #[test]
 fn tells_what_is_wrong_with_names(rt: HostRuntime) -> Result<(), Fail> {
     let model = staff(rt.alloc())?;
-    let store = store(rt.alloc())?;
+    let store = staff_store(rt.alloc())?;
     let names = SchemaNames::of(rt.alloc(), &model, &store)?;
     for case in MAPPINGS {
         tells(&rt, rt.alloc(), &names, case);

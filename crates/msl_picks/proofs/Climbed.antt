@@ -1,25 +1,14 @@
 -- A type and what stands above it: by a climb over base types, each type is asked whether it is the wanted one.
-use Rattle.std.proofs.Common.{◌≡◌, ◌≢◌, ◌⊎◌, ⊎_elim, inl, inr, ◌↔◌, ℕ, MatchOption, Option, Some, None, option_map, slice_get, refl, sym, ap, subst, ◌∙◌}
+use Rattle.std.proofs.Common.{◌≡◌, ◌≢◌, ◌⊎◌, ⊎_elim, inl, inr, ◌↔◌, ℕ, MatchOption, Option, Some, None, option_map, refl, sym, ap, subst, ◌∙◌}
 use Rattle.std.specs.Option.{option_and_then}
 use Rattle.edm_types.specs.Forest.{type_numbered}
 use Rattle.edm_types.specs.IsA.{same, base, chain}
 use Rattle.round_trip.specs.Words.{EntityModel, EntityType, TypeId, HasBase, IsA}
 use Rattle.schema_names.specs.Inherited.{base_place}
+use Rattle.schema_names.proofs.Inherits.{has_base}
 
 module _ (model : EntityModel) where
-  -- the base type at a place
-  has_base : (i j : ℕ) → base_place model i ≡ Some j → HasBase model (type_numbered i) (type_numbered j)
-  has_base i j = by (slice_get model.types i) refl
-    where
-      base_is : (type : EntityType) (from : Option TypeId) → type.base ≡ from → option_map (λ u. u.index) from ≡ Some j → type.base ≡ Some (type_numbered j)
-      base_is type None is none = absurd cc
-      base_is type (Some t) is one = is ∙ ap (λ (found : Option ℕ). option_map type_numbered found) one
-
-      by : (found : Option EntityType) → slice_get model.types i ≡ found → option_map (λ u. u.index) (option_and_then (λ type. type.base) found) ≡ Some j → HasBase model (type_numbered i) (type_numbered j)
-      by None at none = absurd cc
-      by (Some type) at one = (type, at, base_is type type.base refl one)
-
-  -- and back
+  -- a base type has its place
   base_here : (t u : TypeId) → HasBase model t u → base_place model t.index ≡ Some u.index
   base_here t u has =
       ap (λ (found : Option EntityType). option_map (λ (v : TypeId). v.index) (option_and_then (λ type. type.base) found)) has.1
@@ -56,7 +45,7 @@ module _ (model : EntityModel) where
 
         up : (found : Option ℕ) → base_place model t ≡ found → MatchOption found ⊥ IsBelow → IsBelow t
         up None root none = absurd none
-        up (Some j) here is = chain (type_numbered t) (type_numbered j) wanted (base (type_numbered t) (type_numbered j) (has_base t j here)) is
+        up (Some j) here is = chain (type_numbered t) (type_numbered j) wanted (base (type_numbered t) (type_numbered j) (has_base model t j here)) is
 
     -- the climb may go on from the base type
     pub climbed : (T : Type 0) (place : ℕ) (next after : Option ℕ) → next ≡ Some place → after ≡ base_place model place → place ≢ wanted.index

@@ -1,18 +1,13 @@
 -- Names that stand for a property in the type of each pick, or not.
-use Rattle.std.proofs.Common.{◌≡◌, ◌↔◌, ℕ, List, [], ◌∷◌, All, Option, Some, None, Bool, true, false, not, IsTrue, slice_get, refl, sym, ap, subst, ◌∙◌}
+use Rattle.std.proofs.Common.{◌≡◌, ◌↔◌, ℕ, List, [], ◌∷◌, All, Option, Some, None, not, slice_get, refl, sym, ap, subst, ◌∙◌}
 use Rattle.std.specs.Option.{option_and_then}
 use Rattle.std.proofs.lemmas.List.Elements.{All-head, All-nil, All-weaker}
-use Rattle.std.proofs.lemmas.Bool.{both_ways}
 use Rattle.std.proofs.lemmas.Option.{same_Some}
 use Rattle.round_trip.specs.Words.{EntityModel, PropId}
 use Rattle.msl_lists.specs.declared.raw.RawPick.{RawPick}
 use Rattle.schema_names.specs.SchemaNames.{prop_named, type_named}
+use Rattle.msl_picks.specs.PickedProps.{picked_prop}
 use Rattle.msl_rules.specs.NameRules.{NamesNoShared}
-
--- a test that says no where another says yes
-pub denies : {P : Type 0} (answer test : Bool) → (IsTrue test ↔ P) → answer ≡ not test → IsTrue answer ↔ (¬ P)
-denies answer true tells is = (λ yes. absurd (both_ways answer is yes), λ never. absurd (never (tells.0 refl)))
-denies answer false tells is = (λ yes holds. both_ways false refl (tells.1 holds), λ never. is)
 
 -- what is looked up in what was found
 found_in : (f : ℕ → Option PropId) (known : Option ℕ) (p : PropId) → option_and_then f known ≡ Some p → (t : ℕ) × (known ≡ Some t) × (f t ≡ Some p)
@@ -31,7 +26,7 @@ at_first P (y ∷ xs) x is all = subst P (same_Some y x is) (All-head P y xs all
 module _ (model : EntityModel) (name : List ℕ) where
   -- the property that the name stands for in the type of a pick
   abbrev pub picked : RawPick → Option PropId
-  picked pick = option_and_then (λ t. prop_named model t name) (type_named model pick.reference)
+  picked = picked_prop model name
 
   -- it is this one
   abbrev pub Picks : PropId → RawPick → Type 0

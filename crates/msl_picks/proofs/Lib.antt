@@ -1,3 +1,2 @@
-pub mod AtPlaces
 pub mod Climbed
 pub mod EachPick

@@ -5,8 +5,6 @@ mod derived;
 mod link;
 mod shared;
 #[cfg(test)]
-mod staff;
-#[cfg(test)]
 mod tests;
 mod type_names;
 

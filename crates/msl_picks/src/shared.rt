@@ -1,9 +1,8 @@
 ghost use Rattle.std.specs.Prelude.{◌≡◌, ◌↔◌, All, IfOk, IsTrue, Some};
-ghost use Rattle.std.specs.Option.{option_and_then};
-ghost use Rattle.schema_names.specs.SchemaNames.{prop_named, type_named};
 ghost use Rattle.least_fault.specs.Least.{IsLeast};
 ghost use Rattle.layouts.specs.Faults.{fault_cmp};
 ghost use Rattle.msl_rules.specs.NameRules.{IsUnsharedName, NamesNoShared};
+ghost use Rattle.msl_picks.specs.PickedProps.{picked_prop};
 
 use emc_base::{Memory, PropId, Txt};
 use layouts::{Fault, Rule};
@@ -89,7 +88,7 @@ fn names_no_shared(names: &SchemaNames<'_>, picks: &[RawPick], name: &Txt) -> bo
 
 // Whether the name stands for this property in the type of each pick.
 fn each_picks_prop(names: &SchemaNames<'_>, picks: &[RawPick], name: &Txt, shared: PropId) -> bool
-    ensures { IsTrue result ↔ All (λ pick. option_and_then (λ t. prop_named names.now.model.now t name.now) (type_named names.now.model.now pick.reference) ≡ Some shared) picks.now }
+    ensures { IsTrue result ↔ All (λ pick. picked_prop names.now.model.now name.now pick ≡ Some shared) picks.now }
 {
     picks
         .iter()
@@ -98,14 +97,14 @@ fn each_picks_prop(names: &SchemaNames<'_>, picks: &[RawPick], name: &Txt, share
 
 // Whether the name stands for this property in the type of a pick.
 fn picks_prop(names: &SchemaNames<'_>, pick: &RawPick, name: &Txt, shared: PropId) -> bool
-    ensures { IsTrue result ↔ (option_and_then (λ t. prop_named names.now.model.now t name.now) (type_named names.now.model.now pick.now.reference) ≡ Some shared) }
+    ensures { IsTrue result ↔ (picked_prop names.now.model.now name.now pick.now ≡ Some shared) }
 {
     picked_prop(names, pick, name).is_some_and(|prop| prop == shared)
 }
 
 // The property that the name stands for in the type of a pick.
 fn picked_prop(names: &SchemaNames<'_>, pick: &RawPick, name: &Txt) -> Option<PropId>
-    ensures { result ≡ option_and_then (λ t. prop_named names.now.model.now t name.now) (type_named names.now.model.now pick.now.reference) }
+    ensures { result ≡ picked_prop names.now.model.now name.now pick.now }
 {
     let ty = names.type_named(pick.reference.as_str())?;
     names.prop_named(ty, name.as_str())

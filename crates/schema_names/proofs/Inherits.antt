@@ -26,7 +26,7 @@ first_of_three (Some x) two three = refl
 
 module _ (model : EntityModel) where
   -- the base type at a place
-  has_base : (i j : ℕ) → base_place model i ≡ Some j → HasBase model (type_numbered i) (type_numbered j)
+  pub has_base : (i j : ℕ) → base_place model i ≡ Some j → HasBase model (type_numbered i) (type_numbered j)
   has_base i j = by (slice_get model.types i) refl
     where
       base_is : (type : EntityType) (base : Option TypeId) → type.base ≡ base → option_map (λ base. base.index) base ≡ Some j → type.base ≡ Some (type_numbered j)

@@ -3,4 +3,3 @@ pub mod Inherits
 pub mod Listed
 pub mod LookUps
 pub mod Rests
-pub mod SoundStaff

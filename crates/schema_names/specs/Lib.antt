@@ -2,5 +2,4 @@ pub mod Inherited
 pub mod LentNames
 pub mod OwnProps
 pub mod SchemaNames
-pub mod Staff
 pub mod Tables

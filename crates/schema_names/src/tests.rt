@@ -1,206 +1,12 @@
-ghost use Rattle.std.specs.Prelude.{◌≡◌, ◌∷◌, [], IfOk, map};
-ghost use Rattle.soundness.specs.Inheritance.{prop_numbered};
-ghost use Rattle.soundness.specs.Models.{IsSoundModel};
-ghost use Rattle.schema_names.specs.Staff.{
-  bosses,
-  end_of,
-  node_of,
-  person_node,
-  prop_of,
-  set_of,
-  staff_props,
-  staff_sets,
-  staff_types,
-  type_of,
-};
-
 use crate::{SchemaNames, WhichEnd};
-use edm_types::{
-    Assoc, Column, End, EntityModel, EntitySet, EntityType, Mult, Prop, StoreModel, Table, TypeNode,
-};
-use emc_base::{Kind, Memory, PropId, Seq, SetId, Txt, TypeId};
-use std::alloc::Global;
+use emc_base::PropId;
+use staff_example::{staff, staff_store};
 use std::test::Fail;
-
-// An employee is a person, and a manager an employee.
-const PERSON: TypeId = TypeId { index: 0 };
-
-const EMPLOYEE: TypeId = TypeId { index: 1 };
-
-const MANAGER: TypeId = TypeId { index: 2 };
-
-fn prop_ids(alloc: Global, places: &[u32]) -> Result<Seq<PropId>, Memory>
-    ensures { IfOk result (λ props. props ≡ map prop_numbered places.now) }
-{
-    let mut props = Seq::empty(alloc);
-    for index in places {
-        props.push(PropId { index: *index })?;
-    }
-    Ok(props)
-}
-
-fn entity_type(
-    alloc: Global,
-    name: &str,
-    base: Option<TypeId>,
-    props: &[u32],
-) -> Result<EntityType, Memory>
-    ensures { IfOk result (λ ty. ty ≡ type_of name.now base props.now) }
-{
-    Ok(EntityType {
-        name: Txt::of(alloc, name)?,
-        base,
-        is_abstract: false,
-        key: prop_ids(alloc, &[1])?,
-        props: prop_ids(alloc, props)?,
-        navs: Seq::empty(alloc),
-    })
-}
-
-fn types(alloc: Global) -> Result<Seq<EntityType>, Memory>
-    ensures { IfOk result (λ types. types ≡ staff_types) }
-{
-    let mut types = Seq::empty(alloc);
-    types.push(entity_type(alloc, "Person", None, &[1, 3])?)?;
-    types.push(entity_type(alloc, "Employee", Some(PERSON), &[1, 3, 0])?)?;
-    types.push(entity_type(alloc, "Manager", Some(EMPLOYEE), &[1, 3, 0, 2])?)?;
-    Ok(types)
-}
-
-fn prop(alloc: Global, owner: TypeId, name: &str) -> Result<Prop, Memory>
-    ensures { IfOk result (λ prop. prop ≡ prop_of owner name.now) }
-{
-    Ok(Prop {
-        owner,
-        name: Txt::of(alloc, name)?,
-        kind: Kind::Int32,
-        nullable: false,
-    })
-}
-
-fn props(alloc: Global) -> Result<Seq<Prop>, Memory>
-    ensures { IfOk result (λ props. props ≡ staff_props) }
-{
-    let mut props = Seq::empty(alloc);
-    props.push(prop(alloc, EMPLOYEE, "Salary")?)?;
-    props.push(prop(alloc, PERSON, "Id")?)?;
-    props.push(prop(alloc, MANAGER, "Bonus")?)?;
-    props.push(prop(alloc, PERSON, "Number")?)?;
-    Ok(props)
-}
-
-fn node(id: TypeId, children: Seq<TypeNode>) -> TypeNode
-    ensures { result ≡ node_of id children }
-{
-    TypeNode {
-        id,
-        is_abstract: false,
-        children,
-    }
-}
-
-fn forest(alloc: Global) -> Result<Seq<TypeNode>, Memory>
-    ensures { IfOk result (λ forest. forest ≡ person_node ∷ []) }
-{
-    let mut under_employee = Seq::empty(alloc);
-    under_employee.push(node(MANAGER, Seq::empty(alloc)))?;
-    let mut under_person = Seq::empty(alloc);
-    under_person.push(node(EMPLOYEE, under_employee))?;
-    let mut forest = Seq::empty(alloc);
-    forest.push(node(PERSON, under_person))?;
-    Ok(forest)
-}
-
-fn entity_set(alloc: Global, name: &str, element: TypeId) -> Result<EntitySet, Memory>
-    ensures { IfOk result (λ set. set ≡ set_of name.now element) }
-{
-    Ok(EntitySet {
-        name: Txt::of(alloc, name)?,
-        element,
-    })
-}
-
-fn sets(alloc: Global) -> Result<Seq<EntitySet>, Memory>
-    ensures { IfOk result (λ sets. sets ≡ staff_sets) }
-{
-    let mut sets = Seq::empty(alloc);
-    sets.push(entity_set(alloc, "People", PERSON)?)?;
-    sets.push(entity_set(alloc, "Heads", MANAGER)?)?;
-    Ok(sets)
-}
-
-fn end(alloc: Global, role: &str, set: u32, ty: TypeId, mult: Mult) -> Result<End, Memory>
-    ensures { IfOk result (λ end. end ≡ end_of role.now set ty mult) }
-{
-    Ok(End {
-        role: Txt::of(alloc, role)?,
-        set: SetId { index: set },
-        ty,
-        mult,
-    })
-}
-
-fn assocs(alloc: Global) -> Result<Seq<Assoc>, Memory>
-    ensures { IfOk result (λ assocs. assocs ≡ bosses ∷ []) }
-{
-    let mut assocs = Seq::empty(alloc);
-    assocs.push(Assoc {
-        set_name: Txt::of(alloc, "Bosses")?,
-        assoc_name: Txt::of(alloc, "Boss")?,
-        first: end(alloc, "Worker", 0, EMPLOYEE, Mult::Many)?,
-        second: end(alloc, "Head", 1, MANAGER, Mult::ZeroOrOne)?,
-        constraint: None,
-    })?;
-    Ok(assocs)
-}
-
-fn staff(alloc: Global) -> Result<EntityModel, Memory>
-    ensures { IfOk result IsSoundModel }
-{
-    Ok(EntityModel {
-        namespace: Txt::of(alloc, "Firm")?,
-        alias: Some(Txt::of(alloc, "F")?),
-        container: Txt::of(alloc, "C")?,
-        types: types(alloc)?,
-        props: props(alloc)?,
-        forest: forest(alloc)?,
-        sets: sets(alloc)?,
-        assocs: assocs(alloc)?,
-    })
-}
-
-fn table(alloc: Global, name: &str, columns: &[&str]) -> Result<Table, Memory> {
-    let mut cols = Seq::empty(alloc);
-    for column in columns {
-        cols.push(Column {
-            name: Txt::of(alloc, column)?,
-            kind: Kind::Int32,
-            nullable: false,
-        })?;
-    }
-    Ok(Table {
-        name: Txt::of(alloc, name)?,
-        cols,
-        key: Seq::empty(alloc),
-    })
-}
-
-fn store(alloc: Global) -> Result<StoreModel, Memory> {
-    let mut tables = Seq::empty(alloc);
-    tables.push(table(alloc, "PEOPLE", &["ID", "NUMBER"])?)?;
-    tables.push(table(alloc, "HEADS", &["ID", "BONUS", "BONUS"])?)?;
-    Ok(StoreModel {
-        namespace: Txt::of(alloc, "Store")?,
-        container: Txt::of(alloc, "C")?,
-        tables,
-        keys: Seq::empty(alloc),
-    })
-}
 
 #[test]
 fn types_and_associations_go_by_references(rt: HostRuntime) -> Result<(), Fail> {
     let model = staff(rt.alloc())?;
-    let store = store(rt.alloc())?;
+    let store = staff_store(rt.alloc())?;
     let names = SchemaNames::of(rt.alloc(), &model, &store)?;
     for (reference, want) in [
         ("Firm.Person", Some(0)),
@@ -226,7 +32,7 @@ fn types_and_associations_go_by_references(rt: HostRuntime) -> Result<(), Fail> 
 #[test]
 fn sets_roles_tables_and_columns_go_by_names(rt: HostRuntime) -> Result<(), Fail> {
     let model = staff(rt.alloc())?;
-    let store = store(rt.alloc())?;
+    let store = staff_store(rt.alloc())?;
     let names = SchemaNames::of(rt.alloc(), &model, &store)?;
     assert_eq!(rt; names.set_named("Heads"), Some(1));
     assert_eq!(rt; names.set_named("Bosses"), None);
@@ -247,7 +53,7 @@ fn sets_roles_tables_and_columns_go_by_names(rt: HostRuntime) -> Result<(), Fail
 #[test]
 fn a_type_has_the_properties_of_its_base_types(rt: HostRuntime) -> Result<(), Fail> {
     let model = staff(rt.alloc())?;
-    let store = store(rt.alloc())?;
+    let store = staff_store(rt.alloc())?;
     let names = SchemaNames::of(rt.alloc(), &model, &store)?;
     for (ty, name, want) in [
         (0usize, "Id", Some(PropId { index: 1 })),

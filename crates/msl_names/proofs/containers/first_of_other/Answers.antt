@@ -5,7 +5,7 @@ use Rattle.json_form.specs.declared.pointer.Step.TheVariants.{Member}
 use Rattle.layouts.specs.declared.rule.Rule.TheVariants.{ContainerName}
 use Rattle.rule_places.specs.Places.{IsAt}
 use Rattle.rule_places.proofs.Rules.{least_where}
-use Rattle.msl_names.proofs.Named.{denies}
+use Rattle.msl_rules.proofs.Named.{denies}
 use Rattle.msl_names.proofs.containers.first_of_other.Goals as goal
 
 pub returns : goal.returns

@@ -5,7 +5,7 @@ use Rattle.rule_places.proofs.Rules.{least_where_some}
 use Rattle.round_trip.specs.Words.{Assoc}
 use Rattle.msl_rules.specs.NameRules.{IsUnresolvedEnd}
 use Rattle.msl_names.specs.LinkNames.{IsUnresolvedInEnds}
-use Rattle.msl_names.proofs.Named.{least_at}
+use Rattle.msl_rules.proofs.Named.{least_at}
 use Rattle.msl_names.proofs.unresolved.first_in_ends.Goals as goal
 
 pub returns : goal.returns

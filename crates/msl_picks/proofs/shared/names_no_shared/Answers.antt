@@ -1,6 +1,7 @@
 use Rattle.std.proofs.Common.{◌≡◌, ◌↔◌, Some, None, All, IsTrue, not, slice_get, refl, sym, ap, ◌∙◌}
 use Rattle.std.specs.Option.{option_copied}
-use Rattle.msl_picks.proofs.EachPick.{denies, none_picked, picked, unshared}
+use Rattle.msl_rules.proofs.Named.{denies}
+use Rattle.msl_picks.proofs.EachPick.{none_picked, picked, unshared}
 use Rattle.msl_picks.proofs.shared.names_no_shared.Goals as goal
 
 pub returns-in_default : goal.returns-in_default

@@ -6,7 +6,7 @@ use Rattle.rule_places.proofs.Rules.{least_where_some}
 use Rattle.round_trip.specs.Words.{EntitySet}
 use Rattle.schema_names.specs.SchemaNames.{set_named}
 use Rattle.msl_rules.specs.NameRules.{IsPickedFault}
-use Rattle.msl_picks.proofs.AtPlaces.{least_at}
+use Rattle.msl_rules.proofs.Named.{least_at}
 use Rattle.msl_picks.proofs.type_names.first_picked.Goals as goal
 
 pub returns : goal.returns

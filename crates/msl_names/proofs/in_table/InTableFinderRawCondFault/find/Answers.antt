@@ -3,7 +3,7 @@ use Rattle.layouts.specs.declared.fault.Fault.{Fault}
 use Rattle.rule_places.proofs.Rules.{least_where_some}
 use Rattle.csdl_names.specs.Unresolved.{NamesNothing}
 use Rattle.schema_names.specs.SchemaNames.{column_named}
-use Rattle.msl_names.proofs.Named.{names_nothing}
+use Rattle.msl_rules.proofs.Named.{names_nothing}
 use Rattle.msl_names.proofs.in_table.InTableFinderRawCondFault.find.Goals as goal
 
 pub returns : goal.returns

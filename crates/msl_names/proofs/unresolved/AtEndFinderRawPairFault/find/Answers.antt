@@ -1,6 +1,6 @@
 use Rattle.std.proofs.Common.{codes, ap, ◌∙◌}
 use Rattle.schema_names.specs.SchemaNames.{prop_named}
-use Rattle.msl_names.proofs.Named.{names_nothing}
+use Rattle.msl_rules.proofs.Named.{names_nothing}
 use Rattle.msl_names.proofs.unresolved.AtEndFinderRawPairFault.find.Goals as goal
 
 pub returns : goal.returns

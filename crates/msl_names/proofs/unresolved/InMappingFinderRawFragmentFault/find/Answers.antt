@@ -5,7 +5,7 @@ use Rattle.rule_places.proofs.Rules.{least_joined, least_where_some}
 use Rattle.csdl_names.specs.Unresolved.{NamesNothing}
 use Rattle.schema_names.specs.SchemaNames.{table_named}
 use Rattle.msl_rules.specs.NameRules.{LacksColumns}
-use Rattle.msl_names.proofs.Named.{names_nothing}
+use Rattle.msl_rules.proofs.Named.{names_nothing}
 use Rattle.msl_names.proofs.unresolved.InMappingFinderRawFragmentFault.find.Goals as goal
 
 pub returns-in_default : goal.returns-in_default

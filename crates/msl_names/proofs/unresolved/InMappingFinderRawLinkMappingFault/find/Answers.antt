@@ -7,7 +7,7 @@ use Rattle.rule_places.proofs.Rules.{least_joined, least_where}
 use Rattle.csdl_names.specs.Unresolved.{NamesNothing}
 use Rattle.schema_names.specs.SchemaNames.{association_set_named, table_named, NamesAssociation}
 use Rattle.msl_names.specs.LinkNames.{IsUnresolvedInEnds, LacksLinkColumns}
-use Rattle.msl_names.proofs.Named.{denies, least_named, names_nothing}
+use Rattle.msl_rules.proofs.Named.{denies, least_named, names_nothing}
 use Rattle.msl_names.proofs.unresolved.InMappingFinderRawLinkMappingFault.find.Goals as goal
 
 pub returns : goal.returns

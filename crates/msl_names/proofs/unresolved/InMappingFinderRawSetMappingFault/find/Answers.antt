@@ -5,7 +5,7 @@ use Rattle.rule_places.proofs.Rules.{least_joined}
 use Rattle.csdl_names.specs.Unresolved.{NamesNothing}
 use Rattle.schema_names.specs.SchemaNames.{set_named}
 use Rattle.msl_rules.specs.NameRules.{IsUnresolvedTypes}
-use Rattle.msl_names.proofs.Named.{names_nothing}
+use Rattle.msl_rules.proofs.Named.{names_nothing}
 use Rattle.msl_names.proofs.unresolved.InMappingFinderRawSetMappingFault.find.Goals as goal
 
 pub returns : goal.returns

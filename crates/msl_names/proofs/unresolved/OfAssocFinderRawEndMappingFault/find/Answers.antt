@@ -8,7 +8,7 @@ use Rattle.rule_places.proofs.Rules.{least_joined, least_where, least_where_some
 use Rattle.round_trip.specs.Words.{End}
 use Rattle.msl_rules.specs.Found.{role_end}
 use Rattle.msl_rules.specs.NameRules.{LacksProp}
-use Rattle.msl_names.proofs.Named.{none_mapped}
+use Rattle.msl_rules.proofs.Named.{none_mapped}
 use Rattle.msl_names.proofs.unresolved.OfAssocFinderRawEndMappingFault.find.Goals as goal
 
 pub returns-in_default : goal.returns-in_default

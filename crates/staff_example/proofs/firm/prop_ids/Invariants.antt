@@ -1,6 +1,6 @@
 use Rattle.std.proofs.Common.{◌≡◌, map, take}
 use Rattle.soundness.specs.Inheritance.{prop_numbered}
-use Rattle.msl_names.proofs.staff.prop_ids.Given as goal
+use Rattle.staff_example.proofs.firm.prop_ids.Given as goal
 
 -- the ids of the places that were passed
 abbrev pub invariant-loop-index : goal.invariant-loop-index

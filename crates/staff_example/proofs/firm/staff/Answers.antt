@@ -1,10 +1,10 @@
 use Rattle.std.proofs.Common.{Some, sym, subst}
 use Rattle.soundness.specs.Models.{IsSoundModel}
-use Rattle.schema_names.proofs.SoundStaff.{staff_is_sound}
-use Rattle.msl_names.proofs.staff.staff.Goals as goal
+use Rattle.staff_example.proofs.SoundStaff.{staff_is_sound}
+use Rattle.staff_example.proofs.firm.staff.Goals as goal
 
-pub returns : goal.returns
-returns c = subst IsSoundModel
+pub returns-clause-sound : goal.returns-clause-sound
+returns-clause-sound c = subst IsSoundModel
     (λ i. record {
       namespace = sym c.in_ok-of.ensures i;
       alias = Some (sym c.in_ok-of-2.ensures i);

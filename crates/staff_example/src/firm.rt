@@ -1,15 +1,20 @@
 ghost use Rattle.std.specs.Prelude.{◌≡◌, ◌∷◌, [], IfOk, map};
 ghost use Rattle.soundness.specs.Inheritance.{prop_numbered};
 ghost use Rattle.soundness.specs.Models.{IsSoundModel};
-ghost use Rattle.schema_names.specs.Staff.{
+ghost use Rattle.staff_example.specs.Staff.{
   bosses,
+  column_of,
   end_of,
+  heads,
+  people,
   node_of,
   person_node,
   prop_of,
   set_of,
+  staff,
   staff_props,
   staff_sets,
+  staff_store,
   staff_types,
   type_of,
 };
@@ -152,9 +157,11 @@ fn assocs(alloc: Global) -> Result<Seq<Assoc>, Memory>
     Ok(assocs)
 }
 
-/// A sound model.
+/// The staff of a firm: persons, employees, who are persons, and managers, who are employees, and who is whose boss. `Memory` comes
+/// where memory ran out.
 pub fn staff(alloc: Global) -> Result<EntityModel, Memory>
-    ensures { IfOk result IsSoundModel }
+    ensures is { IfOk result (λ model. model ≡ staff) }
+    ensures sound { IfOk result IsSoundModel }
 {
     Ok(EntityModel {
         namespace: Txt::of(alloc, "Firm")?,
@@ -168,27 +175,50 @@ pub fn staff(alloc: Global) -> Result<EntityModel, Memory>
     })
 }
 
-fn table(alloc: Global, name: &str, columns: &[&str]) -> Result<Table, Memory> {
-    let mut cols = Seq::empty(alloc);
-    for column in columns {
-        cols.push(Column {
-            name: Txt::of(alloc, column)?,
-            kind: Kind::Int32,
-            nullable: false,
-        })?;
-    }
-    Ok(Table {
+fn column(alloc: Global, name: &str) -> Result<Column, Memory>
+    ensures { IfOk result (λ column. column ≡ column_of name.now) }
+{
+    Ok(Column {
         name: Txt::of(alloc, name)?,
+        kind: Kind::Int32,
+        nullable: false,
+    })
+}
+
+fn people(alloc: Global) -> Result<Table, Memory>
+    ensures { IfOk result (λ table. table ≡ people) }
+{
+    let mut cols = Seq::empty(alloc);
+    cols.push(column(alloc, "ID")?)?;
+    cols.push(column(alloc, "NUMBER")?)?;
+    Ok(Table {
+        name: Txt::of(alloc, "PEOPLE")?,
         cols,
         key: Seq::empty(alloc),
     })
 }
 
-/// A store with tables for it.
-pub fn store(alloc: Global) -> Result<StoreModel, Memory> {
+fn heads(alloc: Global) -> Result<Table, Memory>
+    ensures { IfOk result (λ table. table ≡ heads) }
+{
+    let mut cols = Seq::empty(alloc);
+    cols.push(column(alloc, "ID")?)?;
+    cols.push(column(alloc, "BONUS")?)?;
+    cols.push(column(alloc, "BONUS")?)?;
+    Ok(Table {
+        name: Txt::of(alloc, "HEADS")?,
+        cols,
+        key: Seq::empty(alloc),
+    })
+}
+
+/// A store with two tables, which have no key: it is for looking names up alone. `Memory` comes where memory ran out.
+pub fn staff_store(alloc: Global) -> Result<StoreModel, Memory>
+    ensures { IfOk result (λ store. store ≡ staff_store) }
+{
     let mut tables = Seq::empty(alloc);
-    tables.push(table(alloc, "PEOPLE", &["ID", "NUMBER"])?)?;
-    tables.push(table(alloc, "HEADS", &["ID", "BONUS", "BONUS"])?)?;
+    tables.push(people(alloc)?)?;
+    tables.push(heads(alloc)?)?;
     Ok(StoreModel {
         namespace: Txt::of(alloc, "Store")?,
         container: Txt::of(alloc, "S")?,

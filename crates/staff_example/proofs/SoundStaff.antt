@@ -25,7 +25,7 @@ use Rattle.soundness.specs.Lookups.{HasConcrete, IsAncestor}
 use Rattle.soundness.specs.ModelIds.{HasEndIds, HasModelIds, IsPropId, IsTypeId}
 use Rattle.soundness.specs.ModelNames.{HasDistinctNames, own_names}
 use Rattle.soundness.specs.Models.{IsSoundModel, IsSoundType}
-use Rattle.schema_names.specs.Staff.{bosses, employee, employee_node, employee_type, manager, manager_node, manager_type, person, person_node, person_type, prop_of, set_of, staff, staff_props, staff_sets, staff_types}
+use Rattle.staff_example.specs.Staff.{bosses, employee, employee_node, employee_type, manager, manager_node, manager_type, person, person_node, person_type, prop_of, set_of, staff, staff_props, staff_sets, staff_types}
 
 -- names that differ, by tests that compute
 other_name : (name other : List ℕ) → bytes_eq name other ≡ false → name ≢ other

@@ -1,10 +1,10 @@
--- The model that the tests are about: persons, employees, who are persons, and managers, who are employees; and who is whose boss.
+-- A model for tests: persons, employees, who are persons, and managers, who are employees; and who is whose boss.
 use Rattle.std.specs.Prelude.{ℕ, List, [], ◌∷◌, map, codes, false, Option, Some, None}
 use Rattle.emc_base.specs.declared.value.Kind.TheVariants as kind
 use Rattle.edm_types.specs.declared.model.Mult.TheVariants.{Many, ZeroOrOne}
 use Rattle.edm_types.specs.declared.model.TypeNode.{roll-TypeNode}
 use Rattle.edm_types.specs.Forest.{type_numbered}
-use Rattle.round_trip.specs.Words.{TypeId, EntityModel, EntityType, Prop, TypeNode, EntitySet, Assoc, End, Mult}
+use Rattle.round_trip.specs.Words.{TypeId, EntityModel, EntityType, Prop, TypeNode, EntitySet, Assoc, End, Mult, StoreModel, Table, Column}
 use Rattle.soundness.specs.Inheritance.{prop_numbered}
 
 -- a type whose key is the second property, by its name, base and properties
@@ -97,3 +97,19 @@ staff = record {
   sets = staff_sets;
   assocs = bosses ∷ [];
 }
+
+-- a column by its name
+abbrev pub column_of : List ℕ → Column
+column_of name = record { name = name; kind = kind.Int32; nullable = false }
+
+-- a table of persons
+abbrev pub people : Table
+people = record { name = codes "PEOPLE"; cols = column_of (codes "ID") ∷ column_of (codes "NUMBER") ∷ []; key = [] }
+
+-- one of managers, in which two columns have one name
+abbrev pub heads : Table
+heads = record { name = codes "HEADS"; cols = column_of (codes "ID") ∷ column_of (codes "BONUS") ∷ column_of (codes "BONUS") ∷ []; key = [] }
+
+-- a store with both
+abbrev pub staff_store : StoreModel
+staff_store = record { namespace = codes "Store"; container = codes "S"; tables = people ∷ heads ∷ []; keys = [] }

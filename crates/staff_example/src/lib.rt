@@ -1,0 +1,6 @@
+//! A small sound model and a store, for the tests of crates that look names up.
+#![tactic(auto)]
+
+mod firm;
+
+pub use firm::{staff, staff_store};
