@@ -1,13 +1,15 @@
--- What `parse` answers of a text, by the number that the text spells.
-use Rattle.std.proofs.Common.{◌≡◌, ◌≢◌, ◌↔◌, ℕ, ℤ, pos, neg_ℤ, List, [], ◌∷◌, drop, slice_index, Bool, true, false, cond, Option, Some, None, option_map, if◌then◌else◌, FitsSigned, refl, sym, ap, subst, ◌∙◌, arith}
+-- What `parse` answers of a text is the number that the text spells, where it is one of 64 bits.
+use Rattle.std.proofs.Common.{rules, ◌≡◌, ◌≢◌, ◌↔◌, ℕ, ℤ, pos, negsuc, neg_ℤ, List, [], ◌∷◌, drop, slice_index, Bool, true, false, cond, Option, Some, None, option_and_then, option_map, if◌then◌else◌, FitsSigned, refl, sym, ap, subst, ◌∙◌, arith}
 use Rattle.std.specs.Int.{w64}
 use Rattle.std.specs.Result.{result_ok}
 use Rattle.std.specs.declared.result.Result.{Result}
 use Rattle.std.specs.declared.result.Result.TheVariants.{Ok, Err}
 use Rattle.std.specs.Str.{all_ascii_digits}
 use Rattle.std.specs.Str.Parse.{IsNumeral, ParsesSigned, digits_value, signed_digits_value, starts_with_minus, without_leading_plus, without_leading_sign}
+use Rattle.std.proofs.lemmas.Bool.{both_ways}
+use Rattle.std.proofs.lemmas.Option.{none-some, same_Some}
 use Rattle.std.proofs.lemmas.Str.Parse.{IsNumeralModel, numerals_by_value, tells_all_ascii_digits, without_leading_plus_none}
-use Rattle.condition_values.specs.Spelled.{digits_of, number_of}
+use Rattle.condition_values.specs.Spelled.{digits_of, fits_64, number_of, whole_of}
 
 -- the test on digits is that of std
 tested : IsNumeralModel (λ ds. all_ascii_digits ds ≡ true) (digits_value 10)
@@ -46,16 +48,46 @@ number_given text plain number = by_sign (starts_with_minus text)
         let P : List ℕ → Type 0 = λ ds. (option_map pos (digits_of text) ≡ Some number) ↔ (IsNumeral 10 ds × (pos (digits_value 10 ds) ≡ number)) in
         subst P (sym (without_leading_plus_none text plain)) (digits_given pos text number)
 
--- what `parse` answers of a text that doesn't begin with a plus
-pub number_parsed : {E : Type 0} (text : List ℕ) (r : Result ℤ E) → ParsesSigned w64 10 text r → slice_index text 0 ≢ 43 → (number : ℤ)
+-- what `parse` answers of a text that doesn't begin with a plus, number by number
+number_given_by : {E : Type 0} (text : List ℕ) (r : Result ℤ E) → ParsesSigned w64 10 text r → slice_index text 0 ≢ 43 → (number : ℤ)
     → ((result_ok r ≡ Some number) ↔ ((number_of text ≡ Some number) × FitsSigned w64 number))
-number_parsed text (Ok x) (read, is) plain number =
+number_given_by text (Ok x) (read, is) plain number =
     let law = number_given text plain number in (
       (λ answered. let same : signed_digits_value 10 text ≡ number = cc in (law.1 (read.0, same), subst (FitsSigned w64) same read.1)),
       (λ given. let same = (law.0 given.0).1 in ap Some (is ∙ same)),
     )
-number_parsed text (Err e) refused plain number =
+number_given_by text (Err e) refused plain number =
     let law = number_given text plain number in (
       (λ answered. cc),
       (λ given. let numeral = law.0 given.0 in absurd (refused (numeral.0, subst (FitsSigned w64) (sym numeral.1) given.1))),
     )
+
+-- the test tells which numbers are of 64 bits
+told_64 : (number : ℤ) → (fits_64 number ≡ true) ↔ FitsSigned w64 number
+told_64 (pos size) = (λ pass. search (rules, arith), λ fits. search (rules, arith))
+told_64 (negsuc size) = (λ pass. search (rules, arith), λ fits. search (rules, arith))
+
+-- what is found is the number that is written, where it is one of 64 bits
+kept_64 : (written found : Option ℤ) → ((number : ℤ) → ((found ≡ Some number) ↔ ((written ≡ Some number) × FitsSigned w64 number)))
+    → found ≡ option_and_then (λ number. if fits_64 number then Some number else None) written
+kept_64 None None law = refl
+kept_64 None (Some other) law = let given = (law other).0 refl in absurd (none-some other given.0)
+kept_64 (Some number) found law = by_test (fits_64 number) refl
+  where
+    Kept : Bool → Type 0
+    Kept test = found ≡ (if test then Some number else None)
+
+    none_kept : (o : Option ℤ) → found ≡ o → fits_64 number ≡ false → o ≡ None
+    none_kept None is fail = refl
+    none_kept (Some other) is fail =
+        let given = (law other).0 is in
+        let Fits : ℤ → Type 0 = λ n. FitsSigned w64 n in
+        absurd (both_ways (fits_64 number) fail ((told_64 number).1 (subst Fits (sym (same_Some number other given.0)) given.1)))
+
+    by_test : (test : Bool) → fits_64 number ≡ test → Kept test
+    by_test true pass = (law number).1 (refl, (told_64 number).0 pass)
+    by_test false fail = none_kept found refl fail
+
+-- what `parse` answers of a text that doesn't begin with a plus
+pub number_parsed : {E : Type 0} (text : List ℕ) (r : Result ℤ E) → ParsesSigned w64 10 text r → slice_index text 0 ≢ 43 → result_ok r ≡ whole_of text
+number_parsed text r parses plain = kept_64 (number_of text) (result_ok r) (number_given_by text r parses plain)

@@ -6,4 +6,4 @@ mod numbers;
 mod tests;
 mod values;
 
-pub use values::value_of;
+pub use values::{spelled, value_of};

@@ -1,4 +1,4 @@
-use crate::value_of;
+use crate::{spelled, value_of};
 use emc_base::ValueRef::{Flag, Null, Text, Whole};
 use emc_base::{EnumKind, Kind, Seq, Txt, Under, Value, ValueRef, compare};
 use std::alloc::{AllocGlobal, Global};
@@ -13,17 +13,41 @@ fn a_color(alloc: Global) -> Result<Kind, Fail> {
     Ok(Kind::Enum(EnumKind { under, members }))
 }
 
-// Tries texts at a kind, each with its value; null, which is in no domain, stands for none.
+// Compares the value that a text gave with the one that was wanted; null, which no text gives, stands for none.
+fn check_value(
+    rt: &(impl Abort + AllocGlobal),
+    text: &str,
+    found: Option<Value>,
+    want: ValueRef,
+) -> Result<(), Fail> {
+    let found = found.unwrap_or(Value::Null);
+    let wanted = want.copy(rt.alloc())?;
+    assert_eq!(rt; compare(&found, &wanted), Ordering::Equal, "at {text}");
+    Ok(())
+}
+
+// Tries texts at a kind, each with its value in the kind's domain.
 fn try_texts(
     rt: &(impl Abort + AllocGlobal),
     kind: &Kind,
     cases: &[(&str, ValueRef)],
 ) -> Result<(), Fail> {
     for (text, want) in cases {
-        let spelled = Txt::of(rt.alloc(), text)?;
-        let found = value_of(rt.alloc(), kind, &spelled)?.unwrap_or(Value::Null);
-        let wanted = want.copy(rt.alloc())?;
-        assert_eq!(rt; compare(&found, &wanted), Ordering::Equal, "at {text}");
+        let written = Txt::of(rt.alloc(), text)?;
+        check_value(rt, text, value_of(rt.alloc(), kind, &written)?, *want)?;
+    }
+    Ok(())
+}
+
+// Tries texts at a kind, each with its value in the domain or outside of it.
+fn try_spelled(
+    rt: &(impl Abort + AllocGlobal),
+    kind: &Kind,
+    cases: &[(&str, ValueRef)],
+) -> Result<(), Fail> {
+    for (text, want) in cases {
+        let written = Txt::of(rt.alloc(), text)?;
+        check_value(rt, text, spelled(rt.alloc(), kind, &written)?, *want)?;
     }
     Ok(())
 }
@@ -99,4 +123,33 @@ fn texts_give_flags_and_texts(rt: HostRuntime) -> Result<(), Fail> {
     try_texts(&rt, &Kind::Text(Some(4)), &four)?;
     try_texts(&rt, &Kind::Text(None), &[("+5 Kåres", Text("+5 Kåres"))])?;
     try_texts(&rt, &Kind::Binary(None), &[("", Null), ("00", Null)])
+}
+
+#[test]
+fn texts_give_values_outside_of_the_domain(rt: HostRuntime) -> Result<(), Fail> {
+    let numbers = [
+        ("256", Whole(256)),
+        ("-1", Whole(-1)),
+        ("007", Whole(7)),
+        ("-9223372036854775808", Whole(i64::MIN)),
+        ("-9223372036854775809", Null),
+        ("9223372036854775807", Whole(i64::MAX)),
+        ("9223372036854775808", Null),
+        ("100000000000000000000000000", Null),
+        ("+5", Null),
+        ("-", Null),
+        ("", Null),
+    ];
+    for kind in [
+        Kind::Byte,
+        Kind::Int16,
+        Kind::Int32,
+        Kind::Int64,
+        a_color(rt.alloc())?,
+    ] {
+        try_spelled(&rt, &kind, &numbers)?;
+    }
+    try_spelled(&rt, &Kind::Boolean, &[("1", Flag(true)), ("2", Null)])?;
+    try_spelled(&rt, &Kind::Text(Some(4)), &[("Kåres", Text("Kåres"))])?;
+    try_spelled(&rt, &Kind::Binary(None), &[("", Null), ("00", Null)])
 }

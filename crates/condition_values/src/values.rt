@@ -1,8 +1,8 @@
-ghost use Rattle.std.specs.Prelude.{◌≡◌, IfOk, MatchOption, Some};
+ghost use Rattle.std.specs.Prelude.{◌≡◌, IfOk, MatchOption};
 ghost use Rattle.emc_base.specs.declared.value.Value.{Value};
 ghost use Rattle.condition_values.specs.Spelled.{IsSpelled, flag_of, spelled};
 
-use crate::numbers::{member_of, number_of};
+use crate::numbers::number_of;
 use emc_base::{Kind, Memory, Txt, Value, in_domain};
 use std::alloc::Global;
 
@@ -12,24 +12,20 @@ pub fn value_of(alloc: Global, kind: &Kind, text: &Txt) -> Result<Option<Value>,
         ((value : Value) → ¬ IsSpelled kind.now text.now value)
         (IsSpelled kind.now text.now)) }
 {
-    let value = spelled(alloc, kind, text.as_str())?;
+    let value = spelled(alloc, kind, text)?;
     Ok(value.filter(|value| in_domain(value, kind)))
 }
 
-// The value that a text gives for a kind. Of those outside of the domain it leaves out numbers of more than 64 bits, and numbers
-// that an enumeration doesn't have.
-fn spelled(alloc: Global, kind: &Kind, text: &str) -> Result<Option<Value>, Memory>
-    ensures { IfOk result (λ found. MatchOption found
-        ((value : Value) → ¬ IsSpelled kind.now text.now value)
-        (λ value. spelled kind.now text.now ≡ Some value)) }
+/// The value that a text gives for a kind, whether it lies in the kind's domain or not. `Memory` comes where memory ran out.
+pub fn spelled(alloc: Global, kind: &Kind, text: &Txt) -> Result<Option<Value>, Memory>
+    ensures { IfOk result (λ found. found ≡ spelled kind.now text.now) }
 {
     match kind {
-        Kind::Boolean => Ok(flag_of(text).map(Value::Flag)),
-        Kind::Text(_) => Ok(Some(Value::Text(Txt::of(alloc, text)?))),
+        Kind::Boolean => Ok(flag_of(text.as_str()).map(Value::Flag)),
+        Kind::Text(_) => Ok(Some(Value::Text(text.copy(alloc)?))),
         Kind::Binary(_) => Ok(None),
-        Kind::Enum(set) => Ok(member_of(set.members.as_slice(), text).map(Value::Whole)),
-        Kind::Byte | Kind::Int16 | Kind::Int32 | Kind::Int64 => {
-            Ok(number_of(text).map(Value::Whole))
+        Kind::Byte | Kind::Int16 | Kind::Int32 | Kind::Int64 | Kind::Enum(_) => {
+            Ok(number_of(text.as_str()).map(Value::Whole))
         }
     }
 }

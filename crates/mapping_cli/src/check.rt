@@ -1,5 +1,5 @@
 ghost use Rattle.std.specs.Prelude.{◌≤◌, IfOk, length};
-ghost use Rattle.mapping_core.specs.Words.{IsMeant};
+ghost use Rattle.mapping_core.specs.Words.{IsMeant, IsSoundSchema, IsTableForm};
 ghost use Rattle.mapping_cli.specs.RunSteps.{AnswersOn, AnswersVerdict, RefusesBy};
 ghost use Rattle.mapping_cli.specs.declared.words.Command.TheVariants.{Check};
 
@@ -24,7 +24,9 @@ pub(crate) fn check(alloc: Global, contents: &Seq<Bin>) -> Result<Answer, Memory
 
 // The verdict on what documents mean that break no rule.
 fn verdict_on(alloc: Global, schema: Schema) -> Result<Answer, Memory>
-    requires { IsMeant schema }
+    requires meant { IsMeant schema }
+    requires sound { IsSoundSchema schema }
+    requires form { IsTableForm schema }
     ensures { IfOk result (AnswersVerdict schema) }
 {
     match decide(alloc, schema) {

@@ -1,11 +1,45 @@
 //! Documents for tests, each the first example with some texts in place of others.
 
+/// The model of the first example: a set of people, each with an Id and a Name that may be null.
+pub(crate) const CSDL: &str =
+    r#"{"Namespace":"N","EntityContainer":{"Name":"C","EntitySet":[{"Name":"People","EntityType":"N.Person"}]},"EntityType":[{"Name":"Person","Key":["Id"],"Property":[{"Name":"Id","Type":"Int32","Nullable":false},{"Name":"Name","Type":"String","MaxLength":20}]}]}"#;
+
+/// Its store: a table for them.
+pub(crate) const SSDL: &str =
+    r#"{"Namespace":"S","EntityContainer":{"Name":"D","EntitySet":[{"Name":"People","EntityType":"S.People"}]},"EntityType":[{"Name":"People","Key":["Id"],"Property":[{"Name":"Id","Type":"int","Nullable":false},{"Name":"Name","Type":"nvarchar","MaxLength":20}]}]}"#;
+
+/// Its mapping: each property to the column of its name.
+pub(crate) const MSL: &str =
+    r#"{"EntityContainerMapping":{"StorageEntityContainer":"D","CdmEntityContainer":"C","EntitySetMapping":[{"Name":"People","EntityTypeMapping":[{"TypeName":"N.Person","MappingFragment":[{"StoreEntitySet":"People","ScalarProperty":[{"Name":"Id","ColumnName":"Id"},{"Name":"Name","ColumnName":"Name"}]}]}]}]}}"#;
+
 /// An edit of the first example: the file, a text that stands in it, and what stands in its place.
 pub(crate) type Edit = (&'static str, &'static str, &'static str);
 
 const ACCEPTED: (&str, u8) = ("accepted\n", 0);
 
 const NOT_OF_THE_FORM: (&str, u8) = ("rule V99 msl \"\"\n", 1);
+
+const UNFIT: (&str, u8) = (
+    "rule V29 msl \"/EntityContainerMapping/EntitySetMapping/0/EntityTypeMapping/0/MappingFragment/0/ScalarProperty/1\"\n",
+    1,
+);
+
+const UNFIT_AGAIN: (&str, u8) = (
+    "rule V29 msl \"/EntityContainerMapping/EntitySetMapping/0/EntityTypeMapping/0/MappingFragment/0/ScalarProperty/2\"\n",
+    1,
+);
+
+const NO_KEY_WRITTEN: (&str, u8) = (
+    "rule V30 msl \"/EntityContainerMapping/EntitySetMapping/0/EntityTypeMapping/0/MappingFragment/0\"\n",
+    1,
+);
+
+const OTHER_CONTAINER: (&str, u8) = (
+    "rule V26 msl \"/EntityContainerMapping/CdmEntityContainer\"\n",
+    1,
+);
+
+const UNKNOWN_IN_MAPPING: (&str, u8) = ("rule V4 msl \"/X\"\n", 1);
 
 const NO_FLAG: (&str, u8) = ("rule V2 csdl \"/EntityType/0/Property/0/Nullable\"\n", 1);
 
@@ -43,7 +77,7 @@ const LOST_WITH_QUOTES: (&str, u8) = (
 );
 
 /// What the documents show, their edits, and what is told of them with which number.
-pub(crate) const FORMS: [(&str, &[Edit], (&str, u8)); 35] = [
+pub(crate) const FORMS: [(&str, &[Edit], (&str, u8)); 37] = [
     ("the first example", &[], ACCEPTED),
     (
         "a name that isn't written",
@@ -149,7 +183,7 @@ pub(crate) const FORMS: [(&str, &[Edit], (&str, u8)); 35] = [
             r#"{"Name":"Name","ColumnName":"Name"}"#,
             r#"{"Name":"Name","ColumnName":"Name"},{"Name":"Name","ColumnName":"Id"}"#,
         )],
-        NOT_OF_THE_FORM,
+        UNFIT_AGAIN,
     ),
     (
         "a namespace with dots",
@@ -185,7 +219,7 @@ pub(crate) const FORMS: [(&str, &[Edit], (&str, u8)); 35] = [
     (
         "a key that isn't written",
         &[("P", r#"{"Name":"Id","ColumnName":"Id"},"#, r#""#)],
-        NOT_OF_THE_FORM,
+        NO_KEY_WRITTEN,
     ),
     (
         "a name with quotes",
@@ -219,7 +253,7 @@ pub(crate) const FORMS: [(&str, &[Edit], (&str, u8)); 35] = [
     (
         "a column that is too narrow",
         &[("S", r#""MaxLength":20"#, r#""MaxLength":19"#)],
-        NOT_OF_THE_FORM,
+        UNFIT,
     ),
     (
         "a property that is said to be nullable",
@@ -261,7 +295,7 @@ pub(crate) const FORMS: [(&str, &[Edit], (&str, u8)); 35] = [
     (
         "a property without a bound",
         &[("M", r#","MaxLength":20"#, r#""#)],
-        NOT_OF_THE_FORM,
+        UNFIT,
     ),
     (
         "a column without a bound",
@@ -275,12 +309,12 @@ pub(crate) const FORMS: [(&str, &[Edit], (&str, u8)); 35] = [
             r#""CdmEntityContainer":"C""#,
             r#""CdmEntityContainer":"X""#,
         )],
-        NOT_OF_THE_FORM,
+        OTHER_CONTAINER,
     ),
     (
         "an unknown member",
         &[("P", r#"]}]}]}]}}"#, r#"]}]}]}]},"X":1}"#)],
-        NOT_OF_THE_FORM,
+        UNKNOWN_IN_MAPPING,
     ),
     (
         "a flag that is a text",
@@ -318,7 +352,7 @@ pub(crate) const FORMS: [(&str, &[Edit], (&str, u8)); 35] = [
     (
         "a member that is passed over",
         &[("M", r#"20}]}]}"#, r#"20}]}],"Documentation":{"X":1}}"#)],
-        NOT_OF_THE_FORM,
+        ACCEPTED,
     ),
     (
         "no JSON, and before it an unknown member",
@@ -357,5 +391,30 @@ pub(crate) const FORMS: [(&str, &[Edit], (&str, u8)); 35] = [
             ("M", r#""Key":["Id"],"#, ""),
         ],
         NO_KEY,
+    ),
+    (
+        "a type with those below it, by the Alias",
+        &[
+            (
+                "M",
+                r#""Namespace":"N""#,
+                r#""Namespace":"N","Alias":"Self""#,
+            ),
+            (
+                "P",
+                r#""TypeName":"N.Person""#,
+                r#""TypeName":" IsTypeOf(Self.Person) ; N.Person""#,
+            ),
+        ],
+        ACCEPTED,
+    ),
+    (
+        "a condition",
+        &[(
+            "P",
+            r#""ColumnName":"Name"}]"#,
+            r#""ColumnName":"Name"}],"Condition":[{"Name":"Name","IsNull":false}]"#,
+        )],
+        NOT_OF_THE_FORM,
     ),
 ];

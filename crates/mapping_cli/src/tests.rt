@@ -1,11 +1,9 @@
 use crate::commands::run;
-use crate::forms::{Edit, FORMS};
+use crate::forms::{CSDL, Edit, FORMS, MSL, SSDL};
 use crate::status::Status;
 use emc_base::{Bin, Seq, Txt};
 use emc_files::{MemFiles, MemSink};
-use mapping_core::{
-    Doc, DocFault, PEOPLE_CSDL as CSDL, PEOPLE_MSL as MSL, PEOPLE_SSDL as SSDL, Verdict, compile,
-};
+use mapping_core::{Doc, DocFault, Verdict, compile};
 use std::alloc::Global;
 use std::process::Abort;
 
@@ -115,7 +113,7 @@ fn with_edits(
 }
 
 #[test]
-fn reads_the_first_form_alone(rt: HostRuntime) {
+fn decides_the_form_that_is_built(rt: HostRuntime) {
     for (name, edits, answer) in FORMS {
         tells_of(&rt, rt.alloc(), name, edits, answer);
     }
@@ -184,6 +182,9 @@ fn names_the_first_file_that_is_not_json(rt: HostRuntime) {
     );
     tells(&rt, rt.alloc(), [CSDL, "x", ""], ("rule V1 ssdl \"\"\n", 1));
     tells(&rt, rt.alloc(), [CSDL, SSDL, ""], ("rule V1 msl \"\"\n", 1));
+    let keyless = edited(&rt, rt.alloc(), CSDL, (r#""Key":["Id"],"#, ""));
+    let no_key = ("rule V9 csdl \"/EntityType/0/Key\"\n", 1);
+    tells(&rt, rt.alloc(), [keyless.as_str(), SSDL, ""], no_key);
 }
 
 #[test]

@@ -3,6 +3,8 @@ use Rattle.std.specs.Prelude.{◌≡◌, ℕ, List, Result, Ok, Err, ⊤}
 use Rattle.edm_types.specs.declared.faults.VocabFault.{VocabFault}
 use Rattle.edm_types.specs.declared.faults.VocabFault.TheVariants as read
 use Rattle.round_trip.specs.Words.{Keeps, Schema}
+use Rattle.soundness.specs.Mappings.{IsSoundSchema}
+use Rattle.table_form.specs.TableForm.{IsTableForm}
 use Rattle.witness_state.specs.Failures.{IsFailureOf, IsPrintable}
 use Rattle.mapping_core.specs.declared.compiled.Compiled.{Compiled}
 use Rattle.mapping_core.specs.declared.verdict.Refusal.{Refusal}
@@ -11,9 +13,15 @@ use Rattle.mapping_core.specs.declared.verdict.Verdict.{Verdict}
 use Rattle.mapping_core.specs.declared.verdict.Verdict.TheVariants.{Rule, Limit, Fails, Memory}
 use Rattle.mapping_core.specs.Rules.{IsToldRule, Means}
 
+-- what the documents mean, where they break no rule: it is sound, and of the form that is built so far
+pub record IsReadSchema (csdl ssdl msl : List ℕ) (schema : Schema) : Type 0 where
+  pub means : Means csdl ssdl msl schema
+  pub sound : IsSoundSchema schema
+  pub form : IsTableForm schema
+
 -- Ok with what the documents mean, where they break no rule; else the rule that is told. Memory says nothing.
 abbrev pub ReadsSchema : List ℕ → List ℕ → List ℕ → Result Schema VocabFault → Type 0
-ReadsSchema csdl ssdl msl (Ok schema) = Means csdl ssdl msl schema
+ReadsSchema csdl ssdl msl (Ok schema) = IsReadSchema csdl ssdl msl schema
 ReadsSchema csdl ssdl msl (Err (read.Rule fault)) = IsToldRule csdl ssdl msl fault
 ReadsSchema csdl ssdl msl (Err read.Memory) = ⊤
 

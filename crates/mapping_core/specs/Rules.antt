@@ -1,19 +1,26 @@
 -- Which rules three documents break, which of them is told, and what the documents mean where they break none.
--- Source: CSDL, SSDL and MSL version 3. Built so far: that each file is JSON; the rules of CSDL and of SSDL; and, last of all, that the
--- documents are of the form that is built so far.
-use Rattle.std.specs.Prelude.{◌≡◌, ◌≢◌, ◌⊎◌, ℕ, ◌≤◌, List, [], Some, None}
+-- Source: CSDL, SSDL and MSL version 3. The rules are that each file is JSON; those of its vocabulary; and, last of all, that what the documents mean
+-- is of the form that is built so far.
+use Rattle.std.specs.Prelude.{◌≡◌, ◌≢◌, ◌⊎◌, ℕ, ◌≤◌, List, [], Some, None, unwrap_or}
 use Rattle.std.specs.declared.cmp.Ordering.TheVariants.{Greater}
-use Rattle.serde_json.specs.Data.{Data}
+use Rattle.serde_json.specs.Data.{Data, null}
 use Rattle.json_form.specs.TreeParts.{tree_at}
 use Rattle.layouts.specs.declared.fault.Fault.{Fault}
 use Rattle.layouts.specs.declared.rule.Rule.TheVariants.{IsBuilt, IsJson}
 use Rattle.layouts.specs.Faults.{fault_cmp}
 use Rattle.told_rules.specs.Told.{told_as}
+use Rattle.csdl_lists.specs.Raw.{raw_model}
+use Rattle.csdl_meaning.specs.ModelMeaning.{meaning}
 use Rattle.csdl_model.specs.ModelFaults.{IsModelFault}
+use Rattle.ssdl_lists.specs.RawStore.{raw_store}
+use Rattle.ssdl_making.specs.StoreMeaning.{store_meaning}
 use Rattle.ssdl_model.specs.StoreFaults.{IsStoreFault}
-use Rattle.round_trip.specs.Words.{RuleFault, Schema, VocabFile}
+use Rattle.msl_lists.specs.Raw.{raw_mapping}
+use Rattle.msl_rules.specs.MappingFaults.{IsMappingFault}
+use Rattle.msl_rules.specs.MappingMeaning.{schema_in}
+use Rattle.round_trip.specs.Words.{EntityModel, StoreModel, RuleFault, Schema, VocabFile}
 use Rattle.edm_types.specs.declared.faults.VocabFile.TheVariants.{Csdl, Ssdl, Msl}
-use Rattle.first_form.specs.Meaning.{meaning_of_texts}
+use Rattle.table_form.specs.TableForm.{IsTableForm}
 
 -- the place of a file in the order of the files
 abbrev pub file_number : VocabFile → ℕ
@@ -21,17 +28,23 @@ file_number Csdl = 0
 file_number Ssdl = 1
 file_number Msl = 2
 
--- a fault of a document by the rules of its vocabulary
-abbrev pub IsTreeFault : VocabFile → Data → Fault → Type 0
-IsTreeFault Csdl d fault = IsModelFault d fault
-IsTreeFault Ssdl d fault = IsStoreFault d fault
-IsTreeFault Msl d fault = ⊥
+-- the tree that a file holds; null where it holds none
+abbrev pub tree_in : List ℕ → Data
+tree_in bytes = unwrap_or (tree_at bytes) null
 
--- a fault of a file by itself: that it isn't JSON, at its root; or one of the document that it holds
-abbrev pub IsFileFault : VocabFile → List ℕ → Fault → Type 0
-IsFileFault file bytes fault =
+-- the entity model that a file means by itself
+abbrev pub model_in : List ℕ → EntityModel
+model_in csdl = meaning (raw_model (tree_in csdl))
+
+-- the store that a file means by itself
+abbrev pub store_in : List ℕ → StoreModel
+store_in ssdl = store_meaning (raw_store (tree_in ssdl))
+
+-- a fault of a file by the rules of a vocabulary: that it isn't JSON, at its root; or one of the document that it holds
+abbrev pub IsFaultBy : (Data → Fault → Type 0) → List ℕ → Fault → Type 0
+IsFaultBy BreaksRule bytes fault =
     ((tree_at bytes ≡ None) × (fault.rule ≡ IsJson) × (fault.place ≡ []))
-    ⊎ ((d : Data) × (tree_at bytes ≡ Some d) × IsTreeFault file d fault)
+    ⊎ ((d : Data) × (tree_at bytes ≡ Some d) × BreaksRule d fault)
 
 module _ (csdl ssdl msl : List ℕ) where
   -- the bytes of a file
@@ -40,15 +53,29 @@ module _ (csdl ssdl msl : List ℕ) where
   bytes_of Ssdl = ssdl
   bytes_of Msl = msl
 
-  -- no file has a fault by itself, and the three aren't of the form that is built so far
-  pub record AreUnbuilt : Type 0 where
-    pub faultless : (file : VocabFile) (fault : Fault) → ¬ IsFileFault file (bytes_of file) fault
-    pub meaningless : meaning_of_texts csdl ssdl msl ≡ None
+  -- what the three files mean together
+  abbrev pub schema_of_files : Schema
+  schema_of_files = schema_in (model_in csdl) (store_in ssdl) (raw_mapping (tree_in msl))
 
-  -- the documents break the rule at the place of the file: one of the file by itself; or, at the root of the mapping, the last one of all
+  -- a fault of a document by the rules of its vocabulary; those of a mapping are asked between what the two other files mean
+  abbrev pub IsTreeFault : VocabFile → Data → Fault → Type 0
+  IsTreeFault Csdl = IsModelFault
+  IsTreeFault Ssdl = IsStoreFault
+  IsTreeFault Msl = IsMappingFault (model_in csdl) (store_in ssdl)
+
+  -- a fault of a file
+  abbrev pub IsFileFault : VocabFile → Fault → Type 0
+  IsFileFault file = IsFaultBy (IsTreeFault file) (bytes_of file)
+
+  -- no file has a fault, and what the three mean isn't of the form that is built so far
+  pub record AreUnbuilt : Type 0 where
+    pub faultless : (file : VocabFile) (fault : Fault) → ¬ IsFileFault file fault
+    pub formless : ¬ IsTableForm schema_of_files
+
+  -- the documents break the rule at the place of the file: one of the file; or, at the root of the mapping, the last one of all
   abbrev pub Breaks : VocabFile → Fault → Type 0
   Breaks file fault =
-      IsFileFault file (bytes_of file) fault
+      IsFileFault file fault
       ⊎ ((file ≡ Msl) × (fault.rule ≡ IsBuilt) × (fault.place ≡ []) × AreUnbuilt)
 
   -- the documents break no rule
@@ -66,7 +93,7 @@ module _ (csdl ssdl msl : List ℕ) where
   -- the documents break no rule, and this is what they mean
   pub record Means (schema : Schema) : Type 0 where
     pub unbroken : BreaksNoRule
-    pub meaning : meaning_of_texts csdl ssdl msl ≡ Some schema
+    pub meaning : schema ≡ schema_of_files
 
 -- some three documents that break no rule mean this
 pub record IsMeant (schema : Schema) : Type 0 where

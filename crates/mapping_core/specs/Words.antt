@@ -16,3 +16,5 @@ pub use Rattle.entity_state.specs.StateTree.{state_tree}
 pub use Rattle.witness_state.specs.Failures.{IsFailureOf, IsPrintable}
 pub use Rattle.serde_json.specs.Written.{compact_text}
 pub use Rattle.mapping_core.specs.Rules.{IsMeant, IsToldRule, Means}
+pub use Rattle.soundness.specs.Mappings.{IsSoundSchema}
+pub use Rattle.table_form.specs.TableForm.{IsTableForm}

@@ -1,4 +1,6 @@
 ghost use Rattle.round_trip.specs.Words.{Schema};
+ghost use Rattle.soundness.specs.Mappings.{IsSoundSchema};
+ghost use Rattle.table_form.specs.TableForm.{IsTableForm};
 ghost use Rattle.one_table.specs.OneTable.{IsOneTable, WritesEveryProperty};
 ghost use Rattle.one_table.specs.Samples.{AllowsSamples};
 ghost use Rattle.mapping_core.specs.Compiles.{Decides};
@@ -9,18 +11,20 @@ use crate::compiled::Compiled;
 use crate::verdict::Refusal;
 use edm_types::Schema;
 use emc_base::Memory;
-use first_form::first_form_is_one_table;
 use one_table::{accepts, unwritten_property};
 use std::alloc::Global;
+use table_form::a_table_form_is_one_table;
 use witness_state::lost_failure;
 
 /// Decides whether every legal entity state of a schema has tables of its own: `Ok` where it does, `Fails` with a legal state that fails
 /// where one does, and `Memory` where memory ran out. A refusal gives the schema back.
 pub fn decide(alloc: Global, schema: Schema) -> Result<Compiled, Refusal>
-    requires { IsMeant schema }
+    requires meant { IsMeant schema }
+    requires sound { IsSoundSchema schema }
+    requires form { IsTableForm schema }
     ensures { Decides schema result }
 {
-    first_form_is_one_table();
+    a_table_form_is_one_table();
     match unwritten_property(&schema) {
         None => Ok(accepted(schema)),
         Some(lost) => match lost_failure(alloc, &schema, lost) {
@@ -32,6 +36,7 @@ pub fn decide(alloc: Global, schema: Schema) -> Result<Compiled, Refusal>
 
 fn accepted(schema: Schema) -> Compiled
     requires meant { IsMeant schema }
+    requires sound { IsSoundSchema schema }
     requires one_table { IsOneTable schema }
     requires written { WritesEveryProperty schema }
     ensures { result ≡ schema }

@@ -13,7 +13,6 @@ pub use compiling::compile;
 pub use deciding::decide;
 pub use edm_types::{EntityModel, LimitFault, LimitKind, RuleFault, Schema, VocabFault, VocabFile};
 pub use entity_state::{EntityState, state_text};
-pub use first_form::{PEOPLE_CSDL, PEOPLE_MSL, PEOPLE_SSDL};
 pub use json_form::{Doc, DocFault, place_text, quoted};
 pub use reading::{one_rule, read};
 pub use round_trip::FailKind;

@@ -1,17 +1,26 @@
 ghost use Rattle.std.specs.Prelude.{◌≡◌, ℕ, List};
-ghost use Rattle.json_form.specs.Documents.{tree_of};
+ghost use Rattle.edm_types.specs.declared.faults.VocabFile.TheVariants.{Csdl, Ssdl, Msl};
+ghost use Rattle.csdl_model.specs.ModelFaults.{IsModelFault};
+ghost use Rattle.csdl_model.specs.ReadsModel.{IsModelOf};
+ghost use Rattle.msl_fragments.specs.ReadsMapping.{IsMappingOf};
+ghost use Rattle.msl_rules.specs.MappingFaults.{IsMappingFault};
+ghost use Rattle.soundness.specs.Models.{IsSoundModel};
+ghost use Rattle.soundness.specs.Stores.{IsSoundStore};
+ghost use Rattle.ssdl_model.specs.ReadsStore.{IsStoreOf};
+ghost use Rattle.ssdl_model.specs.StoreFaults.{IsStoreFault};
 ghost use Rattle.mapping_core.specs.Compiles.{ReadsSchema};
-ghost use Rattle.mapping_core.specs.Reading.{ReadsFile, TellsTree};
+ghost use Rattle.mapping_core.specs.Reading.{ReadsFile, ReadsTree};
 ghost use Rattle.mapping_core.specs.Rules.{IsToldRule};
 
 use csdl_model::read_csdl;
-use edm_types::{RuleFault, Schema, VocabFault, VocabFile};
-use emc_base::{Bin, Memory};
-use first_form::read_first_form;
+use edm_types::{EntityModel, Mapping, RuleFault, Schema, StoreModel, VocabFault, VocabFile};
+use emc_base::Bin;
 use json_form::{Doc, DocFault};
 use layouts::{Fault, Rule};
+use msl_fragments::read_msl;
 use ssdl_model::read_ssdl;
 use std::alloc::Global;
+use table_form::is_table_form;
 use told_rules::told;
 
 /// The law that no two different rules are told of three documents.
@@ -25,45 +34,59 @@ pub fn one_rule()
 pub fn read(alloc: Global, csdl: &Bin, ssdl: &Bin, msl: &Bin) -> Result<Schema, VocabFault>
     ensures { ReadsSchema csdl.now ssdl.now msl.now result }
 {
-    let csdl = read_file(alloc, VocabFile::Csdl, csdl)?;
-    let ssdl = read_file(alloc, VocabFile::Ssdl, ssdl)?;
-    let msl = read_file(alloc, VocabFile::Msl, msl)?;
-    match read_first_form(alloc, &csdl, &ssdl, &msl) {
-        Ok(Some(schema)) => Ok(schema),
-        Ok(None) => Err(told(alloc, VocabFile::Msl, Fault::here(alloc, Rule::IsBuilt))),
-        Err(Memory) => Err(VocabFault::Memory),
-    }
-}
-
-// The document of a file that has no fault by itself; or its least fault.
-fn read_file(alloc: Global, file: VocabFile, bytes: &Bin) -> Result<Doc, VocabFault>
-    ensures { ReadsFile file bytes.now result }
-{
-    let doc = match Doc::of_bytes(alloc, bytes) {
-        Ok(doc) => doc,
-        Err(DocFault::NotJson) => {
-            return Err(told(alloc, file, Fault::here(alloc, Rule::IsJson)));
-        }
-        Err(DocFault::Memory) => return Err(VocabFault::Memory),
+    let model = read_model(alloc, csdl)?;
+    let store = read_store(alloc, ssdl)?;
+    let mapping = read_mapping(alloc, msl, &model, &store)?;
+    let schema = Schema {
+        model,
+        store,
+        mapping,
     };
-    check_tree(alloc, file, &doc)?;
-    Ok(doc)
+    if !is_table_form(&schema) {
+        let fault = Fault::here(alloc, Rule::IsBuilt);
+        return Err(told(alloc, VocabFile::Msl, fault));
+    }
+    Ok(schema)
 }
 
-// Whether a document keeps the rules of its vocabulary; or its least fault. The model and the store that documents mean are let go: the
-// first form is asked of the trees.
-fn check_tree(alloc: Global, file: VocabFile, doc: &Doc) -> Result<(), VocabFault>
-    ensures { TellsTree file (tree_of doc.now) result }
+// The entity model that a file means. Its tree is let go.
+fn read_model(alloc: Global, csdl: &Bin) -> Result<EntityModel, VocabFault>
+    ensures { ReadsFile Csdl IsModelFault IsModelOf csdl.now result }
 {
-    match file {
-        VocabFile::Csdl => {
-            let _model = read_csdl(alloc, doc)?;
-            Ok(())
-        }
-        VocabFile::Ssdl => {
-            let _store = read_ssdl(alloc, doc)?;
-            Ok(())
-        }
-        VocabFile::Msl => Ok(()),
+    let doc = read_tree(alloc, VocabFile::Csdl, csdl)?;
+    read_csdl(alloc, &doc)
+}
+
+// The store that a file means. Its tree is let go.
+fn read_store(alloc: Global, ssdl: &Bin) -> Result<StoreModel, VocabFault>
+    ensures { ReadsFile Ssdl IsStoreFault IsStoreOf ssdl.now result }
+{
+    let doc = read_tree(alloc, VocabFile::Ssdl, ssdl)?;
+    read_ssdl(alloc, &doc)
+}
+
+// The mapping that a file means between a model and a store. Its tree is let go.
+fn read_mapping(
+    alloc: Global,
+    msl: &Bin,
+    model: &EntityModel,
+    store: &StoreModel,
+) -> Result<Mapping, VocabFault>
+    requires model { IsSoundModel model.now }
+    requires store { IsSoundStore store.now }
+    ensures { ReadsFile Msl (IsMappingFault model.now store.now) (IsMappingOf model.now store.now) msl.now result }
+{
+    let doc = read_tree(alloc, VocabFile::Msl, msl)?;
+    read_msl(alloc, &doc, model, store)
+}
+
+// The document that a file holds; or that it holds none.
+fn read_tree(alloc: Global, file: VocabFile, bytes: &Bin) -> Result<Doc, VocabFault>
+    ensures { ReadsTree file bytes.now result }
+{
+    match Doc::of_bytes(alloc, bytes) {
+        Ok(doc) => Ok(doc),
+        Err(DocFault::NotJson) => Err(told(alloc, file, Fault::here(alloc, Rule::IsJson))),
+        Err(DocFault::Memory) => Err(VocabFault::Memory),
     }
 }

@@ -21,6 +21,17 @@ pub fn is_derived(names: &SchemaNames<'_>, ty: usize, other: TypeId) -> bool
     false
 }
 
+/// How many types stand at a place and above it.
+pub fn height(names: &SchemaNames<'_>, ty: usize) -> usize {
+    let mut count: usize = 0;
+    let mut next = Some(ty);
+    while let Some(place) = next {
+        count = count.saturating_add(1);
+        next = base_of(names.model, place);
+    }
+    count
+}
+
 // The base type of the type at a place.
 fn base_of(model: &EntityModel, ty: usize) -> Option<usize>
     ensures { result ≡ base_place model.now ty }

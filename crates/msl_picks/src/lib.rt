@@ -1,6 +1,7 @@
 //! What a mapping picks: types of its sets, properties that those types share, and the association of each association set.
 #![tactic(auto)]
 
+mod climbs;
 mod derived;
 mod link;
 mod shared;
@@ -8,5 +9,6 @@ mod shared;
 mod tests;
 mod type_names;
 
+pub use climbs::allow_climbs;
 pub use link::first_other_association;
 pub use type_names::first_type_name_fault;

@@ -1,5 +1,6 @@
 pub mod Found
 pub mod FragmentRules
+pub mod KeepsMapping
 pub mod LinkRules
 pub mod MappingFaults
 pub mod MappingMeaning

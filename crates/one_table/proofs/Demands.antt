@@ -1,12 +1,13 @@
 -- What a legal state demands of the one table: a row for each entity, with its values in the columns of the pairs.
-use Rattle.std.proofs.Common.{◌≡◌, inl, ⊎_elim, List, [], ◌∷◌, map, true, false, Contains, refl, sym, ap, subst, ◌∙◌}
+use Rattle.std.proofs.Common.{◌≡◌, inl, ⊎_elim, List, [], ◌∷◌, map, Bool, true, false, MatchBool, Contains, refl, sym, ap, subst, ◌∙◌}
 use Rattle.std.specs.Option.{option_map_or}
-use Rattle.round_trip.specs.Words.{TableId, ColId, Value, Null, Fragment, Pick, Pair, Cond, Schema, Entity, value_of, key_of, State, entities_in, MetByEntity, IsPicked, Selects, IsLegal, Writing, entity_cells, EntityWrites, Writes, written_to, key_columns, written_key, Fills, WritesRow, DemandsRow, DemandsCell, HasNoClash}
+use Rattle.round_trip.specs.Words.{TypeId, TableId, ColId, Value, Null, EntityModel, IsA, Fragment, Pick, Pair, Cond, Schema, Entity, value_of, key_of, State, entities_in, MetByEntity, IsPicked, Selects, IsLegal, Writing, entity_cells, EntityWrites, Writes, written_to, key_columns, written_key, Fills, WritesRow, DemandsRow, DemandsCell, HasNoClash}
+use Rattle.edm_types.specs.IsA.{same as itself}
 use Rattle.edm_types.specs.declared.mapping.CondOn.TheVariants as on
 use Rattle.edm_types.specs.declared.mapping.Test.TheVariants.{IsNull, Equals}
 use Rattle.one_table.specs.OneTable.{IsOneTable, first_set, first_type, first_table}
 use Rattle.emc_base.proofs.Lists.{only_member, only_stands}
-use Rattle.one_table.proofs.Lists.{nil_has_none, only_at, all_of_none, any_from_member, same_by_key}
+use Rattle.one_table.proofs.Lists.{nil_has_none, only_at, all_of_none, any_from_all, same_by_key}
 use Rattle.one_table.proofs.Cells.{pair_cells, IsPairValue, pair_of_cell, cell_of_pair, written_once}
 use Rattle.one_table.proofs.Entities.{member_in, first_key, legal_set}
 
@@ -18,6 +19,14 @@ same_demand schema state {t = t} {u = u} {key = key} {other = other} {col = col}
     (subst (λ x. DemandsCell schema state t x column told) keys
     (subst (λ x. DemandsCell schema state t key x told) cols
     (subst (λ x. DemandsCell schema state t key col x) values demand)))
+
+-- a pick of a type picks that type, with the types below it or alone
+picks_same : (model : EntityModel) (t : TypeId) (pick : Pick) → t ≡ pick.ty → IsPicked model t pick
+picks_same model t pick is = by pick.below
+  where
+    by : (below : Bool) → MatchBool below (IsA model t pick.ty) (t ≡ pick.ty)
+    by true = subst (IsA model t) is (itself t)
+    by false = is
 
 module _ (schema : Schema) (form : IsOneTable schema) where
   -- the pair of the keys
@@ -59,9 +68,9 @@ module _ (schema : Schema) (form : IsOneTable schema) where
   -- each entity of the one type is selected
   pub selected : (entity : Entity) → entity.ty ≡ first_type → Selects schema.model form.fragment entity
   selected entity typed =
-      let pick : Pick = record { ty = first_type; below = false } in
       record {
-        picked = any_from_member (IsPicked schema.model entity.ty) form.fragment.picks pick (only_stands form.fragment.picks pick form.only_fragment.picks) typed;
+        picked = any_from_all (λ pick. pick.ty ≡ first_type) (IsPicked schema.model entity.ty) (λ pick is. picks_same schema.model entity.ty pick (typed ∙ sym is))
+            form.fragment.picks form.only_fragment.picks_some form.only_fragment.picks;
         meets = all_of_none (λ cond. MetByEntity schema.model entity cond.on cond.test) form.fragment.conds form.only_fragment.conds;
       }
 

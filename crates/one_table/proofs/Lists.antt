@@ -2,7 +2,7 @@
 use Rattle.std.proofs.Common.{◌≡◌, ◌≢◌, ⊎_elim, ℕ, zero, suc, ◌<◌, ◌≤◌, List, [], ◌∷◌, map, length, get_or, All, AllPairs, Any, Contains, refl, sym, ap, subst, ◌∙◌, slice_get, arith}
 use Rattle.std.proofs.lemmas.Bool.{cases_lt, cases_eq}
 use Rattle.std.proofs.lemmas.List.{get_or_default, get_or-map}
-use Rattle.std.proofs.lemmas.List.Elements.{Contains-get_or}
+use Rattle.std.proofs.lemmas.List.Elements.{All-head, Contains-get_or}
 use Rattle.std.proofs.lemmas.Option.{slice_get_within}
 use Rattle.std.proofs.Math.ListN.{length-map}
 use Rattle.emc_base.specs.Lists.{At}
@@ -32,6 +32,11 @@ module _ {X : Type 0} where
   -- a member of which it holds
   pub any_from_member : (P : X → Type 0) (xs : List X) (x : X) → Contains xs x → P x → Any P xs
   any_from_member P xs x has holds = (has.0, x, has.1, has.2, holds)
+
+  -- what each member tells, some member tells where there is any
+  pub any_from_all : (P Q : X → Type 0) → ((x : X) → P x → Q x) → (xs : List X) → xs ≢ [] → All P xs → Any Q xs
+  any_from_all P Q tells [] some all = absurd (some refl)
+  any_from_all P Q tells (x ∷ xs) some all = (0, x, omega arith, refl, tells x (All-head P x xs all))
 
   -- the member of which it holds
   pub member_of_any : (P : X → Type 0) (xs : List X) → Any P xs → (x : X) × Contains xs x × P x

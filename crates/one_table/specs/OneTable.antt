@@ -49,14 +49,15 @@ pub record IsFittingPair (model : EntityModel) (type : EntityType) (table : Tabl
   pub has_column : At table.cols pair.col.index column
   pub holds : (value : Value) → InDomain value declared.kind → InDomain value column.kind
 
--- one fragment without conditions that selects the type, and pairs each property and each column at most once, the keys with
--- each other
+-- one fragment without conditions that selects the type and no other, and pairs each property and each column at most once, the keys
+-- with each other
 pub record IsOnlyFragment (schema : Schema) (type : EntityType) (table : Table) (key : PropId) (key_col : ColId) (fragment : Fragment) : Type 0 where
   pub fragments : schema.mapping.fragments ≡ fragment ∷ []
   pub links : schema.mapping.links ≡ []
   pub set : fragment.set ≡ first_set
   pub table_is : fragment.table ≡ first_table
-  pub picks : fragment.picks ≡ record { ty = first_type; below = false } ∷ []
+  pub picks_some : fragment.picks ≢ []
+  pub picks : All (λ pick. pick.ty ≡ first_type) fragment.picks
   pub conds : fragment.conds ≡ []
   pub pairs : All (IsFittingPair schema.model type table) fragment.pairs
   pub keys : Contains fragment.pairs (record { prop = key; col = key_col })

@@ -11,4 +11,5 @@ mod tables;
 mod tests;
 
 pub use ends::WhichEnd;
+pub use lent_names::places_by;
 pub use names::SchemaNames;

@@ -1,5 +1,5 @@
 -- The model of the tests is sound.
-use Rattle.std.proofs.Common.{◌≡◌, ◌≢◌, ℕ, zero, suc, ◌<◌, ◌≤◌, List, [], ◌∷◌, ◌++◌, ◌&&◌, map, length, get_or, All, Contains, MatchOption, Bool, true, false, not, Some, refl, sym, ap, subst, arith}
+use Rattle.std.proofs.Common.{◌≡◌, ◌≢◌, ℕ, zero, suc, ◌<◌, ◌≤◌, ℤ, pos, ◌<ℤ◌, List, [], ◌∷◌, ◌++◌, ◌&&◌, map, length, get_or, All, AllPairs, Contains, MatchOption, Bool, true, false, not, Some, refl, sym, ap, subst, arith}
 use Rattle.std.specs.Bool.{⊤}
 use Rattle.std.specs.List.{AllByRecursion, list_any}
 use Rattle.std.specs.Prelude.{codes}
@@ -11,13 +11,14 @@ use Rattle.std.proofs.lemmas.List.Folds.{list_any_at}
 use Rattle.std.proofs.lemmas.Option.{same_Some}
 use Rattle.std.proofs.lemmas.Slice.Eq.{bytes_eq-Decides}
 use Rattle.emc_base.specs.Lists.{AreApart}
+use Rattle.emc_base.specs.declared.value.Kind.TheVariants as kind
 use Rattle.emc_base.proofs.Lists.{apart_by_test, at_once, only_member}
 use Rattle.edm_types.specs.declared.model.TypeNode as node
 use Rattle.edm_types.specs.declared.model.TypeNode.TheBlock as block
 use Rattle.edm_types.specs.Forest.{IsForest, IsTypeNode, node_type, nodes_below, type_numbered}
 use Rattle.edm_types.specs.IsA.{same, base, chain}
 use Rattle.edm_types.proofs.Nodes.{each_node}
-use Rattle.round_trip.specs.Words.{TypeId, PropId, SetId, EntityType, EntitySet, Assoc, Prop, TypeNode, At, HasBase, IsA}
+use Rattle.round_trip.specs.Words.{TypeId, PropId, SetId, EntityType, EntitySet, Assoc, Prop, TypeNode, At, HasBase, InDomain, IsA, Whole}
 use Rattle.soundness.specs.Constraints.{HasArrow, IsSoundAssoc, Leads, arrow, further}
 use Rattle.soundness.specs.Inheritance.{IsKeyProp, declared_props, prop_numbered}
 use Rattle.soundness.specs.Kinds.{IsSoundKind}
@@ -25,7 +26,7 @@ use Rattle.soundness.specs.Lookups.{HasConcrete, IsAncestor}
 use Rattle.soundness.specs.ModelIds.{HasEndIds, HasModelIds, IsPropId, IsTypeId}
 use Rattle.soundness.specs.ModelNames.{HasDistinctNames, own_names}
 use Rattle.soundness.specs.Models.{IsSoundModel, IsSoundType}
-use Rattle.staff_example.specs.Staff.{bosses, employee, employee_node, employee_type, manager, manager_node, manager_type, person, person_node, person_type, prop_of, set_of, staff, staff_props, staff_sets, staff_types}
+use Rattle.staff_example.specs.Staff.{bonus_kind, bosses, employee, employee_node, employee_type, manager, manager_node, manager_type, person, person_node, person_type, prop_of, set_of, staff, staff_props, staff_sets, staff_types}
 
 -- names that differ, by tests that compute
 other_name : (name other : List ℕ) → bytes_eq name other ≡ false → name ≢ other
@@ -173,7 +174,7 @@ staff_names = record {
 -- types, their keys and properties
 key_is : All (IsKeyProp staff) (prop_numbered 1 ∷ [])
 key_is = All-from_recursion (IsKeyProp staff) (prop_numbered 1 ∷ [])
-    (record { declared = prop_of person (codes "Id"); is_declared = refl; kind = tt; needed = refl }, tt)
+    (record { declared = prop_of person (codes "Id") kind.Int32; is_declared = refl; kind = tt; needed = refl }, tt)
 
 sound_types : (k : ℕ) (type : EntityType) → At staff_types k type → IsSoundType staff (type_numbered k) type
 sound_types = by_place (λ k type. IsSoundType staff (type_numbered k) type)
@@ -189,6 +190,20 @@ sound_types = by_place (λ k type. IsSoundType staff (type_numbered k) type)
     })
     (record { props = refl; key = refl; key_props = key_is })
     (record { props = refl; key = refl; key_props = key_is })
+
+-- the kind of a bonus
+bonus_rises : AllPairs (λ one next. one <ℤ next) (pos 1 ∷ pos 2 ∷ [])
+bonus_rises i zero d before within = absurd (omega arith)
+bonus_rises zero (suc zero) d before within = omega arith
+bonus_rises (suc i) (suc zero) d before within = absurd (omega arith)
+bonus_rises i (suc (suc j)) d before within = absurd (omega arith)
+
+sound_bonus : IsSoundKind bonus_kind
+sound_bonus = record {
+  some = λ empty. let none : 2 ≡ 0 = ap (λ (members : List ℤ). length members) empty in absurd (omega arith);
+  rising = bonus_rises;
+  within = All-from_recursion (λ number. InDomain (Whole number) kind.Int16) (pos 1 ∷ pos 2 ∷ []) ((omega arith, omega arith), ((omega arith, omega arith), tt));
+}
 
 -- the association
 sound_bosses : IsSoundAssoc staff bosses
@@ -221,7 +236,7 @@ staff_is_sound = record {
   names = staff_names;
   bases = λ t above. let before : t.index < t.index = above_before t t above in omega arith;
   types = λ t type here. sound_types t.index type here;
-  kinds = All-from_recursion (λ (prop : Prop). IsSoundKind prop.kind) staff_props (tt, (tt, (tt, (tt, tt))));
+  kinds = All-from_recursion (λ (prop : Prop). IsSoundKind prop.kind) staff_props (tt, (tt, (sound_bonus, (tt, tt))));
   elements = All-from_recursion (λ (set : EntitySet). HasConcrete staff set.element) staff_sets
       ((person, (person_type, refl, refl), same person), ((manager, (manager_type, refl, refl), same manager), tt));
   assocs = All-from_recursion (IsSoundAssoc staff) (bosses ∷ []) (sound_bosses, tt);

@@ -1,19 +1,24 @@
 -- A model for tests: persons, employees, who are persons, and managers, who are employees; and who is whose boss.
-use Rattle.std.specs.Prelude.{ℕ, List, [], ◌∷◌, map, codes, false, Option, Some, None}
+use Rattle.std.specs.Prelude.{ℕ, pos, List, [], ◌∷◌, map, codes, false, Option, Some, None}
 use Rattle.emc_base.specs.declared.value.Kind.TheVariants as kind
+use Rattle.emc_base.specs.declared.value.Under.TheVariants as under
 use Rattle.edm_types.specs.declared.model.Mult.TheVariants.{Many, ZeroOrOne}
 use Rattle.edm_types.specs.declared.model.TypeNode.{roll-TypeNode}
 use Rattle.edm_types.specs.Forest.{type_numbered}
-use Rattle.round_trip.specs.Words.{TypeId, EntityModel, EntityType, Prop, TypeNode, EntitySet, Assoc, End, Mult, StoreModel, Table, Column}
+use Rattle.round_trip.specs.Words.{TypeId, Kind, EntityModel, EntityType, Prop, TypeNode, EntitySet, Assoc, End, Mult, StoreModel, Table, Column}
 use Rattle.soundness.specs.Inheritance.{prop_numbered}
 
 -- a type whose key is the second property, by its name, base and properties
 abbrev pub type_of : List ℕ → Option TypeId → List ℕ → EntityType
 type_of name base props = record { name = name; base = base; is_abstract = false; key = prop_numbered 1 ∷ []; props = map prop_numbered props; navs = [] }
 
--- a property by the type that declares it, and its name
-abbrev pub prop_of : TypeId → List ℕ → Prop
-prop_of owner name = record { owner = owner; name = name; kind = kind.Int32; nullable = false }
+-- a property by the type that declares it, its name and its kind
+abbrev pub prop_of : TypeId → List ℕ → Kind → Prop
+prop_of owner name kind = record { owner = owner; name = name; kind = kind; nullable = false }
+
+-- a bonus is small or large: a number of an enumeration
+abbrev pub bonus_kind : Kind
+bonus_kind = kind.Enum (record { under = under.Int16; members = pos 1 ∷ pos 2 ∷ [] })
 
 -- the node of a type
 abbrev pub node_of : TypeId → List TypeNode → TypeNode
@@ -57,7 +62,12 @@ staff_types = person_type ∷ employee_type ∷ manager_type ∷ []
 
 -- the properties that they declare
 abbrev pub staff_props : List Prop
-staff_props = prop_of employee (codes "Salary") ∷ prop_of person (codes "Id") ∷ prop_of manager (codes "Bonus") ∷ prop_of person (codes "Number") ∷ []
+staff_props =
+    prop_of employee (codes "Salary") kind.Int32
+    ∷ prop_of person (codes "Id") kind.Int32
+    ∷ prop_of manager (codes "Bonus") bonus_kind
+    ∷ prop_of person (codes "Number") kind.Int32
+    ∷ []
 
 -- the node of managers
 abbrev pub manager_node : TypeNode

@@ -2,6 +2,7 @@ ghost use Rattle.std.specs.Prelude.{◌≡◌, ◌∷◌, [], IfOk, map};
 ghost use Rattle.soundness.specs.Inheritance.{prop_numbered};
 ghost use Rattle.soundness.specs.Models.{IsSoundModel};
 ghost use Rattle.staff_example.specs.Staff.{
+  bonus_kind,
   bosses,
   column_of,
   end_of,
@@ -22,7 +23,7 @@ ghost use Rattle.staff_example.specs.Staff.{
 use edm_types::{
     Assoc, Column, End, EntityModel, EntitySet, EntityType, Mult, Prop, StoreModel, Table, TypeNode,
 };
-use emc_base::{Kind, Memory, PropId, Seq, SetId, Txt, TypeId};
+use emc_base::{EnumKind, Kind, Memory, PropId, Seq, SetId, Txt, TypeId, Under};
 use std::alloc::Global;
 
 // An employee is a person, and a manager an employee.
@@ -70,25 +71,35 @@ fn types(alloc: Global) -> Result<Seq<EntityType>, Memory>
     Ok(types)
 }
 
-fn prop(alloc: Global, owner: TypeId, name: &str) -> Result<Prop, Memory>
-    ensures { IfOk result (λ prop. prop ≡ prop_of owner name.now) }
+fn prop(alloc: Global, owner: TypeId, name: &str, kind: Kind) -> Result<Prop, Memory>
+    ensures { IfOk result (λ prop. prop ≡ prop_of owner name.now kind) }
 {
     Ok(Prop {
         owner,
         name: Txt::of(alloc, name)?,
-        kind: Kind::Int32,
+        kind,
         nullable: false,
     })
+}
+
+fn bonus_kind(alloc: Global) -> Result<Kind, Memory>
+    ensures { IfOk result (λ kind. kind ≡ bonus_kind) }
+{
+    let mut members = Seq::empty(alloc);
+    members.push(1)?;
+    members.push(2)?;
+    let under = Under::Int16;
+    Ok(Kind::Enum(EnumKind { under, members }))
 }
 
 fn props(alloc: Global) -> Result<Seq<Prop>, Memory>
     ensures { IfOk result (λ props. props ≡ staff_props) }
 {
     let mut props = Seq::empty(alloc);
-    props.push(prop(alloc, EMPLOYEE, "Salary")?)?;
-    props.push(prop(alloc, PERSON, "Id")?)?;
-    props.push(prop(alloc, MANAGER, "Bonus")?)?;
-    props.push(prop(alloc, PERSON, "Number")?)?;
+    props.push(prop(alloc, EMPLOYEE, "Salary", Kind::Int32)?)?;
+    props.push(prop(alloc, PERSON, "Id", Kind::Int32)?)?;
+    props.push(prop(alloc, MANAGER, "Bonus", bonus_kind(alloc)?)?)?;
+    props.push(prop(alloc, PERSON, "Number", Kind::Int32)?)?;
     Ok(props)
 }
 

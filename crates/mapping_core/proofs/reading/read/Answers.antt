@@ -1,37 +1,28 @@
-use Rattle.json_form.specs.Documents.{tree_of}
-use Rattle.edm_types.specs.declared.faults.VocabFile.TheVariants.{Csdl, Ssdl, Msl}
-use Rattle.mapping_core.proofs.Told.{handed_on, is_meant, is_unbuilt, none_read, one_more_read, stops_at}
+use Rattle.std.proofs.lemmas.Bool.{both_ways}
+use Rattle.mapping_core.proofs.Told.{is_meant, is_unbuilt, stops_at_mapping, stops_at_model, stops_at_store}
 use Rattle.mapping_core.proofs.reading.read.Goals as goal
 
-pub returns-in_err-csdl : goal.returns-in_err-csdl
-returns-in_err-csdl c = let csdl = c.args.csdl.now in let ssdl = c.args.ssdl.now in let msl = c.args.msl.now in
-    handed_on csdl ssdl msl c.in_err-csdl.field-0.0 c.from_residual.result c.from_residual.ensures.1
-    (stops_at csdl ssdl msl Csdl c.in_err-csdl.field-0.0 c.in_err-csdl.ensures (none_read csdl ssdl msl))
+pub returns-in_err-model : goal.returns-in_err-model
+returns-in_err-model c =
+    stops_at_model c.args.csdl.now c.args.ssdl.now c.args.msl.now c.in_err-model.field-0.0 c.from_residual.result c.from_residual.ensures.1 c.in_err-model.ensures
 
-pub returns-in_err-ssdl : goal.returns-in_err-ssdl
-returns-in_err-ssdl c = let csdl = c.args.csdl.now in let ssdl = c.args.ssdl.now in let msl = c.args.msl.now in
-    handed_on csdl ssdl msl c.in_err-ssdl.field-0.0 c.from_residual-in_err-ssdl.result c.from_residual-in_err-ssdl.ensures.1
-    (stops_at csdl ssdl msl Ssdl c.in_err-ssdl.field-0.0 c.in_err-ssdl.ensures
-    (one_more_read csdl ssdl msl Csdl c.in_ok-csdl.ensures.1 (none_read csdl ssdl msl)))
+pub returns-in_err-store : goal.returns-in_err-store
+returns-in_err-store c =
+    stops_at_store c.args.csdl.now c.args.ssdl.now c.args.msl.now c.in_ok-model.model c.in_ok-model.ensures
+    c.in_err-store.field-0.0 c.from_residual-in_err-store.result c.from_residual-in_err-store.ensures.1 c.in_err-store.ensures
 
-pub returns-in_err-msl : goal.returns-in_err-msl
-returns-in_err-msl c = let csdl = c.args.csdl.now in let ssdl = c.args.ssdl.now in let msl = c.args.msl.now in
-    handed_on csdl ssdl msl c.in_err-msl.field-0.0 c.from_residual-in_err-msl.result c.from_residual-in_err-msl.ensures.1
-    (stops_at csdl ssdl msl Msl c.in_err-msl.field-0.0 c.in_err-msl.ensures
-    (one_more_read csdl ssdl msl Ssdl c.in_ok-ssdl.ensures.1 (one_more_read csdl ssdl msl Csdl c.in_ok-csdl.ensures.1 (none_read csdl ssdl msl))))
+pub returns-in_err-mapping : goal.returns-in_err-mapping
+returns-in_err-mapping c =
+    stops_at_mapping c.args.csdl.now c.args.ssdl.now c.args.msl.now c.in_ok-model.model c.in_ok-model.ensures c.in_ok-store.store c.in_ok-store.ensures
+    c.in_err-mapping.field-0.0 c.from_residual-in_err-mapping.result c.from_residual-in_err-mapping.ensures.1 c.in_err-mapping.ensures
 
-pub returns-in-Ok-None : goal.returns-in-Ok-None
-returns-in-Ok-None c = let csdl = c.args.csdl.now in let ssdl = c.args.ssdl.now in let msl = c.args.msl.now in
-    is_unbuilt csdl ssdl msl (tree_of c.in_ok-csdl.csdl) (tree_of c.in_ok-ssdl.ssdl) (tree_of c.in_ok-msl.msl)
-    c.in_ok-csdl.ensures.0 c.in_ok-ssdl.ensures.0 c.in_ok-msl.ensures.0
-    (one_more_read csdl ssdl msl Msl c.in_ok-msl.ensures.1
-    (one_more_read csdl ssdl msl Ssdl c.in_ok-ssdl.ensures.1 (one_more_read csdl ssdl msl Csdl c.in_ok-csdl.ensures.1 (none_read csdl ssdl msl))))
-    c.here.result c.here.ensures.rule c.here.ensures.place c.told.result (rw c.in-Ok-None.field-0-is at c.in-Ok-None.ensures) c.told.ensures
+pub returns-then-not-is_table_form : goal.returns-then-not-is_table_form
+returns-then-not-is_table_form c =
+    is_unbuilt c.args.csdl.now c.args.ssdl.now c.args.msl.now c.in_ok-model.model c.in_ok-model.ensures c.in_ok-store.store c.in_ok-store.ensures c.in_ok-mapping.mapping c.in_ok-mapping.ensures
+    c.here-fault.result c.here-fault.ensures.rule c.here-fault.ensures.place c.told.result
+    (λ form. absurd (both_ways c.is_table_form.result c.if-not-is_table_form.true (c.is_table_form.ensures.1 form))) c.told.ensures
 
-pub returns-in-Ok-Some : goal.returns-in-Ok-Some
-returns-in-Ok-Some c = let csdl = c.args.csdl.now in let ssdl = c.args.ssdl.now in let msl = c.args.msl.now in
-    is_meant csdl ssdl msl (tree_of c.in_ok-csdl.csdl) (tree_of c.in_ok-ssdl.ssdl) (tree_of c.in_ok-msl.msl)
-    c.in_ok-csdl.ensures.0 c.in_ok-ssdl.ensures.0 c.in_ok-msl.ensures.0
-    (one_more_read csdl ssdl msl Msl c.in_ok-msl.ensures.1
-    (one_more_read csdl ssdl msl Ssdl c.in_ok-ssdl.ensures.1 (one_more_read csdl ssdl msl Csdl c.in_ok-csdl.ensures.1 (none_read csdl ssdl msl))))
-    c.in-Ok-Some.schema (rw c.in-Ok-Some.field-0-is at c.in-Ok-Some.ensures)
+pub returns : goal.returns
+returns c =
+    is_meant c.args.csdl.now c.args.ssdl.now c.args.msl.now c.in_ok-model.model c.in_ok-model.ensures c.in_ok-store.store c.in_ok-store.ensures c.in_ok-mapping.mapping c.in_ok-mapping.ensures
+    (c.is_table_form.ensures.0 c.if-not-is_table_form.false)

@@ -1,0 +1,23 @@
+use Rattle.std.proofs.Common.{get_or, subst, true}
+use Rattle.std.specs.BTreeSet.{Updates}
+use Rattle.std.proofs.lemmas.Option.{slice_get-get_or}
+use Rattle.round_trip.specs.Words.{PropId}
+use Rattle.soundness.specs.Joined.{prop}
+use Rattle.barred_members.specs.Added.{IsProp}
+use Rattle.barred_members.specs.Labels.{label_cmp}
+use Rattle.barred_members.specs.declared.barred.Barred.{Barred}
+use Rattle.barred_members.specs.declared.labels.Label.{Label}
+use Rattle.barred_members.proofs.Adding.{adds_next, adds_one}
+use Rattle.barred_members.proofs.barred.Barred.add_props.Goals as goal
+
+pub loop-property-preserved : goal.loop-property-preserved
+loop-property-preserved c =
+    let properties = c.args.properties.now in
+    let n = c.loop-property.property-index in
+    let nil : PropId = record { index = 0 } in
+    let x : PropId = get_or properties n nil in
+    let so_far = c.loop-property.self in
+    let after : Barred = record { groups = so_far.groups; labels = c.insert.new.self } in
+    let Comes : Label → Type 0 = λ label. Updates label_cmp so_far.labels c.insert.new.self label true in
+    adds_next IsProp properties n x c.args.self.now so_far after (slice_get-get_or properties n nil c.loop-property-test.true) c.loop-property.invariant
+    (adds_one (prop x) so_far after (λ _. so_far.groups) (subst Comes c.prop_label.ensures c.in_ok-insert.ensures.updates))

@@ -1,0 +1,9 @@
+//! The properties and columns that tell another entity, or are joined to one that does.
+#![tactic(auto)]
+
+mod barred;
+mod labels;
+#[cfg(test)]
+mod tests;
+
+pub use barred::Barred;

@@ -1,7 +1,0 @@
-pub mod Names
-pub mod Pointed
-pub mod Shapes
-pub mod Declaring
-pub mod Form
-pub mod Meaning
-pub mod FirstExample

@@ -1,0 +1,8 @@
+//! Where the links of a mapped association stand: in the rows of one end's entities, or in rows of their own.
+#![tactic(auto)]
+
+mod placed;
+#[cfg(test)]
+mod tests;
+
+pub use placed::{is_hosted, is_joined, is_placed};

@@ -1,0 +1,35 @@
+use Rattle.std.proofs.Common.{◌⊎◌, List, [], codes, subst}
+use Rattle.least_fault.specs.Least.{IsLeast}
+use Rattle.layouts.specs.declared.fault.Fault.{Fault}
+use Rattle.layouts.specs.declared.rule.Rule.TheVariants.{WritesKey, WrittenOnce}
+use Rattle.layouts.specs.Faults.{fault_cmp}
+use Rattle.rule_places.specs.Places.{IsAt, InList}
+use Rattle.rule_places.proofs.Rules.{least_joined, least_where}
+use Rattle.round_trip.specs.Words.{PropId}
+use Rattle.soundness.specs.Lookups.{set_key}
+use Rattle.msl_rules.specs.Found.{set_numbered}
+use Rattle.msl_rules.specs.FragmentRules.{IsUnfitFault, IsCondFault, IsEnumFault, IsWrittenBefore}
+use Rattle.msl_written.specs.Within.{named_in, schema_in}
+use Rattle.msl_fragment_rules.specs.FragmentFaults.{LeavesKey}
+use Rattle.msl_fragment_rules.proofs.fragments.first_broken.Goals as goal
+
+pub returns : goal.returns
+returns c =
+    let writing = c.args.writing.now in
+    let schema = schema_in writing.between in
+    let named = named_in writing in
+    let fragment = c.args.fragment.now in
+    let Cond : List PropId → Fault → Type 0 = λ key. InList (codes "Condition") (IsCondFault schema named writing.table key) fragment.conds in
+    let key : List PropId = set_key schema.model (set_numbered c.args.set) in
+    let Unfit : Fault → Type 0 = InList (codes "ScalarProperty") (IsUnfitFault schema named writing.table) fragment.pairs in
+    let Unwritten : Fault → Type 0 = λ fault. LeavesKey schema named c.args.set writing.table fragment.pairs × IsAt WritesKey [] fault in
+    let Foreign : Fault → Type 0 = InList (codes "ScalarProperty") (IsEnumFault schema named writing.table) fragment.pairs in
+    let Again : Fault → Type 0 = InList (codes "ScalarProperty") (λ k pair inside. IsWrittenBefore fragment.pairs k pair × IsAt WrittenOnce [] inside) fragment.pairs in
+    let unwritten = least_where (IsAt WritesKey []) c.in_ok-unwritten.unwritten c.in_ok-leaves_key.ensures c.in_ok-unwritten.ensures in
+    let Found : List PropId → Type 0 = λ props. IsLeast fault_cmp (Cond props) c.in_ok-cond.cond in
+    let cond = subst Found c.set_key-key.ensures c.in_ok-cond.ensures in
+    least_joined Unfit (λ fault. Unwritten fault ⊎ Cond key fault ⊎ Foreign fault ⊎ Again fault) c.in_ok-unfit.unfit c.earlier-2.result c.earlier-3.result c.earlier-3.ensures
+    c.in_ok-unfit.ensures
+    (least_joined Unwritten (λ fault. Cond key fault ⊎ Foreign fault ⊎ Again fault) c.in_ok-unwritten.unwritten c.earlier-behind.result c.earlier-2.result c.earlier-2.ensures unwritten
+    (least_joined (Cond key) (λ fault. Foreign fault ⊎ Again fault) c.in_ok-cond.cond c.earlier.result c.earlier-behind.result c.earlier-behind.ensures cond
+    (least_joined Foreign Again c.in_ok-foreign.foreign c.in_ok-again.again c.earlier.result c.earlier.ensures c.in_ok-foreign.ensures c.in_ok-again.ensures)))

@@ -1,0 +1,9 @@
+//! What is wrong in the fragments of entities of an MSL document: what they write, and their conditions.
+#![tactic(auto)]
+
+mod fragments;
+mod key;
+#[cfg(test)]
+mod tests;
+
+pub use fragments::first_fragment_fault;

@@ -1,0 +1,4 @@
+pub mod RuleNumbers
+pub mod SoundReading
+pub mod Steps
+pub mod TwoEnds

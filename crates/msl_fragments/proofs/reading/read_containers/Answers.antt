@@ -1,0 +1,25 @@
+use Rattle.std.proofs.Common.{Some, None, subst}
+use Rattle.layouts.specs.Faults.{fault_cmp}
+use Rattle.least_fault.specs.Least.{IsLeast}
+use Rattle.msl_rules.specs.NameRules.{HasOtherContainer}
+use Rattle.msl_fragments.specs.Steps.{IsFaultAfterContainers}
+use Rattle.msl_rules.specs.MappingMeaning.{mapping_in}
+use Rattle.told_rules.proofs.Readings.{goes_on, stops_there}
+use Rattle.msl_fragments.proofs.Steps.{after_container}
+use Rattle.msl_fragments.proofs.reading.read_containers.Goals as goal
+
+pub returns-in-Some : goal.returns-in-Some
+returns-in-Some c =
+    let model = c.args.names.now.model.now in
+    let store = c.args.names.now.store.now in
+    let raw = c.args.raw.now in
+    let found : IsLeast fault_cmp (HasOtherContainer model store raw) (Some c.in-Some.fault) = subst (IsLeast fault_cmp (HasOtherContainer model store raw)) c.in-Some.is c.in_ok-fault.ensures in
+    stops_there (HasOtherContainer model store raw) (IsFaultAfterContainers model store raw) (mapping_in model store raw) c.in-Some.fault found (λ other. after_container model store raw other c.in-Some.fault found.0)
+
+pub returns-in-None : goal.returns-in-None
+returns-in-None c =
+    let model = c.args.names.now.model.now in
+    let store = c.args.names.now.store.now in
+    let raw = c.args.raw.now in
+    let none : IsLeast fault_cmp (HasOtherContainer model store raw) None = subst (IsLeast fault_cmp (HasOtherContainer model store raw)) c.in-None.is c.in_ok-fault.ensures in
+    goes_on (HasOtherContainer model store raw) (IsFaultAfterContainers model store raw) (mapping_in model store raw) c.read_picks.result none c.read_picks.ensures

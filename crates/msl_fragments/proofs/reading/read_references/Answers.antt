@@ -1,0 +1,25 @@
+use Rattle.std.proofs.Common.{Some, None, subst}
+use Rattle.layouts.specs.Faults.{fault_cmp}
+use Rattle.least_fault.specs.Least.{IsLeast}
+use Rattle.msl_rules.specs.NameRules.{IsUnresolvedName}
+use Rattle.msl_rules.specs.MappingFaults.{IsFaultAfterNames}
+use Rattle.msl_rules.specs.MappingMeaning.{mapping_in}
+use Rattle.told_rules.proofs.Readings.{goes_on, stops_there}
+use Rattle.msl_fragments.proofs.Steps.{after_unresolved}
+use Rattle.msl_fragments.proofs.reading.read_references.Goals as goal
+
+pub returns-in-Some : goal.returns-in-Some
+returns-in-Some c =
+    let model = c.args.names.now.model.now in
+    let store = c.args.names.now.store.now in
+    let raw = c.args.raw.now in
+    let found : IsLeast fault_cmp (IsUnresolvedName model store raw) (Some c.in-Some.fault) = subst (IsLeast fault_cmp (IsUnresolvedName model store raw)) c.in-Some.is c.in_ok-fault.ensures in
+    stops_there (IsUnresolvedName model store raw) (IsFaultAfterNames model store raw) (mapping_in model store raw) c.in-Some.fault found (λ other. after_unresolved model store raw other c.in-Some.fault found.0)
+
+pub returns-in-None : goal.returns-in-None
+returns-in-None c =
+    let model = c.args.names.now.model.now in
+    let store = c.args.names.now.store.now in
+    let raw = c.args.raw.now in
+    let none : IsLeast fault_cmp (IsUnresolvedName model store raw) None = subst (IsLeast fault_cmp (IsUnresolvedName model store raw)) c.in-None.is c.in_ok-fault.ensures in
+    goes_on (IsUnresolvedName model store raw) (IsFaultAfterNames model store raw) (mapping_in model store raw) c.read_containers.result none c.read_containers.ensures

@@ -1,0 +1,2 @@
+pub mod ReadsMapping
+pub mod Steps

@@ -1,0 +1,2 @@
+pub mod LinkParts
+pub mod WrittenColumns

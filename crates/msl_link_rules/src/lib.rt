@@ -1,0 +1,14 @@
+//! What is wrong in the mappings of association sets of an MSL document: what their ends write, where links stand, and their conditions.
+#![tactic(auto)]
+
+mod again;
+mod columns;
+mod conditions;
+mod end_keys;
+mod ends;
+mod links;
+mod of_link;
+#[cfg(test)]
+mod tests;
+
+pub use links::first_link_fault;

@@ -1,0 +1,14 @@
+//! The mapping that an MSL document means, made from its lists.
+#![tactic(auto)]
+
+mod conditions;
+mod fragments;
+mod links;
+mod mapping;
+mod places;
+#[cfg(test)]
+mod tests;
+
+pub use fragments::make_fragment;
+pub use links::make_link;
+pub use mapping::make_mapping;

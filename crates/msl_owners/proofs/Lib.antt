@@ -1,0 +1,7 @@
+pub mod Adding
+pub mod AtWriters
+pub mod Flat
+pub mod Found
+pub mod Hosted
+pub mod Order
+pub mod Writers

@@ -1,0 +1,3 @@
+pub mod AllWriters
+pub mod SetWriters
+pub mod Spots

@@ -1,0 +1,14 @@
+//! Who writes each table by an MSL document: where a table has a second owner, and where an owner's key is paired otherwise than before.
+#![tactic(auto)]
+
+mod all_writers;
+mod fragments;
+mod key_writers;
+mod keys;
+mod links;
+mod owners;
+mod spots;
+#[cfg(test)]
+mod tests;
+
+pub use owners::first_owner_fault;

@@ -1,0 +1,4 @@
+pub mod Before
+pub mod CondFaults
+pub mod Free
+pub mod KeysApart

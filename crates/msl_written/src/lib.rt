@@ -1,0 +1,17 @@
+//! What is wrong in a list of pairs or of conditions of a mapping.
+#![tactic(auto)]
+
+mod between;
+mod conditions;
+mod kinds;
+mod pairs;
+mod repeats;
+#[cfg(test)]
+mod tests;
+mod writing;
+
+pub use between::Between;
+pub use conditions::first_condition_fault;
+pub use pairs::{first_enum, first_unfit};
+pub use repeats::first_twice_written;
+pub use writing::Writing;

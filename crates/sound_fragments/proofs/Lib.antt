@@ -1,0 +1,9 @@
+pub mod StableFacts
+pub mod StableKinds
+pub mod DerivedTypes
+pub mod NamesFound
+pub mod Written
+pub mod MeantPairs
+pub mod MeantPicks
+pub mod MeantConds
+pub mod SoundFragments

@@ -1,0 +1,11 @@
+pub mod OneName
+pub mod Stable
+pub mod FoundPairs
+pub mod FoundConds
+pub mod Placed
+pub mod MeantLinks
+pub mod KeptLinks
+pub mod LinkEnds
+pub mod EndPairs
+pub mod LinkConds
+pub mod SoundLinks
