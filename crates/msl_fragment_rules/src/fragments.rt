@@ -13,9 +13,7 @@ use layouts::{Fault, Rule};
 use least_fault::{Finder, earlier};
 use msl_found::picked_type;
 use msl_lists::{RawFragment, RawMapping, RawSetMapping, RawTypeMapping};
-use msl_written::{
-    Between, Writing, first_condition_fault, first_enum, first_twice_written, first_unfit,
-};
+use msl_written::{Between, MeantPairs, Writing, first_condition_fault, first_twice_written};
 use rule_places::{behind_member, fault_here_if, first_at};
 use std::alloc::Global;
 
@@ -60,14 +58,14 @@ fn first_broken(
 ) -> Result<Option<Fault>, Memory>
     ensures { IfOk result (λ found. IsLeast fault_cmp (IsBroken (schema_in writing.now.between) (named_in writing.now) set writing.now.table fragment.now) found) }
 {
-    let pairs = &fragment.pairs;
-    let unfit = first_unfit(alloc, writing, pairs)?;
-    let leaves_key = leaves_key(alloc, writing, set, pairs)?;
+    let pairs = MeantPairs::of(alloc, writing, &fragment.pairs)?;
+    let unfit = pairs.first_unfit(alloc)?;
+    let leaves_key = leaves_key(alloc, &pairs, set)?;
     let unwritten = fault_here_if(alloc, leaves_key, Rule::WritesKey)?;
     let key = set_key(writing.between.names.model, set);
     let cond = first_condition_fault(alloc, writing, key, &fragment.conds)?;
-    let foreign = first_enum(alloc, writing, pairs)?;
-    let again = first_twice_written(alloc, pairs)?;
+    let foreign = pairs.first_enum(alloc)?;
+    let again = first_twice_written(alloc, &fragment.pairs)?;
     let behind = earlier(cond, earlier(foreign, again));
     Ok(earlier(unfit, earlier(unwritten, behind)))
 }

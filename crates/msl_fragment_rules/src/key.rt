@@ -7,10 +7,9 @@ ghost use Rattle.msl_written.specs.Within.{named_in, schema_in};
 ghost use Rattle.msl_fragment_rules.specs.FragmentFaults.{LeavesKey};
 
 use edm_types::{EntityModel, EntityType};
-use emc_base::{Memory, PropId, Seq};
+use emc_base::{Memory, PropId};
 use key_matching::matches;
-use msl_lists::RawPair;
-use msl_written::Writing;
+use msl_written::MeantPairs;
 use std::alloc::Global;
 
 /// The key of the entities of the set at a place; empty where there is no such set.
@@ -32,16 +31,12 @@ fn element_of(model: &EntityModel, set: usize) -> Option<&EntityType>
 }
 
 /// Whether no pairs match the key of the set at a place with the primary key of the table (V30). `Memory` comes where memory ran out.
-pub fn leaves_key(
-    alloc: Global,
-    writing: &Writing<'_>,
-    set: usize,
-    pairs: &Seq<RawPair>,
-) -> Result<bool, Memory>
-    ensures { IfOk result (λ yes. IsTrue yes ↔ LeavesKey (schema_in writing.now.between) (named_in writing.now) set writing.now.table pairs.now) }
+pub fn leaves_key(alloc: Global, pairs: &MeantPairs<'_>, set: usize) -> Result<bool, Memory>
+    ensures { IfOk result (λ yes. IsTrue yes ↔ LeavesKey (schema_in pairs.now.writing.now.between) (named_in pairs.now.writing.now) set pairs.now.writing.now.table pairs.now.pairs.now) }
 {
+    let writing = pairs.writing;
     let key = set_key(writing.between.names.model, set);
-    let found = writing.found().pairs(alloc, pairs)?;
+    let found = pairs.found(alloc)?;
     let is_matched = matches(alloc, key, writing.key_columns(), found.as_slice())?;
     Ok(!is_matched)
 }

@@ -14,7 +14,7 @@ use emc_base::Memory;
 use layouts::{Fault, Rule};
 use least_fault::{Finder, earlier};
 use msl_lists::RawEndMapping;
-use msl_written::{Writing, first_unfit};
+use msl_written::{MeantPairs, Writing};
 use rule_places::fault_here_if;
 use std::alloc::Global;
 
@@ -67,7 +67,8 @@ impl<'a> InEnds<'a> {
             ty: Some(known.ty.index as usize),
             table: self.table,
         };
-        let unfit = first_unfit(alloc, &writing, &end.pairs)?;
+        let pairs = MeantPairs::of(alloc, &writing, &end.pairs)?;
+        let unfit = pairs.first_unfit(alloc)?;
         let is_unwritten = is_key_unwritten(alloc, &self.of.between, self.table, known, end)?;
         let key = fault_here_if(alloc, is_unwritten, Rule::WritesKey)?;
         let search = AtEnd {

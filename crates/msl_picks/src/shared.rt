@@ -1,8 +1,8 @@
-ghost use Rattle.std.specs.Prelude.{◌≡◌, ◌↔◌, All, IfOk, IsTrue, Some};
+ghost use Rattle.std.specs.Prelude.{◌≡◌, ◌↔◌, All, IfOk, IsTrue, Some, map};
 ghost use Rattle.least_fault.specs.Least.{IsLeast};
 ghost use Rattle.layouts.specs.Faults.{fault_cmp};
 ghost use Rattle.msl_rules.specs.NameRules.{IsUnsharedName, NamesNoShared};
-ghost use Rattle.msl_picks.specs.PickedProps.{picked_prop};
+ghost use Rattle.msl_picks.specs.PickedProps.{pick_type, prop_in};
 
 use emc_base::{Memory, PropId, Txt};
 use layouts::{Fault, Rule};
@@ -19,14 +19,30 @@ pub struct OfPicks<'a> {
     pub names: &'a SchemaNames<'a>,
     /// The items of the TypeName.
     pub picks: &'a [RawPick],
+    /// The place of the type that each item names, where it names one.
+    pub types: &'a [Option<usize>],
+    ghost named: { types.now ≡ map (pick_type names.now.model.now) picks.now },
 }
 
 impl<'a> OfPicks<'a> {
+    // Whether no property is what the name stands for in each type of the TypeName.
+    fn names_no_shared(&self, name: &Txt) -> bool
+        ensures { IsTrue result ↔ NamesNoShared self.now.names.now.model.now self.now.picks.now name.now }
+    {
+        let Some((first, others)) = self.types.split_first() else {
+            return false;
+        };
+        let Some(shared) = prop_in(self.names, *first, name) else {
+            return true;
+        };
+        !each_has_prop(self.names, others, name, shared)
+    }
+
     // The name, where it stands for no shared property.
     fn first_unshared(&self, alloc: Global, name: &Txt) -> Result<Option<Fault>, Memory>
         ensures { IfOk result (λ found. IsLeast fault_cmp (IsUnsharedName self.now.names.now.model.now self.now.picks.now name.now) found) }
     {
-        let is_unshared = names_no_shared(self.names, self.picks, name);
+        let is_unshared = self.names_no_shared(name);
         let found = fault_if(alloc, is_unshared, Rule::SharedProperty, "Name")?;
         Ok(found)
     }
@@ -73,39 +89,43 @@ impl<'a> Finder<RawFragment, Fault> for OfPicks<'a> {
     }
 }
 
-// Whether no property is what the name stands for in each type of the TypeName.
-fn names_no_shared(names: &SchemaNames<'_>, picks: &[RawPick], name: &Txt) -> bool
-    ensures { IsTrue result ↔ NamesNoShared names.now.model.now picks.now name.now }
+// Whether the name stands for this property in each of the types.
+fn each_has_prop(
+    names: &SchemaNames<'_>,
+    types: &[Option<usize>],
+    name: &Txt,
+    shared: PropId,
+) -> bool
+    ensures { IsTrue result ↔ All (λ ty. prop_in names.now.model.now name.now ty ≡ Some shared) types.now }
 {
-    let Some(first) = picks.first() else {
-        return false;
-    };
-    let Some(shared) = picked_prop(names, first, name) else {
-        return true;
-    };
-    !each_picks_prop(names, picks, name, shared)
+    types.iter().all(|ty| has_prop(names, *ty, name, shared))
 }
 
-// Whether the name stands for this property in the type of each pick.
-fn each_picks_prop(names: &SchemaNames<'_>, picks: &[RawPick], name: &Txt, shared: PropId) -> bool
-    ensures { IsTrue result ↔ All (λ pick. picked_prop names.now.model.now name.now pick ≡ Some shared) picks.now }
+// Whether the name stands for this property in a type.
+fn has_prop(names: &SchemaNames<'_>, ty: Option<usize>, name: &Txt, shared: PropId) -> bool
+    ensures { IsTrue result ↔ (prop_in names.now.model.now name.now ty ≡ Some shared) }
 {
-    picks
-        .iter()
-        .all(|pick| picks_prop(names, pick, name, shared))
+    prop_in(names, ty, name).is_some_and(|prop| prop == shared)
 }
 
-// Whether the name stands for this property in the type of a pick.
-fn picks_prop(names: &SchemaNames<'_>, pick: &RawPick, name: &Txt, shared: PropId) -> bool
-    ensures { IsTrue result ↔ (picked_prop names.now.model.now name.now pick.now ≡ Some shared) }
+// The property that the name stands for in a type.
+fn prop_in(names: &SchemaNames<'_>, ty: Option<usize>, name: &Txt) -> Option<PropId>
+    ensures { result ≡ prop_in names.now.model.now name.now ty }
 {
-    picked_prop(names, pick, name).is_some_and(|prop| prop == shared)
+    names.prop_named(ty?, name.as_str())
 }
 
-// The property that the name stands for in the type of a pick.
-fn picked_prop(names: &SchemaNames<'_>, pick: &RawPick, name: &Txt) -> Option<PropId>
-    ensures { result ≡ picked_prop names.now.model.now name.now pick.now }
+/// The place of the type that each item of a TypeName names, where it names one.
+pub fn types_of(
+    alloc: Global,
+    names: &SchemaNames<'_>,
+    picks: &[RawPick],
+) -> Result<Vec<Option<usize>>, Memory>
+    ensures { IfOk result (λ types. types.items ≡ map (pick_type names.now.model.now) picks.now) }
 {
-    let ty = names.type_named(pick.reference.as_str())?;
-    names.prop_named(ty, name.as_str())
+    let mut types = Vec::new(alloc);
+    for pick in picks {
+        types.push(names.type_named(pick.reference.as_str()))?;
+    }
+    Ok(types)
 }

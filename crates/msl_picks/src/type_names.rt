@@ -8,7 +8,7 @@ ghost use Rattle.schema_names.specs.SchemaNames.{set_named};
 ghost use Rattle.msl_rules.specs.NameRules.{BreaksTypeNameRules, IsPickedFault, PicksOther};
 
 use crate::derived::is_derived;
-use crate::shared::OfPicks;
+use crate::shared::{OfPicks, types_of};
 use edm_types::EntitySet;
 use emc_base::Memory;
 use layouts::{Fault, Rule};
@@ -61,9 +61,12 @@ impl<'a> Finder<RawTypeMapping, Fault> for InMapping<'a> {
         _: usize,
         item: &RawTypeMapping,
     ) -> Result<Option<Fault>, Memory> {
+        let picks = item.picks.as_slice();
+        let types = types_of(alloc, self.names, picks)?;
         let search = OfPicks {
             names: self.names,
-            picks: item.picks.as_slice(),
+            picks,
+            types: types.as_slice(),
         };
         let found = first_at(alloc, "MappingFragment", &search, &item.fragments)?;
         Ok(found)

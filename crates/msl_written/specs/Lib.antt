@@ -1,1 +1,2 @@
+pub mod MeantAt
 pub mod Within

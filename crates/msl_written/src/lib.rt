@@ -12,6 +12,6 @@ mod writing;
 
 pub use between::Between;
 pub use conditions::first_condition_fault;
-pub use pairs::{first_enum, first_unfit};
+pub use pairs::MeantPairs;
 pub use repeats::first_twice_written;
 pub use writing::Writing;

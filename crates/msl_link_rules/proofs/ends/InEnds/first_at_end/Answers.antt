@@ -1,12 +1,16 @@
-use Rattle.std.proofs.Common.{◌⊎◌, [], codes}
+use Rattle.std.proofs.Common.{◌⊎◌, List, [], codes, subst₂}
+use Rattle.least_fault.specs.Least.{IsLeast}
 use Rattle.layouts.specs.declared.fault.Fault.{Fault}
 use Rattle.layouts.specs.declared.rule.Rule.TheVariants.{WritesKey}
+use Rattle.layouts.specs.Faults.{fault_cmp}
 use Rattle.rule_places.specs.Places.{InList, IsAt}
 use Rattle.rule_places.proofs.Rules.{least_joined, least_where}
 use Rattle.schema_names.specs.SchemaNames.{prop_named}
+use Rattle.msl_lists.specs.declared.raw.RawPair.{RawPair}
 use Rattle.msl_rules.specs.FragmentRules.{IsUnfitFault}
 use Rattle.msl_rules.specs.LinkRules.{IsEndKeyUnwritten}
-use Rattle.msl_written.specs.Within.{schema_in}
+use Rattle.msl_written.specs.declared.writing.Writing.{Writing}
+use Rattle.msl_written.specs.Within.{named_in, schema_in}
 use Rattle.msl_link_rules.specs.LinkParts.{WritesAgain}
 use Rattle.msl_link_rules.proofs.ends.InEnds.first_at_end.Goals as goal
 
@@ -19,6 +23,9 @@ returns c =
     let Unfit : Fault → Type 0 = InList (codes "ScalarProperty") (IsUnfitFault schema (prop_named schema.model known.ty.index) self.table) end.pairs in
     let Key : Fault → Type 0 = λ fault. IsEndKeyUnwritten schema self.table known end × IsAt WritesKey [] fault in
     let Again : Fault → Type 0 = WritesAgain self.of.link.now.ends c.args.place end in
-    least_joined Unfit (λ fault. Key fault ⊎ Again fault) c.in_ok-unfit.unfit c.earlier.result c.earlier-2.result c.earlier-2.ensures c.in_ok-unfit.ensures
+    let UnfitIn : Writing → List RawPair → Type 0 =
+    λ within written. IsLeast fault_cmp (InList (codes "ScalarProperty") (IsUnfitFault (schema_in within.between) (named_in within) within.table) written) c.in_ok-unfit.unfit in
+    let unfit = subst₂ UnfitIn c.in_ok-pairs.ensures.writing c.in_ok-pairs.ensures.pairs c.in_ok-unfit.ensures in
+    least_joined Unfit (λ fault. Key fault ⊎ Again fault) c.in_ok-unfit.unfit c.earlier.result c.earlier-2.result c.earlier-2.ensures unfit
     (least_joined Key Again c.in_ok-key.key c.in_ok-again.again c.earlier.result c.earlier.ensures
     (least_where (IsAt WritesKey []) c.in_ok-key.key c.in_ok-is_unwritten.ensures c.in_ok-key.ensures) c.in_ok-again.ensures)

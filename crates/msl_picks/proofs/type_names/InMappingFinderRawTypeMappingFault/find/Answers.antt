@@ -10,4 +10,4 @@ pub returns : goal.returns
 returns c =
     let model = c.args.self.now.names.now.model.now in
     let P : List RawPick → Type 0 = λ picks. IsLeast fault_cmp (InList (codes "MappingFragment") (IsSharedFault model picks) c.args.item.now.fragments) c.in_ok-found.found in
-    subst P c.as_slice.ensures.items c.in_ok-found.ensures
+    subst P c.as_slice-picks.ensures.items c.in_ok-found.ensures

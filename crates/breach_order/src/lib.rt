@@ -1,0 +1,10 @@
+//! What states and tables share when their first breach is looked for: the order of breaches, and repeated keys.
+#![tactic(auto)]
+
+mod found;
+mod repeats;
+#[cfg(test)]
+mod tests;
+
+pub use found::Found;
+pub use repeats::{first_repeat, first_repeated_key};

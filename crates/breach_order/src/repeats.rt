@@ -1,0 +1,28 @@
+ghost use Rattle.std.specs.Prelude.{◌≡◌, IfOk, IsTrue};
+ghost use Rattle.std.specs.Ordering.{eq_by_cmp};
+ghost use Rattle.breach_order.specs.Repeats.{IsFirstRepeat};
+
+use emc_base::{Key, Memory};
+use std::alloc::Global;
+use std::collections::BTreeSet;
+
+/// The first place at which a key is alike one before it, by the order of keys; `None` exactly where no two are alike. `Memory` comes
+/// where memory ran out.
+pub fn first_repeat<K: Ord>(alloc: Global, keys: &[K]) -> Result<Option<usize>, Memory>
+    ensures { IfOk result (IsFirstRepeat (λ one other. IsTrue (eq_by_cmp K.cmp one other)) keys.now) }
+{
+    let mut seen: BTreeSet<&K> = BTreeSet::new(alloc);
+    for i in 0..keys.len() {
+        if !seen.insert(&keys[i])? {
+            return Ok(Some(i));
+        }
+    }
+    Ok(None)
+}
+
+/// The first place at which a key equals one before it; `None` exactly where no two are equal. `Memory` comes where memory ran out.
+pub fn first_repeated_key(alloc: Global, keys: &[Key]) -> Result<Option<usize>, Memory>
+    ensures { IfOk result (IsFirstRepeat (λ one other. one ≡ other) keys.now) }
+{
+    first_repeat(alloc, keys)
+}

@@ -1,0 +1,160 @@
+use crate::tables_of_doc;
+use edm_types::{Column, Row, StoreModel, Table};
+use emc_base::{Bin, ColId, Kind, Memory, Seq, Txt, Value};
+use json_form::Doc;
+use shape_faults::ShapeFault;
+use std::alloc::Global;
+use std::process::Abort;
+use std::test::Fail;
+
+fn table(alloc: Global, name: &str, cols: Seq<Column>) -> Result<Table, Memory> {
+    let mut key = Seq::empty(alloc);
+    key.push(ColId { index: 0 })?;
+    let name = Txt::of(alloc, name)?;
+    Ok(Table { name, cols, key })
+}
+
+fn add(alloc: Global, cols: &mut Seq<Column>, name: &str, kind: Kind) -> Result<(), Memory> {
+    let name = Txt::of(alloc, name)?;
+    cols.push(Column {
+        name,
+        kind,
+        nullable: false,
+    })
+}
+
+// Orders, with a column of each form, and Parts, whose columns aren't in byte order of their names.
+fn store(alloc: Global) -> Result<StoreModel, Memory> {
+    let mut orders = Seq::empty(alloc);
+    add(alloc, &mut orders, "Id", Kind::Int32)?;
+    add(alloc, &mut orders, "Name", Kind::Text(Some(1)))?;
+    add(alloc, &mut orders, "Data", Kind::Binary(None))?;
+    add(alloc, &mut orders, "Paid", Kind::Boolean)?;
+    let mut parts = Seq::empty(alloc);
+    add(alloc, &mut parts, "b", Kind::Int64)?;
+    add(alloc, &mut parts, "a", Kind::Byte)?;
+    let mut tables = Seq::empty(alloc);
+    tables.push(table(alloc, "Parts", parts)?)?;
+    tables.push(table(alloc, "Orders", orders)?)?;
+    Ok(StoreModel {
+        namespace: Txt::of(alloc, "Shop")?,
+        container: Txt::of(alloc, "Tables")?,
+        tables,
+        keys: Seq::empty(alloc),
+    })
+}
+
+// What reading a text as a table document answers.
+fn read(rt: &impl Abort, alloc: Global, text: &str) -> Result<Seq<Seq<Row>>, ShapeFault> {
+    let bytes = Bin::of(alloc, text.as_bytes()).expect(rt, "memory");
+    let doc = Doc::of_bytes(alloc, &bytes).expect(rt, "no document");
+    let store = store(alloc).expect(rt, "memory");
+    tables_of_doc(alloc, &doc, &store)
+}
+
+// The pointer that is told of a text, where one is.
+fn told(rt: &impl Abort, alloc: Global, text: &str) -> Option<Txt> {
+    match read(rt, alloc, text) {
+        Ok(_tables) => None,
+        Err(ShapeFault::Shape(pointer)) => Some(pointer),
+        Err(ShapeFault::Memory) => None,
+    }
+}
+
+// A document, and the pointer of the first place of another shape.
+const FAULTS: [(&str, &str); 28] = [
+    ("[]", ""),
+    ("null", ""),
+    ("{\"Lots\":[]}", "/Lots"),
+    ("{\"Extra\":1,\"Parts\":[{}]}", "/Extra"),
+    ("{\"Zs\":1,\"Parts\":[{}]}", "/Parts/0/b"),
+    ("{\"Parts\":[{}],\"Orders\":[{}]}", "/Orders/0/Id"),
+    ("{\"Orders\":{}}", "/Orders"),
+    ("{\"Orders\":null}", "/Orders"),
+    ("{\"Orders\":[[]]}", "/Orders/0"),
+    ("{\"Orders\":[null]}", "/Orders/0"),
+    ("{\"Parts\":[{}]}", "/Parts/0/b"),
+    ("{\"Parts\":[{\"b\":1}]}", "/Parts/0/a"),
+    ("{\"Parts\":[{\"a\":\"x\"}]}", "/Parts/0/a"),
+    ("{\"Parts\":[{\"b\":\"x\"}]}", "/Parts/0/b"),
+    ("{\"Parts\":[{\"z\":1}]}", "/Parts/0/z"),
+    ("{\"Parts\":[{\"Z\":1,\"a\":\"x\",\"b\":1}]}", "/Parts/0/Z"),
+    ("{\"Parts\":[{\"z\":1,\"a\":\"x\",\"b\":1}]}", "/Parts/0/a"),
+    ("{\"Parts\":[{\"a\":1.5,\"b\":1}]}", "/Parts/0/a"),
+    ("{\"Parts\":[{\"a\":1e2,\"b\":1}]}", "/Parts/0/a"),
+    ("{\"Parts\":[{\"a\":\"1\",\"b\":1}]}", "/Parts/0/a"),
+    ("{\"Parts\":[{\"a\":1,\"b\":1},{\"a\":1}]}", "/Parts/1/b"),
+    (
+        "{\"Parts\":[{\"a\":1},{\"a\":\"x\",\"b\":1}]}",
+        "/Parts/0/b",
+    ),
+    (
+        "{\"Orders\":[{\"Id\":1,\"Name\":7,\"Data\":\"\",\"Paid\":true}]}",
+        "/Orders/0/Name",
+    ),
+    (
+        "{\"Orders\":[{\"Id\":1,\"Name\":\"\",\"Data\":\"abc\",\"Paid\":true}]}",
+        "/Orders/0/Data",
+    ),
+    (
+        "{\"Orders\":[{\"Id\":1,\"Name\":\"\",\"Data\":\"xy\",\"Paid\":true}]}",
+        "/Orders/0/Data",
+    ),
+    (
+        "{\"Orders\":[{\"Id\":1,\"Name\":\"\",\"Data\":[1],\"Paid\":true}]}",
+        "/Orders/0/Data",
+    ),
+    (
+        "{\"Orders\":[{\"Id\":1,\"Name\":\"\",\"Data\":\"\",\"Paid\":0}]}",
+        "/Orders/0/Paid",
+    ),
+    (
+        "{\"Orders\":[{\"Id\":{},\"Name\":\"\",\"Data\":\"\",\"Paid\":0}]}",
+        "/Orders/0/Id",
+    ),
+];
+
+#[test]
+fn the_first_fault_of_shape_is_told(rt: HostRuntime) {
+    for (text, want) in FAULTS {
+        let told = told(&rt, rt.alloc(), text);
+        let told = told.as_ref().map(|pointer| pointer.as_str());
+        assert_eq!(rt; told, Some(want), "at {text}");
+    }
+}
+
+const GOOD: &str = "{\"Orders\":[\
+    {\"Id\":1,\"Name\":\"long\",\"Data\":\"aB0f\",\"Paid\":true},\
+    {\"Paid\":null,\"Name\":null,\"Data\":null,\"Id\":null}]}";
+
+#[test]
+fn tables_are_read(rt: HostRuntime) -> Result<(), Fail> {
+    let alloc = rt.alloc();
+    let Ok(tables) = read(&rt, alloc, GOOD) else {
+        return Err(Fail::from("not read"));
+    };
+    assert_eq!(rt; tables.len(), 2);
+    assert!(rt; tables.at(0).is_empty());
+    let rows = tables.at(1);
+    assert_eq!(rt; rows.len(), 2);
+    let mut cells = Seq::empty(alloc);
+    cells.push(Value::Whole(1))?;
+    cells.push(Value::Text(Txt::of(alloc, "long")?))?;
+    cells.push(Value::Bytes(Bin::of(alloc, &[171, 15])?))?;
+    cells.push(Value::Flag(true))?;
+    assert!(rt; rows.at(0).cells == cells);
+    for value in rows.at(1).cells.as_slice() {
+        assert!(rt; *value == Value::Null);
+    }
+    Ok(())
+}
+
+#[test]
+fn a_document_without_members_has_empty_tables(rt: HostRuntime) -> Result<(), Fail> {
+    let Ok(tables) = read(&rt, rt.alloc(), "{}") else {
+        return Err(Fail::from("not read"));
+    };
+    assert_eq!(rt; tables.len(), 2);
+    assert!(rt; tables.at(0).is_empty() && tables.at(1).is_empty());
+    Ok(())
+}

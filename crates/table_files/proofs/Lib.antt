@@ -1,0 +1,5 @@
+pub mod Plain
+pub mod Rising
+pub mod SameCells
+pub mod Sorted
+pub mod Told

@@ -1,0 +1,4 @@
+pub mod Lists
+pub mod InOrder
+pub mod TablesTree
+pub mod Tells

@@ -1,0 +1,14 @@
+//! Tables: the rows of each table of a store, by key, in key order, and as a document.
+#![tactic(auto)]
+
+mod cells;
+mod key_order;
+mod local_rows;
+mod tables;
+mod tables_tree;
+#[cfg(test)]
+mod tests;
+
+pub use key_order::KeyOrder;
+pub use local_rows::LocalRows;
+pub use tables::{TableRow, Tables};

@@ -1,0 +1,10 @@
+pub mod SameValues
+pub mod Turns
+pub mod Referring
+pub mod Apart
+pub mod Fitting
+pub mod Leaves
+pub mod Held
+pub mod Flat
+pub mod Unbroken
+pub mod Kept

@@ -1,0 +1,4 @@
+pub mod Rules
+pub mod Cells
+pub mod References
+pub mod Tells

@@ -1,0 +1,36 @@
+use crate::rows::{keys_of, rows_at};
+use crate::rule::TableRule;
+use breach_order::{Found, first_repeated_key};
+use edm_types::{Row, Table};
+use emc_base::{Memory, Place, Seq, Txt};
+use least_fault::Finder;
+use std::alloc::Global;
+
+/// Looks at the primary keys of the tables: the rows that break B3.
+#[derive(Clone, Copy)]
+pub struct TableKeys<'a> {
+    pub tables: &'a [Seq<Row>],
+}
+
+impl<'a> Finder<Table, Found> for TableKeys<'a> {
+    ghost use Rattle.std.specs.Prelude.{[], map};
+    ghost use Rattle.round_trip.specs.Words.{place_at, row_key, rows_in};
+    ghost use Rattle.breach_order.specs.Repeats.{IsFoundRepeat};
+
+    ghost wrong = { λ s t table. IsFoundRepeat 3 t (λ key. place_at table.name key []) (map (row_key table) (rows_in s.tables.now (record { index = t }))) };
+
+    fn find(&self, alloc: Global, t: usize, table: &Table) -> Result<Option<Found>, Memory> {
+        let keys = keys_of(alloc, table, rows_at(self.tables, t))?;
+        let list = keys.as_slice();
+        let Some(i) = first_repeated_key(alloc, list)? else {
+            return Ok(None);
+        };
+        let place = Place {
+            name: table.name.copy(alloc)?,
+            key: list[i].copy(alloc)?,
+            part: Txt::of(alloc, "")?,
+        };
+        let found = Found::at(alloc, TableRule::RowKey.number(), &[t, i], place)?;
+        Ok(Some(found))
+    }
+}

@@ -1,0 +1,17 @@
+//! Whether tables are legal, and the first breach of their rules: null and domains of cells, keys of rows, and foreign keys.
+#![tactic(auto)]
+
+mod cells;
+mod columns;
+mod first;
+mod keys;
+mod legal;
+mod references;
+mod rows;
+mod rule;
+#[cfg(test)]
+mod tests;
+
+pub use first::{first_breach, legal_tables_have_no_breach};
+pub use legal::is_legal;
+pub use rule::TableRule;
