@@ -9,8 +9,6 @@ mod legal;
 mod references;
 mod rows;
 mod rule;
-#[cfg(test)]
-mod tests;
 
 pub use first::{first_breach, legal_tables_have_no_breach};
 pub use legal::is_legal;
