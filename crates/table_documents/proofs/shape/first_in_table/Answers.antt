@@ -1,13 +1,11 @@
-use Rattle.std.proofs.Common.{◌≡◌, [], List, IfOk, Option, Some, Bor, sym, subst}
+use Rattle.std.proofs.Common.{List, IfOk, Option, Bor, sym, subst}
 use Rattle.std.specs.Option.{option_copied}
 use Rattle.edm_types.specs.declared.store.Column.{Column}
 use Rattle.edm_types.specs.declared.store.Table.{Table}
 use Rattle.json_form.specs.Nodes.{part_of}
 use Rattle.least_fault.specs.Least.{IsLeast}
-use Rattle.shape_faults.specs.declared.place.ShapeStep.{ShapeStep}
 use Rattle.shape_faults.specs.Places.{place_cmp}
 use Rattle.table_documents.specs.Shapes.{IsMemberFault, IsRowsFault}
-use Rattle.table_documents.proofs.Cells.{here_alone}
 use Rattle.table_documents.proofs.shape.first_in_table.Goals as goal
 
 pub returns-in-Some : goal.returns-in-Some
@@ -16,10 +14,3 @@ returns-in-Some c =
     let P : List Column → Type 0 = λ cols. IfOk c.first_in_rows.result (IsLeast place_cmp (IsRowsFault cols d)) in
     let Q : Option (Bor Table) → Type 0 = λ table. IfOk c.first_in_rows.result (IsLeast place_cmp (IsMemberFault (option_copied table) d)) in
     subst Q (sym c.in-Some.is) (subst P c.as_slice.ensures.items c.first_in_rows.ensures)
-
-pub returns-in-None : goal.returns-in-None
-returns-in-None c =
-    let d = part_of c.args.node in
-    let P : List ShapeStep → Type 0 = λ here. IsLeast place_cmp (λ place. place ≡ []) (Some here) in
-    let Q : Option (Bor Table) → Type 0 = λ table. IsLeast place_cmp (IsMemberFault (option_copied table) d) (Some c.here.result) in
-    subst Q (sym c.in-None.is) (subst P (sym c.here.ensures) here_alone)
