@@ -1,2 +1,5 @@
+pub mod Ends
+pub mod Lent
+pub mod Listed
 pub mod Plain
 pub mod Told

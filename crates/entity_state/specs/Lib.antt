@@ -1,2 +1,4 @@
+pub mod Lists
+pub mod InOrder
 pub mod StateTree
 pub mod Tells

@@ -1,14 +1,11 @@
 -- An entity state as a JSON tree: the lists as they stand. A printed document has them in key order.
 -- Source: this project's entity documents.
-use Rattle.std.specs.Prelude.{◌≡◌, ℕ, List, [], ◌∷◌, ◌++◌, map, slice_get, is_none, filter, zip, Bool, codes, AllPairs}
+use Rattle.std.specs.Prelude.{◌≡◌, ℕ, List, [], ◌∷◌, ◌++◌, map, slice_get, is_none, filter, zip, Bool, codes}
 use Rattle.std.specs.Option.{option_map_or}
 use Rattle.std.specs.List.{enumerate_from}
-use Rattle.std.specs.declared.cmp.Ordering.TheVariants.{Less}
-use Rattle.std.specs.Cmp.Lexicographic.{slice_cmp}
 use Rattle.serde_json.specs.Data.{Data, string}
 use Rattle.json_form.specs.Trees.{value_tree, key_tree, array_of, object_of}
-use Rattle.round_trip.specs.Words.{SetId, TypeId, PropId, AssocId, Value, EntityModel, EntitySet, Assoc, Entity, Link, type_at, props_of, key_of, State, entities_in, links_in}
-use Rattle.emc_base.specs.Order.{value_cmp}
+use Rattle.round_trip.specs.Words.{SetId, TypeId, PropId, AssocId, Value, EntityModel, EntitySet, Assoc, Entity, Link, type_at, props_of, State, entities_in, links_in}
 
 -- a property's name
 abbrev pub name_of : EntityModel → PropId → List ℕ
@@ -54,8 +51,3 @@ assoc_members model state = map (assoc_member state) (filter (λ entry. is_indep
 -- a member for each entity set and each independent association set
 abbrev pub state_tree : EntityModel → State → Data
 state_tree model state = object_of (set_members model state ++ assoc_members model state)
-
--- the entities of each set stand in the order of their keys, and the links in that of their ends' keys
-pub record IsInKeyOrder (model : EntityModel) (state : State) : Type 0 where
-  pub entities : (set : SetId) → AllPairs (λ x y. slice_cmp value_cmp (key_of model x) (key_of model y) ≡ Less) (entities_in state set)
-  pub links : (assoc : AssocId) → AllPairs (λ x y. slice_cmp value_cmp (x.first ++ x.second) (y.first ++ y.second) ≡ Less) (links_in state assoc)

@@ -4,10 +4,10 @@ use Rattle.std.specs.Prelude.{◌≡◌, ◌≢◌, ℕ, List, [], ◌∷◌, �
 use Rattle.std.specs.List.{AllZip}
 use Rattle.serde_json.specs.Data.{Data, string}
 use Rattle.serde_json.specs.Find.{get}
-use Rattle.serde_json.specs.Written.{compact_text}
 use Rattle.json_form.specs.Trees.{value_tree, key_tree, array_of}
 use Rattle.round_trip.specs.Words.{SetId, TypeId, PropId, AssocId, EntityModel, EntitySet, Assoc, Entity, Link, At, props_of, value_of, State, entities_in, links_in, IsIndependent}
-use Rattle.entity_state.specs.StateTree.{name_of, full_name, is_independent}
+use Rattle.entity_state.specs.InOrder.{IsSortedState}
+use Rattle.entity_state.specs.StateTree.{name_of, full_name, is_independent, state_tree}
 
 -- the names by which an entity of a type is told: that of its type's member, and those of its properties
 abbrev pub entity_names : EntityModel → TypeId → List (List ℕ)
@@ -47,6 +47,9 @@ pub record TellsState (model : EntityModel) (state : State) (tree : Data) : Type
       → TellsEach (TellsLink assoc) (links_in state id) (get assoc.set_name tree)
   pub only : (name : List ℕ) → IsSome (get name tree) → Contains (state_names model) name
 
--- the text is the compact JSON of a tree that tells the state
-abbrev pub IsTextOf : EntityModel → State → List ℕ → Type 0
-IsTextOf model state text = (tree : Data) × (text ≡ compact_text tree) × TellsState model state tree
+-- the tree of the state, with the entities of each set and the links of each association set in key order
+pub record IsTreeInKeyOrder (model : EntityModel) (state : State) (tree : Data) : Type 0 where
+  pub sorted : State
+  pub order : IsSortedState model state sorted
+  pub is : tree ≡ state_tree model sorted
+  pub tells : HasApartNames model → TellsState model sorted tree

@@ -1,8 +1,11 @@
-//! Entity states: entities for each entity set and links for each association set, and how they are printed.
+//! Entity states: entities for each entity set and links for each association set, by key, in key order, and as a document.
 #![tactic(auto)]
 
+mod key_order;
+mod keys;
 mod state;
 mod state_tree;
+#[cfg(test)]
+mod tests;
 
 pub use state::EntityState;
-pub use state_tree::state_text;

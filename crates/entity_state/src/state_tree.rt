@@ -1,54 +1,68 @@
-ghost use Rattle.std.specs.Prelude.{◌≡◌, ◌++◌, ◌∷◌, All, IfOk, OnOk, codes, length, map, string_bytes, zip};
+ghost use Rattle.std.specs.Prelude.{◌≡◌, ◌++◌, ◌∷◌, All, IfOk, OnOk, codes, false, length, map, zip};
 ghost use Rattle.serde_json.specs.Data.{string, put};
-ghost use Rattle.serde_json.specs.Written.{compact_text};
 ghost use Rattle.serde_json.specs.View.{members_view, view};
+ghost use Rattle.serde_json.specs.Written.{has_float};
+ghost use Rattle.json_form.specs.Documents.{tree_of};
 ghost use Rattle.json_form.specs.Trees.{array_of, put_all};
 ghost use Rattle.round_trip.specs.Words.{IsEntity, IsState};
-ghost use Rattle.entity_state.specs.Tells.{HasApartNames, IsTextOf};
+ghost use Rattle.entity_state.specs.InOrder.{lent, lent_state};
 ghost use Rattle.entity_state.specs.StateTree.{assoc_members, entity_tree, link_tree, name_of, named_value, set_members, state_tree};
+ghost use Rattle.entity_state.specs.Tells.{IsTreeInKeyOrder};
 
+use crate::key_order::{SortedState, sorted_state};
 use crate::state::EntityState;
 use edm_types::{Assoc, Entity, EntityModel, EntityType, Link};
-use emc_base::{AssocId, Memory, PropId, SetId, Value};
-use json_form::{array_tree, key_tree, object_tree, value_tree};
+use emc_base::{Memory, PropId, Value};
+use json_form::{Doc, array_tree, key_tree, object_tree, value_tree};
 use serde_json::{Map, Value as Tree};
 use std::alloc::Global;
 
-/// A state of a model as compact JSON text: an entity document without its line feed. The lists stay in their order; a printed document
-/// has them in key order. `Memory` comes where there is none for it.
-pub fn state_text(alloc: Global, model: &EntityModel, state: &EntityState) -> Result<String, Memory>
-    requires { IsState model.now state.now }
-    ensures text { IfOk result (λ text. string_bytes text ≡ compact_text (state_tree model.now state.now)) }
-    ensures tells { IfOk result (λ text. HasApartNames model.now → IsTextOf model.now state.now (string_bytes text)) }
+impl EntityState {
+    /// The state as a document: an object with a member for each entity set, under its name the array of its entities, and a member for
+    /// each association set without a constraint, under its name the array of its links. The entities stand in the order of their keys,
+    /// those of one key in that of their list; the links in that of the key at the first end, and then of that at the second. `Memory`
+    /// comes where memory ran out.
+    pub fn to_doc(&self, alloc: Global, model: &EntityModel) -> Result<Doc, Memory>
+        requires { IsState model.now self.now }
+        ensures tree { IfOk result (λ doc. IsTreeInKeyOrder model.now self.now (tree_of doc)) }
+        ensures plain { IfOk result (λ doc. has_float (tree_of doc) ≡ false) }
+    {
+        let sorted = sorted_state(alloc, model, self)?;
+        let tree = state_tree(alloc, model, &sorted)?;
+        Ok(Doc::of_tree(tree))
+    }
+}
+
+fn state_tree(alloc: Global, model: &EntityModel, sorted: &SortedState<'_>) -> Result<Tree, Memory>
+    requires { IsState model.now (lent_state sorted.now) }
+    ensures { IfOk result (λ tree. view tree ≡ state_tree model.now (lent_state sorted.now)) }
 {
     let mut members = Map::new(alloc);
-    put_sets(alloc, &mut members, model, state)?;
-    put_assocs(alloc, &mut members, model, state)?;
-    let tree = object_tree(members);
-    Ok(tree.to_string(alloc)?)
+    put_sets(alloc, &mut members, model, sorted)?;
+    put_assocs(alloc, &mut members, model, sorted)?;
+    Ok(object_tree(members))
 }
 
 fn put_sets(
     alloc: Global,
     members: &mut Map<String, Tree>,
     model: &EntityModel,
-    state: &EntityState,
+    sorted: &SortedState<'_>,
 ) -> Result<(), Memory>
-    requires { IsState model.now state.now }
-    ensures { OnOk result (members_view members.new.entries ≡ put_all (members_view members.old.entries) (set_members model.now state.now)) }
+    requires { IsState model.now (lent_state sorted.now) }
+    ensures { OnOk result (members_view members.new.entries ≡ put_all (members_view members.old.entries) (set_members model.now (lent_state sorted.now))) }
 {
     let sets = model.sets.as_slice();
     for (i, set) in sets.iter().enumerate() {
-        let entities = state.entities(SetId { index: i as u32 });
-        let tree = entities_tree(alloc, model, entities.as_slice())?;
+        let tree = entities_tree(alloc, model, sorted.entities[i].as_slice())?;
         serde_json::put(members, alloc, set.name.as_str(), tree)?;
     }
     Ok(())
 }
 
-fn entities_tree(alloc: Global, model: &EntityModel, entities: &[Entity]) -> Result<Tree, Memory>
-    requires { All (IsEntity model.now) entities.now }
-    ensures { IfOk result (λ tree. view tree ≡ array_of (map (entity_tree model.now) entities.now)) }
+fn entities_tree(alloc: Global, model: &EntityModel, entities: &[&Entity]) -> Result<Tree, Memory>
+    requires { All (IsEntity model.now) (lent entities.now) }
+    ensures { IfOk result (λ tree. view tree ≡ array_of (map (entity_tree model.now) (lent entities.now))) }
 {
     let mut trees = Vec::new(alloc);
     for entity in entities {
@@ -115,25 +129,24 @@ fn put_assocs(
     alloc: Global,
     members: &mut Map<String, Tree>,
     model: &EntityModel,
-    state: &EntityState,
+    sorted: &SortedState<'_>,
 ) -> Result<(), Memory>
-    requires { length state.now.links ≡ length model.now.assocs }
-    ensures { OnOk result (members_view members.new.entries ≡ put_all (members_view members.old.entries) (assoc_members model.now state.now)) }
+    requires { length sorted.now.links.items ≡ length model.now.assocs }
+    ensures { OnOk result (members_view members.new.entries ≡ put_all (members_view members.old.entries) (assoc_members model.now (lent_state sorted.now))) }
 {
     let assocs = model.assocs.as_slice();
     for (i, assoc) in assocs.iter().enumerate() {
         if assoc.constraint.is_some() {
             continue;
         }
-        let links = state.links(AssocId { index: i as u32 });
-        let tree = links_tree(alloc, assoc, links.as_slice())?;
+        let tree = links_tree(alloc, assoc, sorted.links[i].as_slice())?;
         serde_json::put(members, alloc, assoc.set_name.as_str(), tree)?;
     }
     Ok(())
 }
 
-fn links_tree(alloc: Global, assoc: &Assoc, links: &[Link]) -> Result<Tree, Memory>
-    ensures { IfOk result (λ tree. view tree ≡ array_of (map (link_tree assoc.now) links.now)) }
+fn links_tree(alloc: Global, assoc: &Assoc, links: &[&Link]) -> Result<Tree, Memory>
+    ensures { IfOk result (λ tree. view tree ≡ array_of (map (link_tree assoc.now) (lent links.now))) }
 {
     let mut trees = Vec::new(alloc);
     for link in links {

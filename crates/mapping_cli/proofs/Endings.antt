@@ -32,7 +32,7 @@ module _ (held : Option FileMap) (text : List ℕ) (status : Status) (left : Opt
 
   of_verdict : (schema : Schema) → GivesVerdict held text status left (λ schema. Says held text status left accepted_text Done) schema → IsOfText status
   of_verdict schema (inl accepted) = subst IsOfText (sym accepted.1.1) cc
-  of_verdict schema (inr fails) = subst IsOfText (sym fails.3.1) cc
+  of_verdict schema (inr fails) = subst IsOfText (sym fails.2.2.1) cc
 
   of_command : (command : Command) (contents : List (List ℕ)) → GivesOn held text status left command contents → IsOfText status
   of_command Check contents (csdl, ssdl, msl, at_csdl, at_ssdl, at_msl, inl told) = subst IsOfText (sym told.2.1) cc

@@ -2,14 +2,14 @@
 use Rattle.std.specs.Prelude.{◌≡◌, ◌⊎◌, ℕ, List, Option, MatchOption}
 use Rattle.emc_files.specs.Files.{FileMap}
 use Rattle.emc_base.specs.Lists.{At}
-use Rattle.mapping_core.specs.Words.{Failure, IsFailureOf, IsPrintable, IsToldRule, Keeps, Means, RuleFault, Schema}
+use Rattle.mapping_core.specs.Words.{Failure, IsFailureOf, IsToldRule, Keeps, Means, RuleFault, Schema}
 use Rattle.mapping_cli.specs.declared.status.Status.{Status}
 use Rattle.mapping_cli.specs.declared.status.Status.TheVariants.{Done, MappingRefused, Usage, FileFault}
 use Rattle.mapping_cli.specs.declared.words.Command.{Command}
 use Rattle.mapping_cli.specs.declared.words.Command.TheVariants.{Check}
 use Rattle.mapping_cli.specs.Commands.{command_of, inputs_of}
 use Rattle.mapping_cli.specs.Inputs.{AreInputs, LacksInput}
-use Rattle.mapping_cli.specs.Texts.{accepted_text, fail_text, rule_text, usage_text}
+use Rattle.mapping_cli.specs.Texts.{accepted_text, IsFailText, rule_text, usage_text}
 
 -- held: the files before; text and status: what is printed, and how the program ends; left: the files afterwards
 module _ (held : Option FileMap) (text : List ℕ) (status : Status) (left : Option FileMap) where
@@ -20,7 +20,8 @@ module _ (held : Option FileMap) (text : List ℕ) (status : Status) (left : Opt
   -- The verdict on what documents mean that break no rule: what comes next, where it keeps every state; else a legal state that fails.
   abbrev pub GivesVerdict : (Schema → Type 0) → Schema → Type 0
   GivesVerdict Next schema = (Keeps schema × Next schema)
-      ⊎ ((failure : Failure) × IsFailureOf schema failure × IsPrintable schema.model failure × Says (fail_text schema.model failure) MappingRefused)
+      ⊎ ((failure : Failure) × IsFailureOf schema failure
+      × ((told : List ℕ) × IsFailText schema.model failure told × Says told MappingRefused))
 
   -- What every command does with its first three input files, which are the documents of a mapping: the rule that is told, or the verdict
   -- on what they mean.

@@ -1,6 +1,6 @@
 -- What the program prints. Each text ends with a line feed.
-use Rattle.std.specs.Prelude.{ℕ, List, [], ◌∷◌, ◌++◌, Option, Some, None, codes, decimal}
-use Rattle.mapping_core.specs.Words.{EntityModel, FailKind, Failure, LimitFault, LimitKind, RuleFault, State, VocabFile, compact_text, place_tree, quoted, state_tree}
+use Rattle.std.specs.Prelude.{◌≡◌, ℕ, List, [], ◌∷◌, ◌++◌, Option, Some, None, codes, decimal}
+use Rattle.mapping_core.specs.Words.{Data, EntityModel, FailKind, Failure, IsTreeInKeyOrder, LimitFault, LimitKind, RuleFault, State, VocabFile, compact_text, place_tree, printed, quoted}
 use Rattle.mapping_core.specs.Words.{Csdl, Ssdl, Msl}
 use Rattle.mapping_core.specs.Words.{Sets, Associations, Types, Properties, Tables, Columns, Foreign, Fragments, Constants, Regions}
 use Rattle.mapping_core.specs.Words.{Clash, Null, Disagrees, Dangling, Same}
@@ -56,17 +56,23 @@ kind_word Disagrees = codes "disagrees"
 kind_word Dangling = codes "dangling"
 kind_word Same = codes "same"
 
--- a line with a state
-abbrev pub state_line : List ℕ → EntityModel → State → List ℕ
-state_line word model state = word ++ (codes " " ++ line (compact_text (state_tree model state)))
+-- a state's line: a word, and the printed document of the state, with the entities of each set and the links of each association set in key order
+abbrev pub IsStateLine : List ℕ → EntityModel → State → List ℕ → Type 0
+IsStateLine word model state text = (tree : Data) × IsTreeInKeyOrder model state tree × (text ≡ (word ++ codes " ") ++ printed tree)
 
--- the line with the other state, where there is one
-abbrev pub other_line : EntityModel → Option State → List ℕ
-other_line model None = []
-other_line model (Some state) = state_line (codes "other") model state
+-- the line of the other state, where there is one
+abbrev pub IsOtherLine : EntityModel → Option State → List ℕ → Type 0
+IsOtherLine model None text = text ≡ []
+IsOtherLine model (Some state) text = IsStateLine (codes "other") model state text
 
--- a failing state: its kind, its place, the state, and for the kind same the other one
-unfoldable pub fail_text : EntityModel → Failure → List ℕ
-fail_text model failure = line (codes "fails " ++ kind_word failure.kind)
-    ++ (line (codes "at " ++ compact_text (place_tree failure.place))
-    ++ (state_line (codes "state") model failure.state ++ other_line model failure.other))
+-- the kind by which a state fails, and the place
+unfoldable pub failing_text : Failure → List ℕ
+failing_text failure = line (codes "fails " ++ kind_word failure.kind) ++ line (codes "at " ++ compact_text (place_tree failure.place))
+
+-- a failing state: its kind and its place, the state, and for the kind same the other one
+pub record IsFailText (model : EntityModel) (failure : Failure) (text : List ℕ) : Type 0 where
+  pub state : List ℕ
+  pub other : List ℕ
+  pub state_is : IsStateLine (codes "state") model failure.state state
+  pub other_is : IsOtherLine model failure.other other
+  pub is : text ≡ (failing_text failure ++ state) ++ other

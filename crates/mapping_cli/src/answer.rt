@@ -1,11 +1,23 @@
+ghost use Rattle.std.specs.Prelude.{◌≡◌};
+
 use crate::status::Status;
-use emc_base::Txt;
+use emc_base::{Bin, Txt};
 
 /// What a run prints, and how it ends where that is written.
 #[derive(Drop)]
 pub(crate) struct Answer {
-    pub text: Txt,
+    pub text: Bin,
     pub status: Status,
+}
+
+impl Answer {
+    /// The answer that prints this text.
+    pub(crate) fn of_text(text: Txt, status: Status) -> Answer
+        ensures { (result.text ≡ text) × (result.status ≡ status) }
+    {
+        let text = Bin::from_vec(text.into_string().into_bytes());
+        Answer { text, status }
+    }
 }
 
 /// Why a command stopped before its own work.

@@ -30,13 +30,13 @@ fn verdict_on(alloc: Global, schema: Schema) -> Result<Answer, Memory>
     ensures { IfOk result (AnswersVerdict schema) }
 {
     match decide(alloc, schema) {
-        Ok(_compiled) => {
-            let text = accepted_text(alloc)?;
-            let status = Status::Done;
+        Ok(_compiled) => Ok(Answer::of_text(accepted_text(alloc)?, Status::Done)),
+        Err(Refusal::Limit(_schema, fault)) => Ok(refused(limit_text(alloc, &fault)?)),
+        Err(Refusal::Fails(schema, failure)) => {
+            let text = fail_text(alloc, &schema, &failure)?;
+            let status = Status::MappingRefused;
             Ok(Answer { text, status })
         }
-        Err(Refusal::Limit(_schema, fault)) => Ok(refused(limit_text(alloc, &fault)?)),
-        Err(Refusal::Fails(schema, failure)) => Ok(refused(fail_text(alloc, &schema, &failure)?)),
         Err(Refusal::Memory) => Err(Memory),
     }
 }
@@ -45,6 +45,5 @@ fn verdict_on(alloc: Global, schema: Schema) -> Result<Answer, Memory>
 fn refused(text: Txt) -> Answer
     ensures { RefusesBy text result }
 {
-    let status = Status::MappingRefused;
-    Answer { text, status }
+    Answer::of_text(text, Status::MappingRefused)
 }

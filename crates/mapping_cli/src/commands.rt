@@ -27,10 +27,10 @@ pub fn run<F: Files, W: Sink>(alloc: Global, words: &[Txt], files: &mut F, out: 
     let Ok(answer) = answer_of(alloc, words, files) else {
         return Status::Memory;
     };
-    if answer.text.as_str().is_empty() {
+    if answer.text.as_slice().is_empty() {
         return answer.status;
     }
-    match out.put(answer.text.as_str().as_bytes()) {
+    match out.put(answer.text.as_slice()) {
         Ok(()) => answer.status,
         Err(SinkFault::Failed) => Status::SinkFault,
         Err(SinkFault::Memory) => Status::Memory,
@@ -65,7 +65,5 @@ fn answer_on(alloc: Global, command: Command, contents: &Seq<Bin>) -> Result<Ans
 fn usage(alloc: Global) -> Result<Answer, Memory>
     ensures { IfOk result (λ answer. (answer.text ≡ usage_text) × (answer.status ≡ Usage)) }
 {
-    let text = usage_text(alloc)?;
-    let status = Status::Usage;
-    Ok(Answer { text, status })
+    Ok(Answer::of_text(usage_text(alloc)?, Status::Usage))
 }

@@ -56,10 +56,7 @@ fn told(alloc: Global, word: &str, name: &str) -> Halt
     ensures { IsTold (file_text word.now name.now) result }
 {
     match file_text(alloc, word, name) {
-        Ok(text) => {
-            let status = Status::FileFault;
-            Halt::Tells(Answer { text, status })
-        }
+        Ok(text) => Halt::Tells(Answer::of_text(text, Status::FileFault)),
         Err(Memory) => Halt::Memory,
     }
 }

@@ -1,11 +1,11 @@
 ghost use Rattle.std.specs.Prelude.{◌≡◌, IfOk, IfSome, string_bytes};
 ghost use Rattle.mapping_core.specs.Words.{IsFailureOf, IsState};
-ghost use Rattle.mapping_cli.specs.Texts.{accepted_text, fail_text, file_text, file_word, kind_word, limit_text, limit_word, other_line, rule_text, state_line, usage_text};
+ghost use Rattle.mapping_cli.specs.Texts.{IsFailText, IsOtherLine, IsStateLine, accepted_text, failing_text, file_text, file_word, kind_word, limit_text, limit_word, rule_text, usage_text};
 
-use emc_base::{Memory, Txt};
+use emc_base::{Bin, Memory, Txt};
 use mapping_core::{
     EntityModel, EntityState, FailKind, Failure, LimitFault, LimitKind, RuleFault, Schema,
-    VocabFile, place_text, quoted, state_text,
+    VocabFile, place_text, quoted,
 };
 use std::alloc::Global;
 
@@ -102,44 +102,57 @@ fn kind_word(kind: FailKind) -> &'static str
     }
 }
 
+// A word, and the printed document of a state.
 fn state_line(
     alloc: Global,
     word: &str,
     model: &EntityModel,
     state: &EntityState,
-) -> Result<String, Memory>
+) -> Result<Bin, Memory>
     requires { IsState model.now state.now }
-    ensures { IfOk result (λ text. string_bytes text ≡ state_line word.now model.now state.now) }
+    ensures { IfOk result (IsStateLine word.now model.now state.now) }
 {
-    let state = state_text(alloc, model, state)?;
-    Ok(format!(in alloc; "{word} {state}\n")?)
+    let document = state.to_doc(alloc, model)?.bytes(alloc)?;
+    let mut text = format!(in alloc; "{word} ")?.into_bytes();
+    text.extend_from_slice(document.as_slice())?;
+    Ok(Bin::from_vec(text))
 }
 
+// The line of the other state; nothing where there is none.
 fn other_line(
     alloc: Global,
     model: &EntityModel,
     other: &Option<EntityState>,
-) -> Result<String, Memory>
+) -> Result<Bin, Memory>
     requires { IfSome other.now (λ state. IsState model.now state) }
-    ensures { IfOk result (λ text. string_bytes text ≡ other_line model.now other.now) }
+    ensures { IfOk result (IsOtherLine model.now other.now) }
 {
     match other {
         Some(state) => state_line(alloc, "other", model, state),
-        None => Ok(String::new(alloc)),
+        None => Ok(Bin::from_vec(Vec::new(alloc))),
     }
 }
 
-/// A failing state, by the names of the model.
-#[tactic(auto, unfolding(crate::specs::Texts::fail_text))]
-pub(crate) fn fail_text(alloc: Global, schema: &Schema, failure: &Failure) -> Result<Txt, Memory>
-    requires { IsFailureOf schema.now failure.now }
-    ensures { IfOk result (λ text. text ≡ fail_text schema.now.model failure.now) }
+// The kind by which a state fails, and the place.
+#[tactic(auto, unfolding(crate::specs::Texts::failing_text))]
+fn failing_text(alloc: Global, failure: &Failure) -> Result<String, Memory>
+    ensures { IfOk result (λ text. string_bytes text ≡ failing_text failure.now) }
 {
-    let model = &schema.model;
     let kind = kind_word(failure.kind);
     let place = place_text(alloc, &failure.place)?;
+    Ok(format!(in alloc; "fails {kind}\nat {place}\n")?)
+}
+
+/// A failing state, by the names of the model.
+pub(crate) fn fail_text(alloc: Global, schema: &Schema, failure: &Failure) -> Result<Bin, Memory>
+    requires { IsFailureOf schema.now failure.now }
+    ensures { IfOk result (IsFailText schema.now.model failure.now) }
+{
+    let model = &schema.model;
     let state = state_line(alloc, "state", model, &failure.state)?;
     let other = other_line(alloc, model, &failure.other)?;
-    let text = format!(in alloc; "fails {kind}\nat {place}\n{state}{other}")?;
-    Ok(Txt::from_string(text))
+    let mut text = failing_text(alloc, failure)?.into_bytes();
+    text.extend_from_slice(state.as_slice())?;
+    text.extend_from_slice(other.as_slice())?;
+    Ok(Bin::from_vec(text))
 }

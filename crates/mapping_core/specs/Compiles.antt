@@ -5,7 +5,7 @@ use Rattle.edm_types.specs.declared.faults.VocabFault.TheVariants as read
 use Rattle.round_trip.specs.Words.{Keeps, Schema}
 use Rattle.soundness.specs.Mappings.{IsSoundSchema}
 use Rattle.table_form.specs.TableForm.{IsTableForm}
-use Rattle.witness_state.specs.Failures.{IsFailureOf, IsPrintable}
+use Rattle.witness_state.specs.Failures.{IsFailureOf}
 use Rattle.mapping_core.specs.declared.compiled.Compiled.{Compiled}
 use Rattle.mapping_core.specs.declared.verdict.Refusal.{Refusal}
 use Rattle.mapping_core.specs.declared.verdict.Refusal.TheVariants as refusal
@@ -30,7 +30,7 @@ ReadsSchema csdl ssdl msl (Err read.Memory) = ⊤
 abbrev pub Decides : Schema → Result Compiled Refusal → Type 0
 Decides schema (Ok compiled) = (compiled ≡ schema) × Keeps schema
 Decides schema (Err (refusal.Limit back fault)) = ⊥
-Decides schema (Err (refusal.Fails back failure)) = (back ≡ schema) × IsFailureOf schema failure × IsPrintable schema.model failure
+Decides schema (Err (refusal.Fails back failure)) = (back ≡ schema) × IsFailureOf schema failure
 Decides schema (Err refusal.Memory) = ⊤
 
 -- Ok where the documents break no rule and every legal state of what they mean has tables of its own; else the rule that is told, or,
@@ -39,5 +39,5 @@ abbrev pub Compiles : List ℕ → List ℕ → List ℕ → Result Compiled Ver
 Compiles csdl ssdl msl (Ok compiled) = Means csdl ssdl msl compiled × Keeps compiled
 Compiles csdl ssdl msl (Err (Rule fault)) = IsToldRule csdl ssdl msl fault
 Compiles csdl ssdl msl (Err (Limit fault)) = ⊥
-Compiles csdl ssdl msl (Err (Fails failure)) = (schema : Schema) × Means csdl ssdl msl schema × IsFailureOf schema failure × IsPrintable schema.model failure
+Compiles csdl ssdl msl (Err (Fails failure)) = (schema : Schema) × Means csdl ssdl msl schema × IsFailureOf schema failure
 Compiles csdl ssdl msl (Err Memory) = ⊤

@@ -11,9 +11,11 @@ pub use Rattle.round_trip.specs.declared.FailKind.{FailKind}
 pub use Rattle.round_trip.specs.declared.FailKind.TheVariants.{Clash, Null, Disagrees, Dangling, Same}
 pub use Rattle.witness_state.specs.declared.failure.Failure.{Failure}
 pub use Rattle.round_trip.specs.Words.{Place, State, IsState, Keeps}
+pub use Rattle.json_form.specs.Documents.{printed}
 pub use Rattle.json_form.specs.Trees.{place_tree, quoted}
-pub use Rattle.entity_state.specs.StateTree.{state_tree}
-pub use Rattle.witness_state.specs.Failures.{IsFailureOf, IsPrintable}
+pub use Rattle.entity_state.specs.Tells.{IsTreeInKeyOrder}
+pub use Rattle.witness_state.specs.Failures.{IsFailureOf}
+pub use Rattle.serde_json.specs.Data.{Data}
 pub use Rattle.serde_json.specs.Written.{compact_text}
 pub use Rattle.mapping_core.specs.Rules.{IsMeant, IsToldRule, Means}
 pub use Rattle.soundness.specs.Mappings.{IsSoundSchema}

@@ -12,7 +12,7 @@ pub use compiled::Compiled;
 pub use compiling::compile;
 pub use deciding::decide;
 pub use edm_types::{EntityModel, LimitFault, LimitKind, RuleFault, Schema, VocabFault, VocabFile};
-pub use entity_state::{EntityState, state_text};
+pub use entity_state::EntityState;
 pub use json_form::{Doc, DocFault, place_text, quoted};
 pub use reading::{one_rule, read};
 pub use round_trip::FailKind;

@@ -22,27 +22,28 @@ pub struct InTable<'a> {
 }
 
 impl<'a> InTable<'a> {
-    /// The property of a name.
-    pub fn prop(&self, name: &Txt) -> Option<PropId>
+    /// The property of a name, which is looked for at the type's property of this number first.
+    pub fn prop(&self, name: &Txt, near: usize) -> Option<PropId>
         ensures { result ≡ named_at self.now.names.now.model.now self.now.ty name.now }
     {
-        self.names.prop_named(self.ty?, name.as_str())
+        self.names.prop_near(self.ty?, name.as_str(), near)
     }
 
-    /// The column of a name.
-    pub fn col(&self, name: &Txt) -> Option<ColId>
+    /// The column of a name, which is looked for at the table's column of this number first.
+    pub fn col(&self, name: &Txt, near: usize) -> Option<ColId>
         ensures { result ≡ option_map col_numbered (column_named self.now.names.now.store.now self.now.table name.now) }
     {
-        let place = self.names.column_named(self.table, name.as_str())?;
+        let place = self.names.column_near(self.table, name.as_str(), near)?;
         col_at(self.names.store.tables.get(self.table)?, place)
     }
 
-    /// A property and the column that it is written to, where both are found.
-    pub fn pair(&self, pair: &RawPair) -> Option<Pair>
+    /// A property and the column that it is written to, where both are found. They are looked for at the property and the column of this number
+    /// first.
+    pub fn pair(&self, pair: &RawPair, near: usize) -> Option<Pair>
         ensures { result ≡ pair_in self.now.names.now.model.now self.now.names.now.store.now (named_at self.now.names.now.model.now self.now.ty) self.now.table pair.now }
     {
-        let prop = self.prop(&pair.prop)?;
-        let col = self.col(&pair.col)?;
+        let prop = self.prop(&pair.prop, near)?;
+        let col = self.col(&pair.col, near)?;
         Some(Pair { prop, col })
     }
 
@@ -52,7 +53,8 @@ impl<'a> InTable<'a> {
     {
         let mut found = Seq::empty(alloc);
         for pair in pairs.as_slice() {
-            put_found(&mut found, self.pair(pair))?;
+            let near = found.len();
+            put_found(&mut found, self.pair(pair, near))?;
         }
         Ok(found)
     }
@@ -62,8 +64,8 @@ impl<'a> InTable<'a> {
         ensures { result ≡ on_in self.now.names.now.model.now self.now.names.now.store.now (named_at self.now.names.now.model.now self.now.ty) self.now.table cond.now }
     {
         match (&cond.prop, &cond.col) {
-            (Some(name), None) => Some(CondOn::Prop(self.prop(name)?)),
-            (None, Some(name)) => Some(CondOn::Col(self.col(name)?)),
+            (Some(name), None) => Some(CondOn::Prop(self.prop(name, 0)?)),
+            (None, Some(name)) => Some(CondOn::Col(self.col(name, 0)?)),
             _ => None,
         }
     }

@@ -13,7 +13,7 @@ use layouts::{Fault, Rule};
 use least_fault::{Finder, earlier};
 use msl_found::picked_type;
 use msl_lists::{RawFragment, RawMapping, RawSetMapping, RawTypeMapping};
-use msl_written::{Between, MeantPairs, Writing, first_condition_fault, first_twice_written};
+use msl_written::{Between, MeantPairs, Writing, first_condition_fault};
 use rule_places::{behind_member, fault_here_if, first_at};
 use std::alloc::Global;
 
@@ -65,7 +65,7 @@ fn first_broken(
     let key = set_key(writing.between.names.model, set);
     let cond = first_condition_fault(alloc, writing, key, &fragment.conds)?;
     let foreign = pairs.first_enum(alloc)?;
-    let again = first_twice_written(alloc, &fragment.pairs)?;
+    let again = pairs.first_again(alloc)?;
     let behind = earlier(cond, earlier(foreign, again));
     Ok(earlier(unfit, earlier(unwritten, behind)))
 }

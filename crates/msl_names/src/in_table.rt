@@ -27,8 +27,8 @@ impl<'a> Finder<RawPair, Fault> for InTable<'a> {
 
     ghost wrong = { λ s. LacksColumn s.names.now.store.now s.table };
 
-    fn find(&self, alloc: Global, _: usize, item: &RawPair) -> Result<Option<Fault>, Memory> {
-        let col = self.names.column_named(self.table, item.col.as_str());
+    fn find(&self, alloc: Global, place: usize, item: &RawPair) -> Result<Option<Fault>, Memory> {
+        let col = self.names.column_near(self.table, item.col.as_str(), place);
         let found = first_of_none(alloc, col, "ColumnName")?;
         Ok(found)
     }

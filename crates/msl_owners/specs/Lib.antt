@@ -1,3 +1,4 @@
 pub mod AllWriters
+pub mod KeyPairs
 pub mod SetWriters
 pub mod Spots

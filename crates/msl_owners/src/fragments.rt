@@ -5,10 +5,10 @@ ghost use Rattle.msl_rules.specs.Sites.{fragment_place, sites, sites_of_set, sit
 ghost use Rattle.msl_owners.specs.AllWriters.{Adds};
 
 use crate::all_writers::AllWriters;
-use crate::key_writers::set_writer;
+use crate::key_writers::fragment_writer;
 use crate::spots::Spot;
 use csdl_making::narrow;
-use emc_base::{Memory, SetId, TableId};
+use emc_base::{Memory, SetId};
 use msl_found::{InTable, picked_type};
 use msl_lists::{RawFragment, RawMapping, RawSetMapping, RawTypeMapping};
 use schema_names::SchemaNames;
@@ -98,15 +98,12 @@ impl<'a> OfTypes<'a> {
             return Ok(());
         };
         let ty = picked_type(names, self.types.picks.as_slice());
-        let pairs = InTable { names, ty, table }.pairs(alloc, &fragment.pairs)?;
         let spot = Spot::Fragment(self.of.place, self.place, place);
         let owner = SetId {
             index: narrow(set)?,
         };
-        let written = TableId {
-            index: narrow(table)?,
-        };
-        let writer = set_writer(alloc, names, owner, written, pairs.as_slice())?;
+        let found = InTable { names, ty, table };
+        let writer = fragment_writer(alloc, &found, owner, &fragment.pairs)?;
         all.push(spot, writer)?;
         Ok(())
     }

@@ -25,24 +25,29 @@ pub struct OfPicks<'a> {
 }
 
 impl<'a> OfPicks<'a> {
-    // Whether no property is what the name stands for in each type of the TypeName.
-    fn names_no_shared(&self, name: &Txt) -> bool
+    // Whether no property is what the name stands for in each type of the TypeName. It is looked for at the property of this number first.
+    fn names_no_shared(&self, name: &Txt, near: usize) -> bool
         ensures { IsTrue result ↔ NamesNoShared self.now.names.now.model.now self.now.picks.now name.now }
     {
         let Some((first, others)) = self.types.split_first() else {
             return false;
         };
-        let Some(shared) = prop_in(self.names, *first, name) else {
+        let Some(shared) = prop_in(self.names, *first, name, near) else {
             return true;
         };
-        !each_has_prop(self.names, others, name, shared)
+        !each_has_prop(self.names, others, name, near, shared)
     }
 
     // The name, where it stands for no shared property.
-    fn first_unshared(&self, alloc: Global, name: &Txt) -> Result<Option<Fault>, Memory>
+    fn first_unshared(
+        &self,
+        alloc: Global,
+        name: &Txt,
+        near: usize,
+    ) -> Result<Option<Fault>, Memory>
         ensures { IfOk result (λ found. IsLeast fault_cmp (IsUnsharedName self.now.names.now.model.now self.now.picks.now name.now) found) }
     {
-        let is_unshared = self.names_no_shared(name);
+        let is_unshared = self.names_no_shared(name, near);
         let found = fault_if(alloc, is_unshared, Rule::SharedProperty, "Name")?;
         Ok(found)
     }
@@ -54,8 +59,8 @@ impl<'a> Finder<RawPair, Fault> for OfPicks<'a> {
 
     ghost wrong = { λ s _ pair. IsUnsharedName s.names.now.model.now s.picks.now pair.prop };
 
-    fn find(&self, alloc: Global, _: usize, item: &RawPair) -> Result<Option<Fault>, Memory> {
-        let found = self.first_unshared(alloc, &item.prop)?;
+    fn find(&self, alloc: Global, place: usize, item: &RawPair) -> Result<Option<Fault>, Memory> {
+        let found = self.first_unshared(alloc, &item.prop, place)?;
         Ok(found)
     }
 }
@@ -71,7 +76,7 @@ impl<'a> Finder<RawCond, Fault> for OfPicks<'a> {
         let Some(name) = &item.prop else {
             return Ok(None);
         };
-        let found = self.first_unshared(alloc, name)?;
+        let found = self.first_unshared(alloc, name, 0)?;
         Ok(found)
     }
 }
@@ -94,25 +99,34 @@ fn each_has_prop(
     names: &SchemaNames<'_>,
     types: &[Option<usize>],
     name: &Txt,
+    near: usize,
     shared: PropId,
 ) -> bool
     ensures { IsTrue result ↔ All (λ ty. prop_in names.now.model.now name.now ty ≡ Some shared) types.now }
 {
-    types.iter().all(|ty| has_prop(names, *ty, name, shared))
+    types
+        .iter()
+        .all(|ty| has_prop(names, *ty, name, near, shared))
 }
 
 // Whether the name stands for this property in a type.
-fn has_prop(names: &SchemaNames<'_>, ty: Option<usize>, name: &Txt, shared: PropId) -> bool
+fn has_prop(
+    names: &SchemaNames<'_>,
+    ty: Option<usize>,
+    name: &Txt,
+    near: usize,
+    shared: PropId,
+) -> bool
     ensures { IsTrue result ↔ (prop_in names.now.model.now name.now ty ≡ Some shared) }
 {
-    prop_in(names, ty, name).is_some_and(|prop| prop == shared)
+    prop_in(names, ty, name, near).is_some_and(|prop| prop == shared)
 }
 
-// The property that the name stands for in a type.
-fn prop_in(names: &SchemaNames<'_>, ty: Option<usize>, name: &Txt) -> Option<PropId>
+// The property that the name stands for in a type. It is looked for at the type's property of this number first.
+fn prop_in(names: &SchemaNames<'_>, ty: Option<usize>, name: &Txt, near: usize) -> Option<PropId>
     ensures { result ≡ prop_in names.now.model.now name.now ty }
 {
-    names.prop_named(ty?, name.as_str())
+    names.prop_near(ty?, name.as_str(), near)
 }
 
 /// The place of the type that each item of a TypeName names, where it names one.

@@ -1,5 +1,6 @@
-pub mod Before
+pub mod Again
 pub mod CondFaults
 pub mod Free
 pub mod KeysApart
 pub mod Meant
+pub mod RisingPairs

@@ -1,2 +1,4 @@
+pub mod Again
 pub mod MeantAt
+pub mod Rising
 pub mod Within

@@ -6,6 +6,7 @@ mod conditions;
 mod kinds;
 mod pairs;
 mod repeats;
+mod rising;
 #[cfg(test)]
 mod tests;
 mod writing;

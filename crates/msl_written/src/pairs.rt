@@ -1,15 +1,18 @@
-ghost use Rattle.std.specs.Prelude.{◌≡◌, ◌↔◌, codes, IfOk, IsTrue, MatchOption, map};
+ghost use Rattle.std.specs.Prelude.{◌≡◌, ◌↔◌, [], codes, IfOk, IsTrue, MatchOption, map};
 ghost use Rattle.std.specs.List.{filter_map};
 ghost use Rattle.least_fault.specs.Least.{IsLeast};
 ghost use Rattle.layouts.specs.Faults.{fault_cmp};
-ghost use Rattle.rule_places.specs.Places.{InList};
+ghost use Rattle.layouts.specs.declared.rule.Rule.TheVariants.{WrittenOnce};
+ghost use Rattle.rule_places.specs.Places.{InList, IsAt};
 ghost use Rattle.soundness.specs.Fragments.{WritesToFitting};
 ghost use Rattle.soundness.specs.Joined.{WritesNoBarredEnum};
-ghost use Rattle.msl_rules.specs.FragmentRules.{IsEnumFault, IsUnfitFault};
+ghost use Rattle.msl_rules.specs.FragmentRules.{IsEnumFault, IsUnfitFault, IsWrittenBefore};
 ghost use Rattle.msl_written.specs.Within.{meant_in, named_in, schema_in, table_in};
 ghost use Rattle.msl_written.specs.MeantAt.{meant_at};
 
 use crate::kinds::{column_kind, corresponds, is_enum, prop_kind};
+use crate::repeats::first_twice_written;
+use crate::rising::is_rising;
 use crate::writing::Writing;
 use csdl_making::put_found;
 use edm_types::{CondOn, Pair};
@@ -78,6 +81,16 @@ impl<'a> MeantPairs<'a> {
         Ok(found)
     }
 
+    /// The least of the pairs whose property, or whose column, was written before in the list (V39). `Memory` comes where memory ran out.
+    pub fn first_again(&self, alloc: Global) -> Result<Option<Fault>, Memory>
+        ensures { IfOk result (λ found. IsLeast fault_cmp (InList (codes "ScalarProperty") (λ k pair inside. IsWrittenBefore self.now.pairs.now k pair × IsAt WrittenOnce [] inside) self.now.pairs.now) found) }
+    {
+        if is_rising(self.each.as_slice()) {
+            return Ok(None);
+        }
+        first_twice_written(alloc, self.pairs)
+    }
+
     // What the pair at a place stands for.
     fn meant_at(&self, place: usize) -> Option<Pair>
         ensures { result ≡ meant_at self.now.each place }
@@ -117,7 +130,8 @@ fn meant_each(
     let names = writing.found();
     let mut each = Seq::empty(alloc);
     for pair in pairs {
-        each.push(names.pair(pair))?;
+        let near = each.len();
+        each.push(names.pair(pair, near))?;
     }
     Ok(each)
 }

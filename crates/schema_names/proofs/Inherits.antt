@@ -16,6 +16,7 @@ use Rattle.soundness.specs.Inheritance.{declared_props}
 use Rattle.soundness.specs.Lookups.{IsAncestor as IsAbove}
 use Rattle.soundness.specs.ModelIds.{IsTypeId}
 use Rattle.soundness.specs.Models.{IsSoundModel}
+use Rattle.sound_types.proofs.Once.{names_once}
 use Rattle.schema_names.specs.Inherited.{InheritsProps, base_place}
 use Rattle.schema_names.specs.SchemaNames.{has_name, own_prop, prop_named}
 
@@ -52,6 +53,7 @@ module _ (model : EntityModel) where
         MatchOption-at_some ⊤ (IsTypeId model) (type_numbered j) has.2 (All-contains P model.types has.0 sound.ids.bases (contains_at model.types i has.0 has.1));
     rooted = λ t up. sound.bases (type_numbered t) (above t t up);
     props = λ t type here. (sound.types (type_numbered t) type here).props;
+    named = names_once model sound;
   }
 
   module _ (inherits : InheritsProps model) where

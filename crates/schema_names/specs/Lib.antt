@@ -1,3 +1,4 @@
+pub mod Columns
 pub mod Inherited
 pub mod LentNames
 pub mod OwnProps

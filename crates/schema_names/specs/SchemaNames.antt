@@ -4,7 +4,7 @@
 use Rattle.std.specs.Prelude.{◌≡◌, ℕ, List, Any, Bool, false, Option, Some, None, if◌then◌else◌, MatchOption, find, slice_get}
 use Rattle.std.specs.Option.{option_and_then, option_map_or, option_or}
 use Rattle.std.specs.Str.{bytes_eq}
-use Rattle.round_trip.specs.Words.{EntityModel, Assoc, StoreModel, PropId, At, props_of}
+use Rattle.round_trip.specs.Words.{EntityModel, Assoc, StoreModel, Column, Table, PropId, At, props_of}
 use Rattle.edm_types.specs.Forest.{type_numbered}
 use Rattle.soundness.specs.Inheritance.{declared_props}
 use Rattle.name_places.specs.GivenNames.{first_place}
@@ -51,6 +51,10 @@ table_named store = first_place (λ table. table.name) store.tables
 -- the column of a name in the table at a place
 abbrev pub column_named : StoreModel → ℕ → List ℕ → Option ℕ
 column_named store t name = option_and_then (λ table. first_place (λ col. col.name) table.cols name) (slice_get store.tables t)
+
+-- the column at a place has this name
+abbrev pub IsColumnAt : Table → List ℕ → ℕ → Type 0
+IsColumnAt table name place = (col : Column) × At table.cols place col × (name ≡ col.name)
 
 -- the property has this name
 abbrev pub has_name : EntityModel → List ℕ → PropId → Bool

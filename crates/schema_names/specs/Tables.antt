@@ -1,9 +1,10 @@
 -- The tables of names are those of a model and a store.
-use Rattle.std.specs.Prelude.{◌≡◌, map}
+use Rattle.std.specs.Prelude.{◌≡◌}
 use Rattle.name_places.specs.GivenNames.{first_place}
 use Rattle.name_places.specs.PlacesIn.{place_in}
 use Rattle.round_trip.specs.Words.{EntityModel, StoreModel}
 use Rattle.schema_names.specs.declared.tables.NameTables.{NameTables}
+use Rattle.schema_names.specs.Columns.{AreColumnsOf}
 use Rattle.schema_names.specs.OwnProps.{AreOwnProps}
 
 -- each tells where the names of its list are given first
@@ -13,5 +14,5 @@ pub record AreTablesOf (model : EntityModel) (store : StoreModel) (tables : Name
   pub association_sets : place_in tables.association_sets ≡ first_place (λ assoc. assoc.set_name) model.assocs
   pub associations : place_in tables.associations ≡ first_place (λ assoc. assoc.assoc_name) model.assocs
   pub tables_of : place_in tables.tables ≡ first_place (λ table. table.name) store.tables
-  pub columns : map place_in tables.columns ≡ map (λ table. first_place (λ col. col.name) table.cols) store.tables
+  pub columns : AreColumnsOf store.tables tables.columns
   pub own_props : AreOwnProps model tables.own_props.items

@@ -1,6 +1,7 @@
 //! The names that documents over a schema use, looked up in its entity model and its store.
 #![tactic(auto)]
 
+mod columns;
 mod ends;
 mod lent_names;
 mod local_names;
@@ -12,4 +13,5 @@ mod tests;
 
 pub use ends::WhichEnd;
 pub use lent_names::places_by;
+pub use local_names::local_name;
 pub use names::SchemaNames;

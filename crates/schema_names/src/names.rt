@@ -1,7 +1,8 @@
-ghost use Rattle.std.specs.Prelude.{◌≡◌, ◌↔◌, IfOk, IsTrue};
+ghost use Rattle.std.specs.Prelude.{◌≡◌, ◌↔◌, IfOk, IfSome, IsTrue, Some};
 ghost use Rattle.soundness.specs.Models.{IsSoundModel};
 ghost use Rattle.schema_names.specs.Inherited.{InheritsProps, base_place};
 ghost use Rattle.schema_names.specs.SchemaNames.{
+  IsColumnAt,
   IsOfAssociation,
   NamesAssociation,
   association_set_named,
@@ -18,7 +19,7 @@ ghost use Rattle.schema_names.specs.Tables.{AreTablesOf};
 use crate::ends::{WhichEnd, end_of_role};
 use crate::local_names::local_name;
 use crate::tables::NameTables;
-use edm_types::{EntityModel, StoreModel};
+use edm_types::{EntityModel, StoreModel, Table};
 use emc_base::{Memory, PropId};
 use std::alloc::Global;
 
@@ -114,7 +115,31 @@ impl<'a> SchemaNames<'a> {
     pub fn column_named(&self, table: usize, name: &str) -> Option<usize>
         ensures { result ≡ column_named self.now.store.now table name.now }
     {
-        self.tables.columns.get(table)?.place_of(name)
+        self.tables.columns.get(table)?.places.place_of(name)
+    }
+
+    /// The column of a name in the table at a place, as `column_named` tells it. It is looked for at the column of this number first, and at no
+    /// other where it is there: names mostly come in the order of the columns.
+    pub fn column_near(&self, table: usize, name: &str, near: usize) -> Option<usize>
+        ensures { result ≡ column_named self.now.store.now table name.now }
+    {
+        if self.has_column_at(table, name, near) {
+            return Some(near);
+        }
+        self.column_named(table, name)
+    }
+
+    // Whether the columns of a table are known to have different names, and the one at a place has this name.
+    fn has_column_at(&self, table: usize, name: &str, place: usize) -> bool
+        ensures { IsTrue result → (column_named self.now.store.now table name.now ≡ Some place) }
+    {
+        let (Some(known), Some(held)) = (
+            self.tables.columns.get(table),
+            self.store.tables.get(table),
+        ) else {
+            return false;
+        };
+        known.apart && is_column_at(held, name, place)
     }
 
     /// The property of a name that the type at a place has, its own or an inherited one.
@@ -128,6 +153,29 @@ impl<'a> SchemaNames<'a> {
             next = self.base(place);
         }
         found
+    }
+
+    /// The property of a name that the type at a place has, its own or an inherited one, as `prop_named` tells it. It is looked for at the type's
+    /// property of this number first, and at no other where it is there: names mostly come in the order of the properties.
+    pub fn prop_near(&self, ty: usize, name: &str, near: usize) -> Option<PropId>
+        ensures { result ≡ prop_named self.now.model.now ty name.now }
+    {
+        match self.prop_at(ty, name, near) {
+            Some(prop) => Some(prop),
+            None => self.prop_named(ty, name),
+        }
+    }
+
+    // The property of this number that the type at a place has, where it has this name.
+    fn prop_at(&self, ty: usize, name: &str, number: usize) -> Option<PropId>
+        ensures { IfSome result (λ prop. prop_named self.now.model.now ty name.now ≡ Some prop) }
+    {
+        let prop = self.model.types.get(ty)?.props.get(number)?;
+        let declared = self.model.props.get(prop.index as usize)?;
+        if name == declared.name.as_str() {
+            return Some(*prop);
+        }
+        None
     }
 
     // The property of a name that the type at a place declares.
@@ -144,4 +192,14 @@ impl<'a> SchemaNames<'a> {
         let base = self.model.types.get(ty)?.base?;
         Some(base.index as usize)
     }
+}
+
+// Whether the column at a place has this name.
+fn is_column_at(table: &Table, name: &str, place: usize) -> bool
+    ensures { IsTrue result ↔ IsColumnAt table.now name.now place }
+{
+    table
+        .cols
+        .get(place)
+        .is_some_and(|col| name == col.name.as_str())
 }

@@ -1,10 +1,9 @@
-ghost use Rattle.std.specs.Prelude.{◌≡◌, IfOk, map};
-ghost use Rattle.name_places.specs.GivenNames.{first_place};
-ghost use Rattle.name_places.specs.PlacesIn.{place_in};
+ghost use Rattle.std.specs.Prelude.{IfOk};
 
+use crate::columns::{TableColumns, columns_of};
 use crate::lent_names::places_by;
 use crate::own_props::{OwnProps, own_props_of};
-use edm_types::{EntityModel, StoreModel, Table};
+use edm_types::{EntityModel, StoreModel};
 use emc_base::{Memory, Seq};
 use name_places::Places;
 use std::alloc::Global;
@@ -23,7 +22,7 @@ pub struct NameTables {
     /// The tables.
     pub tables: Places,
     /// The columns of each table.
-    pub columns: Seq<Places>,
+    pub columns: Seq<TableColumns>,
     /// The properties that each type declares.
     pub own_props: Vec<OwnProps>,
 }
@@ -46,15 +45,4 @@ impl NameTables {
             own_props: own_props_of(alloc, model)?,
         })
     }
-}
-
-// Where the columns of each table are.
-fn columns_of(alloc: Global, tables: &[Table]) -> Result<Seq<Places>, Memory>
-    ensures { IfOk result (λ columns. map place_in columns ≡ map (λ table. first_place (λ col. col.name) table.cols) tables.now) }
-{
-    let mut columns = Seq::empty(alloc);
-    for table in tables {
-        columns.push(places_by(alloc, table.cols.as_slice(), |col| &col.name)?)?;
-    }
-    Ok(columns)
 }

@@ -69,3 +69,45 @@ fn a_type_has_the_properties_of_its_base_types(rt: HostRuntime) -> Result<(), Fa
     }
     Ok(())
 }
+
+#[test]
+fn a_column_is_looked_for_where_it_probably_is(rt: HostRuntime) -> Result<(), Fail> {
+    let model = staff(rt.alloc())?;
+    let store = staff_store(rt.alloc())?;
+    let names = SchemaNames::of(rt.alloc(), &model, &store)?;
+    for (table, name, near, want) in [
+        (0usize, "NUMBER", 1usize, Some(1usize)),
+        (0, "NUMBER", 0, Some(1)),
+        (0, "NUMBER", 7, Some(1)),
+        (0, "BONUS", 1, None),
+        (1, "BONUS", 1, Some(1)),
+        (1, "BONUS", 2, Some(1)),
+        (1, "BONUS", 0, Some(1)),
+        (1, "ID", 2, Some(0)),
+        (2, "ID", 0, None),
+    ] {
+        assert_eq!(rt; names.column_near(table, name, near), want);
+    }
+    Ok(())
+}
+
+#[test]
+fn a_property_is_looked_for_where_it_probably_is(rt: HostRuntime) -> Result<(), Fail> {
+    let model = staff(rt.alloc())?;
+    let store = staff_store(rt.alloc())?;
+    let names = SchemaNames::of(rt.alloc(), &model, &store)?;
+    for (ty, name, near, want) in [
+        (0usize, "Id", 0usize, Some(PropId { index: 1 })),
+        (0, "Id", 1, Some(PropId { index: 1 })),
+        (2, "Number", 1, Some(PropId { index: 3 })),
+        (2, "Salary", 2, Some(PropId { index: 0 })),
+        (2, "Salary", 0, Some(PropId { index: 0 })),
+        (2, "Bonus", 4, Some(PropId { index: 2 })),
+        (2, "Boss", 0, None),
+        (0, "Salary", 0, None),
+        (3, "Id", 0, None),
+    ] {
+        assert_eq!(rt; names.prop_near(ty, name, near), want);
+    }
+    Ok(())
+}

@@ -9,17 +9,18 @@ use from_nodes::items_at;
 use json_form::Node;
 use shape_faults::value_of_node;
 use std::alloc::Global;
+use table_files::Tables;
 
 /// The tables that a node holds; null, or no rows, where it is of another shape.
-pub fn tables_in(alloc: Global, store: &StoreModel, node: Node<'_>) -> Result<Seq<Seq<Row>>, Memory>
+pub fn tables_in(alloc: Global, store: &StoreModel, node: Node<'_>) -> Result<Tables, Memory>
     ensures tables { IfOk result (λ tables. tables ≡ tables_in store.now (part_of node.entry)) }
     ensures fit { IfOk result (AreTables store.now) }
 {
-    let mut tables = Seq::empty(alloc);
+    let mut tables = Vec::new(alloc);
     for table in store.tables.as_slice() {
         tables.push(rows_of_table(alloc, table, node)?)?;
     }
-    Ok(tables)
+    Ok(Tables::of_lists(tables))
 }
 
 // The rows of one table.

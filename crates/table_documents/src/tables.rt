@@ -3,21 +3,17 @@ ghost use Rattle.table_documents.specs.Reading.{ReadsTables};
 
 use crate::read::tables_in;
 use crate::shape::first_fault;
-use edm_types::{Row, StoreModel};
-use emc_base::Seq;
+use edm_types::StoreModel;
 use json_form::Doc;
 use shape_faults::ShapeFault;
 use std::alloc::Global;
+use table_files::Tables;
 
 /// The tables of a document: for each table of the store, in their order, the rows of its member in theirs, each with a cell for each
 /// column. `Shape` comes exactly where the document is of another shape, with the pointer of the first place where that is so: in the
 /// order of the document, where members stand in byte order of their names, and what an object lacks comes after what it has, in the
 /// order of the table's columns.
-pub fn tables_of_doc(
-    alloc: Global,
-    doc: &Doc,
-    store: &StoreModel,
-) -> Result<Seq<Seq<Row>>, ShapeFault>
+pub fn tables_of_doc(alloc: Global, doc: &Doc, store: &StoreModel) -> Result<Tables, ShapeFault>
     ensures { ReadsTables store.now (tree_of doc.now) result }
 {
     let root = doc.root();

@@ -1,11 +1,12 @@
 use crate::tables_of_doc;
-use edm_types::{Column, Row, StoreModel, Table};
+use edm_types::{Column, StoreModel, Table};
 use emc_base::{Bin, ColId, Kind, Memory, Seq, Txt, Value};
 use json_form::Doc;
 use shape_faults::ShapeFault;
 use std::alloc::Global;
 use std::process::Abort;
 use std::test::Fail;
+use table_files::Tables;
 
 fn table(alloc: Global, name: &str, cols: Seq<Column>) -> Result<Table, Memory> {
     let mut key = Seq::empty(alloc);
@@ -45,7 +46,7 @@ fn store(alloc: Global) -> Result<StoreModel, Memory> {
 }
 
 // What reading a text as a table document answers.
-fn read(rt: &impl Abort, alloc: Global, text: &str) -> Result<Seq<Seq<Row>>, ShapeFault> {
+fn read(rt: &impl Abort, alloc: Global, text: &str) -> Result<Tables, ShapeFault> {
     let bytes = Bin::of(alloc, text.as_bytes()).expect(rt, "memory");
     let doc = Doc::of_bytes(alloc, &bytes).expect(rt, "no document");
     let store = store(alloc).expect(rt, "memory");
@@ -133,17 +134,20 @@ fn tables_are_read(rt: HostRuntime) -> Result<(), Fail> {
     let Ok(tables) = read(&rt, alloc, GOOD) else {
         return Err(Fail::from("not read"));
     };
-    assert_eq!(rt; tables.len(), 2);
-    assert!(rt; tables.at(0).is_empty());
-    let rows = tables.at(1);
-    assert_eq!(rt; rows.len(), 2);
+    let [parts, orders] = tables.as_slice() else {
+        return Err(Fail::from("not two tables"));
+    };
+    assert!(rt; parts.is_empty());
+    let [first, second] = orders.as_slice() else {
+        return Err(Fail::from("not two rows"));
+    };
     let mut cells = Seq::empty(alloc);
     cells.push(Value::Whole(1))?;
     cells.push(Value::Text(Txt::of(alloc, "long")?))?;
     cells.push(Value::Bytes(Bin::of(alloc, &[171, 15])?))?;
     cells.push(Value::Flag(true))?;
-    assert!(rt; rows.at(0).cells == cells);
-    for value in rows.at(1).cells.as_slice() {
+    assert!(rt; first.cells == cells);
+    for value in second.cells.as_slice() {
         assert!(rt; *value == Value::Null);
     }
     Ok(())
@@ -154,7 +158,7 @@ fn a_document_without_members_has_empty_tables(rt: HostRuntime) -> Result<(), Fa
     let Ok(tables) = read(&rt, rt.alloc(), "{}") else {
         return Err(Fail::from("not read"));
     };
-    assert_eq!(rt; tables.len(), 2);
-    assert!(rt; tables.at(0).is_empty() && tables.at(1).is_empty());
+    assert_eq!(rt; tables.as_slice().len(), 2);
+    assert!(rt; tables.as_slice().iter().all(|rows| rows.is_empty()));
     Ok(())
 }

@@ -48,6 +48,13 @@ impl Tables {
         Ok(Tables { rows })
     }
 
+    /// The tables of these lists: the rows of each table, in the order of the store's tables.
+    pub fn of_lists(rows: Vec<Seq<Row>>) -> Tables
+        ensures { result ≡ rows.items }
+    {
+        Tables { rows }
+    }
+
     /// Adds a row behind those of its table. `Memory` comes where memory ran out, and then nothing has changed.
     pub fn insert(&mut self, table: TableId, row: Row) -> Result<(), Memory>
         requires { table.index < length self.old }

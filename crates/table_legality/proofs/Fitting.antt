@@ -1,13 +1,10 @@
 -- Legal rows and legal tables by what each row and each foreign key keeps.
 use Rattle.std.proofs.Common.{List, get_or, All}
 use Rattle.round_trip.specs.Words.{StoreModel, Table, Row, Tables, rows_in, AreTables, AreLegalTables, AreLegalRows, HasAllowedNullCells, HasCellsInDomain, Refers, FindsRow, KeepsForeignKey}
+use Rattle.breach_order.proofs.Turns.{all_as}
 use Rattle.table_legality.specs.Cells.{FitsColumns}
 use Rattle.table_legality.specs.References.{IsKept, KeepsAmong}
 use Rattle.table_legality.specs.Tells.{HaveLegalRows, RowsApart}
-
--- what holds of each item may be said in other words
-all_as : {X : Type 0} (P Q : X → Type 0) → ((x : X) → P x → Q x) → (xs : List X) → All P xs → All Q xs
-all_as P Q to xs all = λ i d within. to (get_or xs i d) (all i d within)
 
 pub rows_fit : (table : Table) (rows : List Row) → All (FitsColumns table) rows → RowsApart table rows → AreLegalRows table rows
 rows_fit table rows fit apart = record {

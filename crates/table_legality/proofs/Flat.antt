@@ -1,8 +1,5 @@
 -- What the three walks find is just what breaks the rules.
 use Rattle.std.proofs.Common.{◌≡◌, ◌⊎◌, inl, inr, ℕ, List, [], ◌∷◌, map, Option, Some, None, slice_get, refl, sym, ap, subst, ◌∙◌}
-use Rattle.std.specs.Option.{option_map}
-use Rattle.std.proofs.lemmas.Option.{same_Some, slice_get-map, none-some}
-use Rattle.emc_base.specs.Lists.{At}
 use Rattle.least_fault.specs.Least.{Among, IsLeast, earlier}
 use Rattle.least_fault.proofs.Leasts.{least_of_both, least_same}
 use Rattle.round_trip.specs.Words.{Value, Null, Place, place_at, StoreModel, Table, Column, Row, Tables, rows_in, cell_of, row_key}
@@ -10,6 +7,7 @@ use Rattle.round_trip.specs.TableBreaches.{StandsAtColumn, BreaksRowKey, BreaksF
 use Rattle.breach_order.specs.Founds.{found_cmp}
 use Rattle.breach_order.specs.FoundOrder.{found_cmp_total}
 use Rattle.breach_order.specs.Repeats.{IsFoundRepeat}
+use Rattle.breach_order.proofs.Finds.{at_map, at_of_map, from_parts}
 use Rattle.breach_order.specs.declared.found.Found.{Found}
 use Rattle.table_legality.specs.declared.rule.TableRule.{TableRule}
 use Rattle.table_legality.specs.declared.rule.TableRule.TheVariants.{NullCell, CellDomain, RowKey, Reference}
@@ -17,24 +15,6 @@ use Rattle.table_legality.specs.Rules.{rule_number}
 use Rattle.table_legality.specs.Cells.{BreaksInColumn, IsCellBreach}
 use Rattle.table_legality.specs.References.{IsLostByKey}
 use Rattle.table_legality.specs.Tells.{BreaksTables}
-
--- a breach by its parts
-from_parts : (found : Found) (rule : ℕ) (spot : List ℕ) (place : Place) → found.rule ≡ rule → found.spot ≡ spot → found.place ≡ place
-    → found ≡ record { rule = rule; spot = spot; place = place }
-from_parts found rule spot place is_rule is_spot is_place = λ i. record { rule = is_rule i; spot = is_spot i; place = is_place i }
-
-module _ {X Y : Type 0} (f : X → Y) where
-  -- the image of what stands at a place
-  pub at_map : (xs : List X) (i : ℕ) (x : X) → At xs i x → At (map f xs) i (f x)
-  at_map xs i x here = slice_get-map f xs i ∙ ap (option_map f) here
-
-  -- an image that stands at a place is that of what stands there
-  pub at_of_map : (xs : List X) (i : ℕ) (y : Y) → At (map f xs) i y → (x : X) × At xs i x × (f x ≡ y)
-  at_of_map xs i y here = by (slice_get xs i) refl
-    where
-      by : (item : Option X) → slice_get xs i ≡ item → (x : X) × At xs i x × (f x ≡ y)
-      by None none = absurd (none-some y (sym (slice_get-map f xs i ∙ ap (option_map f) none) ∙ here))
-      by (Some x) is = (x, is, same_Some (f x) y (sym (slice_get-map f xs i ∙ ap (option_map f) is) ∙ here))
 
 module _ (store : StoreModel) (tables : Tables) where
   abbrev rows_of : ℕ → List Row

@@ -1,28 +1,20 @@
 -- A set that grows with what rows hold, and the references that it answers for.
 use Rattle.std.proofs.Common.{◌≡◌, ◌↔◌, ⊎_elim, ℕ, ◌+◌, ◌<◌, ◌≤◌, List, length, Option, Some, None, Bool, true, false, cond, IsTrue, slice_get, refl, sym, ap, subst, ◌∙◌, arith}
 use Rattle.std.specs.BTreeSet.{BTreeSet, contains, Updates}
-use Rattle.std.specs.Cmp.{Equal-is, tied_itself}
 use Rattle.std.specs.Cmp.Lexicographic.{slice_cmp}
-use Rattle.std.specs.Ordering.{eq_by_cmp, is_eq}
+use Rattle.std.specs.Ordering.{eq_by_cmp}
 use Rattle.std.proofs.lemmas.Bool.{both_ways, cases_eq}
 use Rattle.std.proofs.lemmas.Option.{get_or_from_slice_get, none-some, slice_get-get_or, slice_get_within}
 use Rattle.emc_base.specs.Lists.{At}
 use Rattle.emc_base.specs.Order.{value_cmp}
-use Rattle.emc_base.specs.OrderLaws.{key_cmp_apart, key_cmp_total}
 use Rattle.emc_base.proofs.Lists.{at_once}
 use Rattle.least_fault.specs.Least.{Among, IsLeast}
 use Rattle.least_fault.proofs.Leasts.{least_same}
 use Rattle.round_trip.specs.Words.{Value, ColId, StoreModel, Table, ForeignKey, Row, Tables, rows_in, cells_of, FindsRow}
 use Rattle.breach_order.specs.Founds.{found_cmp}
+use Rattle.breach_order.proofs.SameValues.{tied_keys}
 use Rattle.breach_order.specs.declared.found.Found.{Found}
 use Rattle.table_legality.specs.References.{HoldsCells, IsLost, IsLostByKey}
-
--- keys that their order ties are equal, and the other way
-pub tied_keys : (one other : List Value) → IsTrue (eq_by_cmp (slice_cmp value_cmp) one other) ↔ (one ≡ other)
-tied_keys one other = (
-  λ tied. key_cmp_apart one other ((Equal-is (slice_cmp value_cmp one other)).0 tied),
-  λ same. ap is_eq (ap (slice_cmp value_cmp one) (sym same) ∙ tied_itself key_cmp_total one),
-)
 
 module _ (rows : List Row) (cols : List ColId) where
   -- one of the first so many rows holds the cells

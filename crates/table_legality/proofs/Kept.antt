@@ -2,8 +2,8 @@
 use Rattle.std.proofs.Common.{⊎_elim, inl, inr, ℕ, List, sym, subst, ◌∙◌}
 use Rattle.round_trip.specs.Words.{Place, StoreModel, Tables, Breach, rows_in, row_key, AreLegalTables, HasAllowedNullCells, HasCellsInDomain, InDomain, KeepsForeignKey, Refers, FindsRow, Value}
 use Rattle.round_trip.specs.TableBreaches.{BreaksTableRule, IsBreachOfTables}
-use Rattle.table_legality.proofs.Apart.{apart_none}
-use Rattle.table_legality.proofs.Turns.{all_here}
+use Rattle.breach_order.proofs.Apart.{apart_none}
+use Rattle.breach_order.proofs.Turns.{all_here}
 
 module _ (store : StoreModel) (tables : Tables) (legal : AreLegalTables store tables) where
   kept : (rule : ℕ) (spot : List ℕ) (place : Place) → ¬ BreaksTableRule store tables rule spot place

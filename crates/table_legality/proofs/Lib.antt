@@ -1,7 +1,4 @@
-pub mod SameValues
-pub mod Turns
 pub mod Referring
-pub mod Apart
 pub mod Fitting
 pub mod Leaves
 pub mod Held

@@ -5,7 +5,7 @@ use Rattle.std.proofs.lemmas.Option.{slice_get-get_or}
 use Rattle.emc_base.specs.Lists.{At}
 use Rattle.emc_base.proofs.Mapped.{contains_at, contains_map}
 use Rattle.round_trip.specs.Words.{ColId, ForeignKey, Null, Row, Value, Refers, cell_of}
-use Rattle.table_legality.proofs.Turns.{EachTo, each_all}
+use Rattle.breach_order.proofs.Turns.{EachTo, each_all}
 
 module _ (key : ForeignKey) (row : Row) (cols : List ColId) (are : cols ≡ key.from_cols) where
   abbrev Told : Value → Type 0

@@ -14,20 +14,9 @@ use Rattle.round_trip.specs.Words.{Value, Null, Whole, Flag, Text, Bytes, place_
 use Rattle.round_trip.specs.TableBreaches.{StandsAtColumn}
 use Rattle.breach_order.specs.Founds.{found_cmp}
 use Rattle.breach_order.proofs.Domains.{domain_decided}
+use Rattle.breach_order.proofs.SameValues.{null_or, tied_keys}
+use Rattle.breach_order.proofs.Turns.{all_at}
 use Rattle.table_legality.specs.Tells.{BreaksTables}
-use Rattle.table_legality.proofs.Held.{tied_keys}
-
--- from what holds at each place
-all_at : {X : Type 0} (P : X → Type 0) (xs : List X) → ((i : ℕ) (x : X) → At xs i x → P x) → All P xs
-all_at P xs each i d within = each i (get_or xs i d) (slice_get-get_or xs i d within)
-
--- a value is null or it isn't
-null_or : (value : Value) → (value ≡ Null) ⊎ (value ≢ Null)
-null_or Null = inl refl
-null_or (Whole number) = inr (λ is. absurd cc)
-null_or (Flag flag) = inr (λ is. absurd cc)
-null_or (Text text) = inr (λ is. absurd cc)
-null_or (Bytes bytes) = inr (λ is. absurd cc)
 
 -- a table that has a row is there
 has_list : (tables : Tables) (t : TableId) (i : ℕ) (row : Row) → At (rows_in tables t) i row → t.index < length tables

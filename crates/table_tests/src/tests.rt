@@ -1,12 +1,13 @@
 ghost use Rattle.round_trip.specs.Words.{AreTables};
 
-use edm_types::{Breach, Column, ForeignKey, Row, StoreModel, Table};
-use emc_base::{Bin, ColId, Kind, Memory, Seq, TableId, Txt};
+use edm_types::{Breach, Column, ForeignKey, StoreModel, Table};
+use emc_base::{Bin, ColId, Kind, Memory, Seq, TableId, Txt, Value};
 use json_form::{Doc, place_text};
 use std::alloc::Global;
 use std::process::Abort;
 use std::test::Fail;
 use table_documents::tables_of_doc;
+use table_files::Tables;
 use table_legality::{first_breach, is_legal};
 
 fn ids(alloc: Global, indices: &[u32]) -> Result<Seq<ColId>, Memory> {
@@ -67,16 +68,12 @@ fn store(alloc: Global) -> Result<StoreModel, Memory> {
 }
 
 // The first breach of tables, which agrees with whether they are legal.
-fn judge(
-    rt: &impl Abort,
-    alloc: Global,
-    tables: &Seq<Seq<Row>>,
-    store: &StoreModel,
-) -> Option<Breach>
+fn judge(rt: &impl Abort, alloc: Global, tables: &Tables, store: &StoreModel) -> Option<Breach>
     requires { AreTables store.now tables.now }
 {
-    let found = first_breach(alloc, tables.as_slice(), store).expect(rt, "memory");
-    assert_eq!(rt; is_legal(tables.as_slice(), store), found.is_none());
+    let rows = tables.as_slice();
+    let found = first_breach(alloc, rows, store).expect(rt, "memory");
+    assert_eq!(rt; is_legal(rows, store), found.is_none());
     found
 }
 
@@ -181,5 +178,36 @@ fn tables_of_documents_are_judged(rt: HostRuntime) -> Result<(), Fail> {
     for case in CASES {
         tells(&rt, rt.alloc(), case);
     }
+    Ok(())
+}
+
+fn numbers(alloc: Global, numbers: &[i64]) -> Result<Seq<Value>, Memory> {
+    let mut values = Seq::empty(alloc);
+    for number in numbers {
+        values.push(Value::Whole(*number))?;
+    }
+    Ok(values)
+}
+
+/// Lines that stand in no order of their key.
+const LINES: &str =
+    r#"{"Lines":[{"Owner":2,"Number":1},{"Owner":1,"Number":2},{"Owner":1,"Number":1}],"People":[{"Id":1,"Boss":null},{"Id":2,"Boss":1}]}"#;
+
+#[test]
+fn a_row_is_found_by_its_key(rt: HostRuntime) -> Result<(), Fail> {
+    let alloc = rt.alloc();
+    let store = store(alloc)?;
+    let bytes = Bin::of(alloc, LINES.as_bytes())?;
+    let doc = Doc::of_bytes(alloc, &bytes).expect(&rt, "no document");
+    let Ok(tables) = tables_of_doc(alloc, &doc, &store) else {
+        return Err(Fail::from("not read"));
+    };
+    let people = TableId { index: 0 };
+    if people.index as usize >= tables.as_slice().len() {
+        return Err(Fail::from("no table"));
+    }
+    let found = tables.row(&store, people, &numbers(alloc, &[2])?);
+    assert!(rt; found.is_some_and(|row| matches!(row.cells.as_slice(), [_, Value::Whole(1)])));
+    assert!(rt; tables.row(&store, people, &numbers(alloc, &[3])?).is_none());
     Ok(())
 }

@@ -1,12 +1,10 @@
 -- What is shown of a property that isn't written is a failure.
-use Rattle.std.proofs.Common.{◌≡◌, ◌⊎◌, ◌≤◌, ◌<◌, ℕ, zero, suc, List, [], ◌∷◌, length, Some, unwrap_or, inl, inr, refl, sym, ap, ◌∙◌, subst, ◌++◌, slice_get, Contains, AllPairs, pos, arith, ⊎_elim}
+use Rattle.std.proofs.Common.{◌≡◌, ◌⊎◌, ◌≤◌, ◌<◌, ℕ, zero, suc, List, [], ◌∷◌, length, Some, unwrap_or, inl, inr, refl, sym, ap, ◌∙◌, subst, slice_get, Contains, AllPairs, pos, arith, ⊎_elim}
 use Rattle.std.proofs.lemmas.List.Elements.{All-contains}
 use Rattle.std.specs.Option.{option_map_or}
 use Rattle.std.proofs.lemmas.Option.{slice_get_within}
-use Rattle.std.specs.Cmp.Lexicographic.{slice_cmp}
 use Rattle.std.specs.declared.cmp.Ordering.TheVariants.{Less}
-use Rattle.emc_base.specs.Order.{value_cmp}
-use Rattle.round_trip.specs.Words.{PropId, Value, Place, place_at, EntityModel, EntityType, Prop, EntitySet, Schema, At, props_of, key_props, key_of, State, entities_in, links_in, FailsAt, kind_number, Kind}
+use Rattle.round_trip.specs.Words.{PropId, Value, Place, place_at, EntityModel, EntityType, Prop, EntitySet, Schema, At, props_of, key_props, State, entities_in, links_in, FailsAt, kind_number, Kind}
 use Rattle.round_trip.specs.declared.FailKind.{FailKind}
 use Rattle.emc_base.specs.declared.value.Value.TheVariants as value
 use Rattle.round_trip.specs.declared.FailKind.TheVariants.{Same}
@@ -18,23 +16,8 @@ use Rattle.one_table.proofs.LostValues.{value_fails}
 use Rattle.one_table.specs.Samples.{AllowsSamples, sample_of}
 use Rattle.one_table.specs.Unwritten.{IsUnwritten}
 use Rattle.witness_state.specs.declared.failure.Failure.{Failure}
-use Rattle.witness_state.specs.Failures.{IsFailureOf, IsPrintable}
-use Rattle.entity_state.specs.StateTree.{IsInKeyOrder}
+use Rattle.witness_state.specs.Failures.{IsFailureOf}
 use Rattle.witness_state.specs.Lost.{Loses, shown_state}
-
--- a list of at most one item is in any order
-in_order : {X : Type 0} (R : X → X → Type 0) (xs : List X) → length xs ≤ 1 → AllPairs R xs
-in_order R xs short = λ i j d below within. absurd (omega arith)
-
-one_list : {X : Type 0} (xs : List X) (i : ℕ) → length xs ≤ 1 → length (unwrap_or (slice_get (xs ∷ []) i) []) ≤ 1
-one_list xs zero short = short
-one_list xs (suc i) short = omega arith
-
-shown_in_order : (model : EntityModel) (props : List PropId) (values : PropId → Value) → IsInKeyOrder model (shown_state props values)
-shown_in_order model props values = record {
-  entities = λ set. in_order (λ x y. slice_cmp value_cmp (key_of model x) (key_of model y) ≡ Less) (entities_in (shown_state props values) set) (one_list _ set.index (omega arith));
-  links = λ assoc. in_order (λ x y. slice_cmp value_cmp (x.first ++ x.second) (y.first ++ y.second) ≡ Less) (links_in (shown_state props values) assoc) (omega arith);
-}
 
 -- the unwritten property is declared
 pub lost_within : (schema : Schema) → IsOneTable schema → (lost : PropId) → IsUnwritten schema lost → lost.index < length schema.model.props
@@ -56,14 +39,6 @@ shown set type key lost held = record {
 -- a failure that loses the property so is that one
 is_shown : (set : EntitySet) (type : EntityType) (key lost : PropId) (held : Kind) (failure : Failure) → Loses set type key lost held failure → shown set type key lost held ≡ failure
 is_shown set type key lost held failure loses = λ i. record { kind = sym loses.kind_is i; place = sym loses.place_is i; state = sym loses.state_is i; other = sym loses.other_is i }
-
--- it can be printed
-pub is_printable : (model : EntityModel) (set : EntitySet) (type : EntityType) (key lost : PropId) (held : Kind) (failure : Failure) → Loses set type key lost held failure
-    → IsPrintable model failure
-is_printable model set type key lost held failure loses = subst (IsPrintable model) (is_shown set type key lost held failure loses) (record {
-  state = shown_in_order model type.props (lost_values key lost value.Null);
-  other = shown_in_order model type.props (lost_values key lost (sample_of held));
-})
 
 module _ (schema : Schema) (form : IsOneTable schema) (samples : AllowsSamples schema.model) (lost : PropId) (unwritten : IsUnwritten schema lost)
     (set : EntitySet) (type : EntityType) (key : PropId) (declared : Prop)

@@ -4,7 +4,7 @@ ghost use Rattle.one_table.specs.LostValues.{lost_values, shown_key};
 ghost use Rattle.one_table.specs.OneTable.{IsOneTable};
 ghost use Rattle.one_table.specs.Samples.{AllowsSamples, sample_of};
 ghost use Rattle.one_table.specs.Unwritten.{IsUnwritten};
-ghost use Rattle.witness_state.specs.Failures.{IsFailureOf, IsPrintable};
+ghost use Rattle.witness_state.specs.Failures.{IsFailureOf};
 ghost use Rattle.witness_state.specs.Lost.{Loses, shown_state};
 
 use crate::failure::Failure;
@@ -23,8 +23,7 @@ pub fn lost_failure(alloc: Global, schema: &Schema, lost: PropId) -> Result<Fail
     requires one_table { IsOneTable schema.now }
     requires samples { AllowsSamples schema.now.model }
     requires lost { IsUnwritten schema.now lost }
-    ensures fails { IfOk result (IsFailureOf schema.now) }
-    ensures printable { IfOk result (IsPrintable schema.now.model) }
+    ensures { IfOk result (IsFailureOf schema.now) }
 {
     one_table::refuses();
     one_table::fails_by_same_alone();
@@ -84,7 +83,11 @@ fn state_with(
         ty: TypeId { index: 0 },
         values: values_with(alloc, props, key, lost, value)?,
     };
-    EntityState::of_one(alloc, entity)
+    let mut list = Seq::empty(alloc);
+    list.push(entity)?;
+    let mut entities = Vec::new(alloc);
+    entities.push(list)?;
+    Ok(EntityState::of_lists(entities, Vec::new(alloc)))
 }
 
 fn values_with(

@@ -1,4 +1,4 @@
-use Rattle.std.proofs.Common.{refl, ◌∙◌}
+use Rattle.std.proofs.Common.{refl}
 use Rattle.mapping_cli.specs.World.{world}
 use Rattle.mapping_cli.proofs.Endings.{all_written, none_written}
 use Rattle.mapping_cli.proofs.commands.run.Goals as goal
@@ -8,7 +8,7 @@ returns-then-is_empty g c = record {
   headline = none_written g.F.Files.may_fail c.args.words.now
       (world (g.F.Files.held c.args.files.now) (g.F.Files.fault_count c.args.files.now) (g.W.Sink.written_to c.args.out.now) (g.W.Sink.fault_count c.args.out.now))
       (world (g.F.Files.held c.answer_of.new.files) (g.F.Files.fault_count c.answer_of.new.files) (g.W.Sink.written_to c.args.out.now) (g.W.Sink.fault_count c.args.out.now))
-      c.in-Ok.answer.text c.as_str.result.now c.in-Ok.answer.status c.in-Ok.ensures.ends c.as_str.ensures.text c.answer_of.ensures.same c.if-is_empty.ensures refl refl;
+      c.in-Ok.answer.text c.as_slice.result.now c.in-Ok.answer.status c.in-Ok.ensures.ends c.as_slice.ensures.bytes c.answer_of.ensures.same c.if-is_empty.ensures refl refl;
 }
 
 pub returns-in-Ok-put : goal.returns-in-Ok-put
@@ -16,6 +16,6 @@ returns-in-Ok-put g c = record {
   headline = all_written g.F.Files.may_fail c.args.words.now
       (world (g.F.Files.held c.args.files.now) (g.F.Files.fault_count c.args.files.now) (g.W.Sink.written_to c.args.out.now) (g.W.Sink.fault_count c.args.out.now))
       (world (g.F.Files.held c.answer_of.new.files) (g.F.Files.fault_count c.answer_of.new.files) (g.W.Sink.written_to c.put.new.self) (g.W.Sink.fault_count c.put.new.self))
-      c.in-Ok.answer.text c.as_bytes.result.now c.in-Ok.answer.status c.in-Ok.ensures.ends (c.as_bytes.ensures.value ∙ c.as_str-2.ensures.text) c.answer_of.ensures.same
+      c.in-Ok.answer.text c.as_slice-2.result.now c.in-Ok.answer.status c.in-Ok.ensures.ends c.as_slice-2.ensures.bytes c.answer_of.ensures.same
       c.in-Ok-put.ensures.cause c.in-Ok-put.ensures.writes;
 }

@@ -39,8 +39,10 @@ returns c =
     let unwritten = least_where (IsAt WritesKey []) c.in_ok-unwritten.unwritten leaves c.in_ok-unwritten.ensures in
     let Found : List PropId → Type 0 = λ props. IsLeast fault_cmp (Cond props) c.in_ok-cond.cond in
     let cond = subst Found c.set_key-key.ensures c.in_ok-cond.ensures in
+    let AgainIn : List RawPair → Type 0 = λ pairs. IsLeast fault_cmp (InList (codes "ScalarProperty") (λ k pair inside. IsWrittenBefore pairs k pair × IsAt WrittenOnce [] inside) pairs) c.in_ok-again.again in
+    let again = subst AgainIn same.pairs c.in_ok-again.ensures in
     least_joined Unfit (λ fault. Unwritten fault ⊎ Cond key fault ⊎ Foreign fault ⊎ Again fault) c.in_ok-unfit.unfit c.earlier-2.result c.earlier-3.result c.earlier-3.ensures
     unfit
     (least_joined Unwritten (λ fault. Cond key fault ⊎ Foreign fault ⊎ Again fault) c.in_ok-unwritten.unwritten c.earlier-behind.result c.earlier-2.result c.earlier-2.ensures unwritten
     (least_joined (Cond key) (λ fault. Foreign fault ⊎ Again fault) c.in_ok-cond.cond c.earlier.result c.earlier-behind.result c.earlier-behind.ensures cond
-    (least_joined Foreign Again c.in_ok-foreign.foreign c.in_ok-again.again c.earlier.result c.earlier.ensures foreign c.in_ok-again.ensures)))
+    (least_joined Foreign Again c.in_ok-foreign.foreign c.in_ok-again.again c.earlier.result c.earlier.ensures foreign again)))

@@ -1,9 +1,15 @@
-use Rattle.std.proofs.Common.{rules, ap, ◌∙◌}
-use Rattle.name_places.specs.GivenNames.{first_place}
+use Rattle.std.proofs.Common.{ℕ, List, Option, rules, subst}
+use Rattle.std.specs.Ordering.{nat_cmp}
+use Rattle.least_fault.specs.Least.{IsLeast}
+use Rattle.msl_lists.specs.declared.raw.RawPair.{RawPair}
+use Rattle.msl_written.specs.Again.{IsAgain}
+use Rattle.msl_written.proofs.Again.{least_again}
 use Rattle.msl_written.proofs.repeats.first_twice_written.Goals as goal
 
-pub invariant_of-search : goal.invariant_of-search
-invariant_of-search c = record {
-  by_prop = c.in_ok-places_by.ensures (λ pair. pair.prop) (λ pair name lent. search rules) ∙ ap (first_place (λ pair. pair.prop)) c.as_slice.ensures.items;
-  by_col = c.in_ok-places_by-2.ensures (λ pair. pair.col) (λ pair name lent. search rules) ∙ ap (first_place (λ pair. pair.col)) c.as_slice-2.ensures.items;
-}
+pub returns : goal.returns
+returns c =
+    let First : (RawPair → List ℕ) → Option ℕ → List RawPair → Type 0 = λ name_in first pairs. IsLeast nat_cmp (IsAgain name_in pairs) first in
+    let prop = subst (First (λ pair. pair.prop) c.in_ok-prop.prop) c.as_slice.ensures.items (c.in_ok-prop.ensures (λ pair. pair.prop) (λ pair name lent. search rules)) in
+    let col = subst (First (λ pair. pair.col) c.in_ok-col.col) c.as_slice-2.ensures.items (c.in_ok-col.ensures (λ pair. pair.col) (λ pair name lent. search rules)) in
+    least_again c.args.pairs.now c.in_ok-prop.prop c.in_ok-col.col c.in_ok-of_prop.of_prop c.in_ok-of_col.of_col c.earlier.result prop c.in_ok-of_prop.ensures col
+    c.in_ok-of_col.ensures c.earlier.ensures

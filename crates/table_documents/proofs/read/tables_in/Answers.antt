@@ -8,7 +8,8 @@ use Rattle.table_documents.proofs.read.tables_in.Goals as goal
 
 pub returns-clause-tables : goal.returns-clause-tables
 returns-clause-tables c =
-    c.loop-table.invariant
+    c.of_lists.ensures
+    ∙ c.loop-table.invariant
     ∙ ap (map (rows_of_table (part_of c.args.node)))
     (take_all c.loop-table.table-index c.as_slice-table-items.result.now c.loop-table-test.false ∙ c.as_slice-table-items.ensures.items)
 

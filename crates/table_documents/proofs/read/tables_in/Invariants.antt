@@ -5,4 +5,4 @@ use Rattle.table_documents.proofs.read.tables_in.Given as goal
 
 -- the rows of the tables that were passed
 abbrev pub invariant-loop-table : goal.invariant-loop-table
-invariant-loop-table l = l.tables ≡ map (rows_of_table (part_of l.node)) (take l.table-index l.table-items)
+invariant-loop-table l = l.tables.items ≡ map (rows_of_table (part_of l.node)) (take l.table-index l.table-items)

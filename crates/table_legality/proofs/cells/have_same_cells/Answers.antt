@@ -2,7 +2,7 @@ use Rattle.std.proofs.Common.{◌≡◌, ◌<◌, ◌≤◌, get_or, length, ref
 use Rattle.std.proofs.lemmas.Bool.{both_ways}
 use Rattle.std.proofs.lemmas.Option.{slice_get-get_or}
 use Rattle.round_trip.specs.Words.{ColId, cell_of}
-use Rattle.table_legality.proofs.SameValues.{same_at, same_maps, same_more}
+use Rattle.breach_order.proofs.SameValues.{same_at, same_maps, same_more}
 use Rattle.table_legality.proofs.cells.have_same_cells.Goals as goal
 
 pub returns-then-not-is_same_cell : goal.returns-then-not-is_same_cell

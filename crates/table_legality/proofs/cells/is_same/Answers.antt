@@ -1,5 +1,5 @@
 use Rattle.std.proofs.Common.{sym, ◌∙◌}
-use Rattle.table_legality.proofs.SameValues.{tied_values}
+use Rattle.breach_order.proofs.SameValues.{tied_values}
 use Rattle.table_legality.proofs.cells.is_same.Goals as goal
 
 pub returns : goal.returns

@@ -2,7 +2,7 @@ use Rattle.std.proofs.Common.{get_or, refl}
 use Rattle.std.proofs.lemmas.Bool.{both_ways}
 use Rattle.std.proofs.lemmas.Option.{slice_get-get_or}
 use Rattle.round_trip.specs.Words.{ColId}
-use Rattle.table_legality.proofs.Turns.{each_more, each_none}
+use Rattle.breach_order.proofs.Turns.{each_more, each_none}
 use Rattle.table_legality.proofs.Referring.{refers_all, refers_not}
 use Rattle.table_legality.proofs.cells.refers.Goals as goal
 

@@ -1,6 +1,6 @@
 use Rattle.std.proofs.Common.{◌≢◌}
 use Rattle.round_trip.specs.Words.{Null, cell_of}
-use Rattle.table_legality.proofs.Turns.{EachTo}
+use Rattle.breach_order.proofs.Turns.{EachTo}
 use Rattle.table_legality.proofs.cells.refers.Given as goal
 
 -- the columns that were passed aren't null

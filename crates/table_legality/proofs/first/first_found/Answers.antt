@@ -4,7 +4,7 @@ use Rattle.breach_order.specs.Founds.{found_cmp}
 use Rattle.breach_order.specs.declared.found.Found.{Found}
 use Rattle.table_legality.specs.Tells.{BreaksTables}
 use Rattle.table_legality.proofs.Flat.{least_breach}
-use Rattle.table_legality.proofs.Leaves.{along}
+use Rattle.breach_order.proofs.Finds.{along}
 use Rattle.table_legality.proofs.first.first_found.Goals as goal
 
 pub returns : goal.returns

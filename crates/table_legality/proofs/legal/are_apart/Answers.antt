@@ -1,7 +1,7 @@
 use Rattle.std.proofs.Common.{refl}
 use Rattle.std.proofs.lemmas.Bool.{both_ways}
 use Rattle.round_trip.specs.Words.{row_key}
-use Rattle.table_legality.proofs.Apart.{apart_end, apart_more, apart_none, apart_start}
+use Rattle.breach_order.proofs.Apart.{apart_end, apart_more, apart_none, apart_start}
 use Rattle.table_legality.proofs.legal.are_apart.Goals as goal
 
 pub loop-i-init : goal.loop-i-init

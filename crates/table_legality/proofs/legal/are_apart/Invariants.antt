@@ -1,5 +1,5 @@
 use Rattle.round_trip.specs.Words.{row_key}
-use Rattle.table_legality.proofs.Apart.{ApartTo}
+use Rattle.breach_order.proofs.Apart.{ApartTo}
 use Rattle.table_legality.proofs.legal.are_apart.Given as goal
 
 -- of the rows that were passed none has the key of one before it

@@ -3,7 +3,7 @@ use Rattle.std.proofs.lemmas.Option.{slice_get_read}
 use Rattle.emc_base.specs.Lists.{At}
 use Rattle.round_trip.specs.Words.{Column, cell_of}
 use Rattle.table_legality.proofs.Leaves.{none_told, some_told}
-use Rattle.table_legality.proofs.Turns.{each_all, each_more, each_none}
+use Rattle.breach_order.proofs.Turns.{each_all, each_more, each_none}
 use Rattle.table_legality.proofs.legal.fits_table.Goals as goal
 
 pub loop-j-init : goal.loop-j-init

@@ -1,6 +1,6 @@
 use Rattle.round_trip.specs.Words.{cell_of}
 use Rattle.table_legality.specs.Cells.{FitsColumn}
-use Rattle.table_legality.proofs.Turns.{EachTo}
+use Rattle.breach_order.proofs.Turns.{EachTo}
 use Rattle.table_legality.proofs.legal.fits_table.Given as goal
 
 -- the cells of the columns that were passed may stand there

@@ -2,7 +2,7 @@ use Rattle.std.proofs.Common.{List, refl, subst, sym}
 use Rattle.std.proofs.lemmas.Bool.{both_ways}
 use Rattle.std.proofs.lemmas.Option.{slice_get_read}
 use Rattle.round_trip.specs.Words.{AreLegalRows, Row}
-use Rattle.table_legality.proofs.Turns.{each_all, each_more, each_none}
+use Rattle.breach_order.proofs.Turns.{each_all, each_more, each_none}
 use Rattle.table_legality.proofs.legal.have_legal_rows.Goals as goal
 
 pub loop-t-init : goal.loop-t-init

@@ -1,5 +1,5 @@
 use Rattle.round_trip.specs.Words.{AreLegalRows, rows_in}
-use Rattle.table_legality.proofs.Turns.{EachTo}
+use Rattle.breach_order.proofs.Turns.{EachTo}
 use Rattle.table_legality.proofs.legal.have_legal_rows.Given as goal
 
 -- the tables that were passed have legal rows

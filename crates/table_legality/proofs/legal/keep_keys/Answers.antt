@@ -2,7 +2,7 @@ use Rattle.std.proofs.Common.{refl}
 use Rattle.std.proofs.lemmas.Bool.{both_ways}
 use Rattle.std.proofs.lemmas.Option.{slice_get_read}
 use Rattle.table_legality.specs.References.{IsKept}
-use Rattle.table_legality.proofs.Turns.{all_here, all_seen, each_more, each_none}
+use Rattle.breach_order.proofs.Turns.{all_here, all_seen, each_more, each_none}
 use Rattle.table_legality.proofs.legal.keep_keys.Goals as goal
 
 pub loop-key-init : goal.loop-key-init

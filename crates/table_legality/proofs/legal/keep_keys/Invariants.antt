@@ -1,5 +1,5 @@
 use Rattle.table_legality.specs.References.{IsKept}
-use Rattle.table_legality.proofs.Turns.{EachTo}
+use Rattle.breach_order.proofs.Turns.{EachTo}
 use Rattle.table_legality.proofs.legal.keep_keys.Given as goal
 
 -- the foreign keys that were passed are kept

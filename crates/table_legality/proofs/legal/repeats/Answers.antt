@@ -2,7 +2,7 @@ use Rattle.std.proofs.Common.{◌≡◌, ◌<◌, List, length, refl, subst, sym
 use Rattle.std.proofs.lemmas.Bool.{both_ways}
 use Rattle.std.proofs.lemmas.Option.{slice_get_read}
 use Rattle.round_trip.specs.Words.{ColId, cells_of, row_key}
-use Rattle.table_legality.proofs.Apart.{other_end, other_more, other_start, repeat_here}
+use Rattle.breach_order.proofs.Apart.{other_end, other_more, other_start, repeat_here}
 use Rattle.table_legality.proofs.legal.repeats.Goals as goal
 
 pub loop-k-init : goal.loop-k-init

@@ -1,5 +1,5 @@
 use Rattle.round_trip.specs.Words.{row_key}
-use Rattle.table_legality.proofs.Apart.{OtherTo}
+use Rattle.breach_order.proofs.Apart.{OtherTo}
 use Rattle.table_legality.proofs.legal.repeats.Given as goal
 
 -- those that were passed have other keys

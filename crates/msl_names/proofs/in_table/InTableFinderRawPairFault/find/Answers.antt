@@ -7,5 +7,5 @@ pub returns : goal.returns
 returns c =
     let self = c.args.self.now in
     let column = column_named self.names.now.store.now self.table in
-    names_nothing c.column_named-col.result (column c.args.item.now.col) (codes "ColumnName") c.in_ok-found.found (c.column_named-col.ensures ∙ ap column c.as_str.ensures.text)
+    names_nothing c.column_near-col.result (column c.args.item.now.col) (codes "ColumnName") c.in_ok-found.found (c.column_near-col.ensures ∙ ap column c.as_str.ensures.text)
     c.in_ok-found.ensures

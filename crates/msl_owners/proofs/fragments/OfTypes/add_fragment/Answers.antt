@@ -36,10 +36,8 @@ returns c =
     let set = sym (c.set_named.ensures ∙ ap (set_named model) c.as_str.ensures.text) ∙ c.in-Some.is in
     let table = sym (c.table_named.ensures ∙ ap (table_named store) c.as_str-2.ensures.text) ∙ c.in-Some-table_named.is in
     let named = c.picked_type-ty.ensures ∙ ap (prop_of_picks model) c.as_slice.ensures.items in
-    let pairs : c.as_slice-2.result.now ≡ pairs_in model store (prop_of_picks model types.picks) t fragment.pairs
-    = c.as_slice-2.ensures.items ∙ c.in_ok-pairs.ensures ∙ ap (λ (name : List ℕ → Option PropId). pairs_in model store name t fragment.pairs) named in
     let writer : c.in_ok-writer.writer ≡ writer_of_set model store (set_numbered s) (table_numbered t) (pairs_in model store (prop_of_picks model types.picks) t fragment.pairs)
-    = c.in_ok-writer.ensures ∙ (λ k. writer_of_set model store (set_numbered (c.in_ok-narrow.ensures k)) (table_numbered (c.in_ok-narrow-2.ensures k)) (pairs k)) in
+    = c.in_ok-writer.ensures ∙ (λ k. writer_of_set model store (set_numbered (c.in_ok-narrow.ensures k)) (table_numbered t) (pairs_in model store (named k) t fragment.pairs)) in
     let At : Writer → List PlacedWriter = λ one. record { place = site.place; writer = one } ∷ [] in
     adds_same c.args.all.now c.push.new.self (At c.in_ok-writer.writer) (writers_at_site model store site)
     (ap At writer ∙ sym (site_found model store site s t set table)) c.in_ok-push.ensures

@@ -1,6 +1,7 @@
-use Rattle.std.proofs.Common.{rules, map, ap, ◌∙◌}
+use Rattle.std.proofs.Common.{List, rules, ap, subst, ◌∙◌}
 use Rattle.name_places.specs.GivenNames.{first_place}
 use Rattle.round_trip.specs.Words.{Table}
+use Rattle.schema_names.specs.Columns.{AreColumnsOf}
 use Rattle.schema_names.proofs.tables.NameTables.of.Goals as goal
 
 pub returns : goal.returns
@@ -10,6 +11,6 @@ returns c = record {
   association_sets = c.in_ok-places_by-3.ensures (λ assoc. assoc.set_name) (λ assoc name lent. search rules) ∙ ap (first_place (λ assoc. assoc.set_name)) c.as_slice-assocs.ensures.items;
   associations = c.in_ok-places_by-4.ensures (λ assoc. assoc.assoc_name) (λ assoc name lent. search rules) ∙ ap (first_place (λ assoc. assoc.assoc_name)) c.as_slice-assocs.ensures.items;
   tables_of = c.in_ok-places_by-5.ensures (λ table. table.name) (λ table name lent. search rules) ∙ ap (first_place (λ table. table.name)) c.as_slice-3.ensures.items;
-  columns = c.in_ok-columns_of.ensures ∙ ap (map (λ (table : Table). first_place (λ col. col.name) table.cols)) c.as_slice-4.ensures.items;
+  columns = (let P : List Table → Type 0 = λ tables. AreColumnsOf tables c.in_ok-columns_of.field-0 in subst P c.as_slice-4.ensures.items c.in_ok-columns_of.ensures);
   own_props = c.in_ok-own_props_of.ensures;
 }

@@ -1,5 +1,5 @@
 use Rattle.std.proofs.lemmas.Result.{IfOk-weaker}
-use Rattle.table_legality.proofs.Leaves.{along}
+use Rattle.breach_order.proofs.Finds.{along}
 use Rattle.table_legality.proofs.columns.TableCellsFinderTableFound.find.Goals as goal
 
 pub returns : goal.returns

@@ -2,7 +2,7 @@ use Rattle.std.proofs.Common.{List, subst₂, sym}
 use Rattle.round_trip.specs.Words.{ColId, Row}
 use Rattle.table_legality.specs.References.{HoldsCells}
 use Rattle.table_legality.proofs.Held.{lost_by_key}
-use Rattle.table_legality.proofs.Leaves.{along}
+use Rattle.breach_order.proofs.Finds.{along}
 use Rattle.table_legality.proofs.references.ForeignKeysFinderForeignKeyFound.find.Goals as goal
 
 pub returns : goal.returns

@@ -1,0 +1,11 @@
+pub mod Holding
+pub mod Counting
+pub mod Doubles
+pub mod Marked
+pub mod Said
+pub mod Flat
+pub mod Decided
+pub mod Sound
+pub mod Kept
+pub mod Unbroken
+pub mod Legality

@@ -1,0 +1,6 @@
+pub mod Sides
+pub mod Ends
+pub mod Once
+pub mod Counts
+pub mod Principals
+pub mod Tells

@@ -1,0 +1,4 @@
+pub mod Props
+pub mod Types
+pub mod Found
+pub mod Tells

@@ -1,0 +1,3 @@
+pub mod BasePlaces
+pub mod Deciding
+pub mod Once

@@ -1,0 +1,20 @@
+use Rattle.std.proofs.Common.{List, Option, subst, subst₂}
+use Rattle.least_fault.specs.Least.{IsLeast}
+use Rattle.round_trip.specs.Words.{Entity, Link}
+use Rattle.breach_order.specs.Founds.{found_cmp}
+use Rattle.set_legality.specs.Tells.{BreaksSets, IsFirstInSets, state_of}
+use Rattle.link_legality.specs.Tells.{BreaksLinks}
+use Rattle.state_legality.proofs.Joined.{least_of_all}
+use Rattle.state_legality.proofs.first.first_found.Goals as goal
+
+pub returns : goal.returns
+returns c =
+    let model = c.args.model.now in
+    let state = c.args.state.now in
+    let in_sets = c.in_ok-in_sets.in_sets in
+    let in_links = c.in_ok-in_links.in_links in
+    let P : List (List Entity) → Type 0 = λ entities. IsLeast found_cmp (BreaksSets model (state_of entities state.links)) in_sets in
+    let Q : List (List Entity) → List (List Link) → Type 0 = λ entities links. IsLeast found_cmp (BreaksLinks model (state_of entities links)) in_links in
+    least_of_all model state in_sets in_links c.earlier.result c.earlier.ensures
+    (subst P c.entity_lists-entities.ensures (c.in_ok-in_sets.ensures state.links))
+    (subst₂ Q c.entity_lists-entities.ensures c.link_lists.ensures c.in_ok-in_links.ensures)
