@@ -8,9 +8,9 @@ use Rattle.emc_base.proofs.Loops.{take_item}
 use Rattle.soundness.specs.Joined.{Member}
 use Rattle.joined_groups.specs.declared.groups.Groups.{Groups}
 use Rattle.barred_members.specs.Added.{Adds, Each}
-use Rattle.barred_members.specs.Labels.{label_cmp, label_of}
+use Rattle.joined_groups.specs.Labels.{label_cmp, label_of}
 use Rattle.barred_members.specs.declared.barred.Barred.{Barred}
-use Rattle.barred_members.proofs.Known.{tells_label}
+use Rattle.joined_groups.proofs.Labelled.{tells_label}
 
 no_member : {X : Type 0} (x : X) → ¬ Contains [] x
 no_member x has = absurd (let within : has.0 < 0 = has.1 in omega arith)

@@ -11,11 +11,11 @@ use Rattle.soundness.specs.Joined.{Member, TellsOther, col, prop}
 use Rattle.joined_groups.specs.declared.groups.Groups.{Groups}
 use Rattle.joined_groups.specs.Groups.{AreGroups}
 use Rattle.barred_members.specs.Added.{Adds, Constrains, Each, Hosts, HostsAt}
-use Rattle.barred_members.specs.Labels.{label_cmp, label_of}
+use Rattle.joined_groups.specs.Labels.{label_cmp, label_of}
 use Rattle.barred_members.specs.Told.{TellsBarred}
 use Rattle.barred_members.specs.declared.barred.Barred.{Barred}
 use Rattle.barred_members.proofs.Adding.{adds_both}
-use Rattle.barred_members.proofs.Known.{one_label}
+use Rattle.joined_groups.proofs.Labelled.{one_label}
 
 module _ (schema : Schema) where
   -- told by a constraint, or by a link fragment

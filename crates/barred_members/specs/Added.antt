@@ -5,9 +5,9 @@ use Rattle.round_trip.specs.Words.{PropId, TableId, Assoc, Constraint, Pair, Lin
 use Rattle.round_trip.specs.FailsAt.{IsHostedAt}
 use Rattle.soundness.specs.Joined.{Member, prop, col}
 use Rattle.joined_groups.specs.declared.groups.Groups.{Groups}
-use Rattle.barred_members.specs.Labels.{label_cmp, label_of}
+use Rattle.joined_groups.specs.Labels.{label_cmp, label_of}
 use Rattle.barred_members.specs.declared.barred.Barred.{Barred}
-use Rattle.barred_members.specs.declared.labels.Label.{Label}
+use Rattle.joined_groups.specs.declared.labels.Label.{Label}
 
 -- the label is that of a property or a column of this kind
 abbrev pub IsLabelOf : Groups → (Member → Type 0) → Label → Type 0

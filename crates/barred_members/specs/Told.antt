@@ -4,7 +4,7 @@ use Rattle.std.specs.Prelude.{◌↔◌, IsTrue, Bool}
 use Rattle.std.specs.BTreeSet.{contains}
 use Rattle.round_trip.specs.Words.{Schema}
 use Rattle.soundness.specs.Joined.{Member, IsBarred}
-use Rattle.barred_members.specs.Labels.{label_cmp, label_of}
+use Rattle.joined_groups.specs.Labels.{label_cmp, label_of}
 use Rattle.barred_members.specs.declared.barred.Barred.{Barred}
 
 -- whether a property or a column is known as barred: what it is known by is that of one that tells another entity

@@ -5,10 +5,9 @@ ghost use Rattle.link_places.specs.Between.{schema_of};
 ghost use Rattle.barred_members.specs.Told.{TellsBarred, is_told};
 ghost use Rattle.barred_members.specs.Added.{Adds, Each, IsProp, IsColumn, Constrains, HostsAt, Hosts};
 
-use crate::labels::{Label, column_label, prop_label};
 use edm_types::{Assoc, EntityModel, LinkFragment, Mapping, Pair, StoreModel};
 use emc_base::{ColId, Memory, PropId, TableId};
-use joined_groups::Groups;
+use joined_groups::{Groups, Label, column_label, prop_label};
 use link_places::is_hosted;
 use std::alloc::Global;
 use std::collections::BTreeSet;

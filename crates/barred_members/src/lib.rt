@@ -2,7 +2,6 @@
 #![tactic(auto)]
 
 mod barred;
-mod labels;
 #[cfg(test)]
 mod tests;
 

@@ -366,6 +366,39 @@ fn a_document_without_members_has_empty_lists(rt: HostRuntime) -> Result<(), Fai
     Ok(())
 }
 
+// Whether a value is this whole number.
+fn is_whole(value: &Value, number: i64) -> bool {
+    matches!(value, Value::Whole(found) if *found == number)
+}
+
+#[test]
+fn nodes_are_read(rt: HostRuntime) -> Result<(), Fail> {
+    let alloc = rt.alloc();
+    let model = model(alloc)?;
+    let names = ModelNames::of(alloc, &model)?;
+    let at = Txt::of(alloc, "/Inserts/0")?;
+    let doc = document(
+        &rt,
+        alloc,
+        "{\"$type\":\"Shop.Person\",\"Boss\":null,\"Id\":7}",
+    );
+    let entity = entity_of_node(alloc, &names, doc.root(), &at)
+        .ok()
+        .expect(&rt, "no entity");
+    assert_eq!(rt; entity.ty.index, 2);
+    assert!(rt; matches!(entity.values.as_slice(), [id, Value::Null] if is_whole(id, 7)));
+    let doc = document(&rt, alloc, "[\"c\",5]");
+    let key = key_of_node(alloc, &names, TypeId { index: 0 }, doc.root(), &at);
+    let key = key.ok().expect(&rt, "no key");
+    assert!(rt; matches!(key.as_slice(), [Value::Text(_), number] if is_whole(number, 5)));
+    let doc = document(&rt, alloc, "{\"Goods\":[\"c\",5],\"Owner\":[7]}");
+    let link = link_of_node(alloc, &names, AssocId { index: 1 }, doc.root(), &at);
+    let link = link.ok().expect(&rt, "no link");
+    assert!(rt; matches!(link.first.as_slice(), [owner] if is_whole(owner, 7)));
+    assert!(rt; matches!(link.second.as_slice(), [Value::Text(_), number] if is_whole(number, 5)));
+    Ok(())
+}
+
 #[test]
 fn nodes_are_read_at_their_place(rt: HostRuntime) -> Result<(), Fail> {
     let alloc = rt.alloc();

@@ -1,3 +1,4 @@
 pub mod Groups
+pub mod Labels
 pub mod Places
 pub mod Writes

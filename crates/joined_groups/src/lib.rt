@@ -2,9 +2,11 @@
 #![tactic(auto)]
 
 mod groups;
+mod labels;
 mod links;
 mod places;
 #[cfg(test)]
 mod tests;
 
 pub use groups::Groups;
+pub use labels::{Label, column_label, prop_label};

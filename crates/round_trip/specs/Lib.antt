@@ -5,6 +5,7 @@ pub mod LegalTables
 pub mod TableBreaches
 pub mod Demand
 pub mod TablesAre
+pub mod FreeColumns
 pub mod Satisfies
 pub mod FailsAt
 pub mod RoundTrips

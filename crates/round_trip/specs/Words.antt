@@ -6,6 +6,7 @@ pub use Rattle.round_trip.specs.LegalTables.{HasAllowedNullCells, HasCellsInDoma
 pub use Rattle.round_trip.specs.Breaches.{IsFirstBreach, IsBreachOf}
 pub use Rattle.round_trip.specs.Demand.{Writing, entity_cells, end_cells, link_cells, EntityWrites, LinkWrites, Writes, written_to, key_columns, written_key, Fills, WritesRow, DemandsRow, DemandsCell}
 pub use Rattle.round_trip.specs.TablesAre.{HasNoClash, HasDemandedCells, AreDemandedRows, TablesAre}
+pub use Rattle.round_trip.specs.FreeColumns.{IsWritten, IsNamedBy, IsFree, IsErasedRow, AreErased, IsKeptRow, KeepsFree, AreKept}
 pub use Rattle.round_trip.specs.Satisfies.{IsWrittenTuple, IsShownTuple, IsWrittenLinkTuple, IsShownLinkTuple, AreSameTuples, Satisfies}
 pub use Rattle.round_trip.specs.FailsAt.{kind_number, FailsBy, FailsAt}
 pub use Rattle.round_trip.specs.RoundTrips.{RoundTrips, HasGoodTables, KeepsEveryState, Keeps}

@@ -185,7 +185,7 @@ impl LocalRows for NoRows {
 
     ghost rows = { λ local set entity links. [] };
 
-    ghost joined_row = { λ local assoc link. None };
+    ghost joined_row = { λ local assoc. None };
 
     fn local<L: Ledger>(
         &self,

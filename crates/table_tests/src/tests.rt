@@ -1,3 +1,4 @@
+ghost use Rattle.std.specs.Prelude.{◌↔◌, All, Contains, IsTrue};
 ghost use Rattle.round_trip.specs.Words.{AreTables};
 
 use edm_types::{Breach, Column, ForeignKey, StoreModel, Table};
@@ -7,7 +8,7 @@ use std::alloc::Global;
 use std::process::Abort;
 use std::test::Fail;
 use table_documents::tables_of_doc;
-use table_files::Tables;
+use table_files::{KeyOrder, Tables};
 use table_legality::{first_breach, is_legal};
 
 fn ids(alloc: Global, indices: &[u32]) -> Result<Seq<ColId>, Memory> {
@@ -209,5 +210,64 @@ fn a_row_is_found_by_its_key(rt: HostRuntime) -> Result<(), Fail> {
     let found = tables.row(&store, people, &numbers(alloc, &[2])?);
     assert!(rt; found.is_some_and(|row| matches!(row.cells.as_slice(), [_, Value::Whole(1)])));
     assert!(rt; tables.row(&store, people, &numbers(alloc, &[3])?).is_none());
+    Ok(())
+}
+
+// Whether each of these columns is among others.
+fn are_among(cols: &[ColId], order: &[ColId]) -> bool
+    ensures { IsTrue result ↔ All (Contains order.now) cols.now }
+{
+    cols.iter().all(|col| order.contains(col))
+}
+
+// The cells of a table's rows, in the order of some columns, where the tables are legal and each column of the key is among these.
+fn ordered(
+    alloc: Global,
+    store: &StoreModel,
+    tables: &Tables,
+    table: TableId,
+    order: &Seq<ColId>,
+) -> Result<Option<Seq<Value>>, Memory>
+    requires { AreTables store.now tables.now }
+{
+    let Some(declared) = store.tables.get(table.index as usize) else {
+        return Ok(None);
+    };
+    if !are_among(declared.key.as_slice(), order.as_slice())
+        || !is_legal(tables.as_slice(), store)
+    {
+        return Ok(None);
+    }
+    let lent = KeyOrder::of(alloc, store, tables, table, order)?;
+    let cells = cells_of(alloc, &lent)?;
+    Ok(Some(cells))
+}
+
+// The cells of lent rows, one after another.
+fn cells_of(alloc: Global, lent: &KeyOrder<'_>) -> Result<Seq<Value>, Memory> {
+    let mut cells = Seq::empty(alloc);
+    for at in 0..lent.len() {
+        for cell in lent.row(at).cells.as_slice() {
+            cells.push(cell.copy(alloc)?)?;
+        }
+    }
+    Ok(cells)
+}
+
+#[test]
+fn rows_are_lent_in_the_order_of_some_columns(rt: HostRuntime) -> Result<(), Fail> {
+    let alloc = rt.alloc();
+    let store = store(alloc)?;
+    let bytes = Bin::of(alloc, LINES.as_bytes())?;
+    let doc = Doc::of_bytes(alloc, &bytes).expect(&rt, "no document");
+    let Ok(tables) = tables_of_doc(alloc, &doc, &store) else {
+        return Err(Fail::from("not read"));
+    };
+    let lines = TableId { index: 1 };
+    let lent = ordered(alloc, &store, &tables, lines, &ids(alloc, &[1, 0])?)?;
+    let wanted = numbers(alloc, &[1, 1, 2, 1, 1, 2])?;
+    assert!(rt; lent.is_some_and(|lent| lent.as_slice() == wanted.as_slice()));
+    let lent = ordered(alloc, &store, &tables, lines, &ids(alloc, &[0])?)?;
+    assert!(rt; lent.is_none());
     Ok(())
 }

@@ -27,3 +27,4 @@ mod JoinedBosses
 mod Owners
 mod TypeLost
 mod Seats
+pub mod Notes

@@ -10,6 +10,7 @@ pub mod Bosses
 pub mod TwoBosses
 pub mod OneBoss
 pub mod NoBoss
+pub mod Notes
 pub mod NeededBoss
 pub mod LinkHidden
 pub mod JoinedBosses

@@ -26,6 +26,14 @@ ghost use Rattle.worked_examples.specs.NoBoss.{
   NoBossIsDemanded,
   OnlyBosslessIsShown,
 };
+ghost use Rattle.worked_examples.specs.Notes.{
+  AskedColumnIsNot,
+  NoteIsErased,
+  NoteIsFree,
+  NoteIsKept,
+  UnwrittenTableHasNone,
+  WrittenColumnsAreNot,
+};
 ghost use Rattle.worked_examples.specs.OneBoss.{
   CrewIsLegal,
   CrewIsStored,
@@ -172,4 +180,15 @@ pub fn stores_seats()
     ensures demanded { SeatsAreStored }
     ensures legal_tables { SeatRowsAreLegal }
     ensures satisfied { SeatRowsSatisfy }
+{}
+
+/// A column that the mapping doesn't name is free, where its table is written: it is erased for a comparison with a state's tables, and an
+/// update keeps what it holds.
+pub fn keeps_a_note()
+    ensures free { NoteIsFree }
+    ensures written { WrittenColumnsAreNot }
+    ensures asked { AskedColumnIsNot }
+    ensures unwritten { UnwrittenTableHasNone }
+    ensures erased { NoteIsErased }
+    ensures kept { NoteIsKept }
 {}

@@ -4,9 +4,9 @@ use Rattle.std.proofs.lemmas.Option.{slice_get-get_or}
 use Rattle.round_trip.specs.Words.{PropId}
 use Rattle.soundness.specs.Joined.{prop}
 use Rattle.barred_members.specs.Added.{IsProp}
-use Rattle.barred_members.specs.Labels.{label_cmp}
+use Rattle.joined_groups.specs.Labels.{label_cmp}
 use Rattle.barred_members.specs.declared.barred.Barred.{Barred}
-use Rattle.barred_members.specs.declared.labels.Label.{Label}
+use Rattle.joined_groups.specs.declared.labels.Label.{Label}
 use Rattle.barred_members.proofs.Adding.{adds_next, adds_one}
 use Rattle.barred_members.proofs.barred.Barred.add_props.Goals as goal
 

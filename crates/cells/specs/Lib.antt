@@ -1,0 +1,4 @@
+pub mod Cells
+pub mod Limits
+pub mod Parts
+pub mod HostedLinks

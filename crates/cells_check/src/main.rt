@@ -1,0 +1,65 @@
+//! Makes the cells of three documents, for measurements and tests: `CSDL SSDL MSL` prints `cells`, and each further word makes them once more.
+#![tactic(auto)]
+
+ghost use Rattle.link_places.specs.Between.{schema_of};
+ghost use Rattle.soundness.specs.Mappings.{IsSoundSchema};
+
+mod schema;
+#[cfg(test)]
+mod tests;
+
+use cells::Cells;
+use emc_base::{Bin, Txt};
+use emc_files::{DiskFiles, Files, OutSink, Sink};
+use json_form::Doc;
+pub use schema::{Documents, Meant, read};
+use std::alloc::Global;
+use std::env;
+use std::process::ExitCode;
+use std::rt::HostRuntime;
+
+/// The largest document, in bytes.
+const LARGEST_FILE: u64 = 1_073_741_824;
+
+fn main(rt: HostRuntime) -> ExitCode {
+    match said(&rt) {
+        Some(()) => ExitCode::SUCCESS,
+        None => ExitCode::FAILURE,
+    }
+}
+
+// Makes the cells of the documents that the words name; `None` where there are no such words or files, or they break a rule, or memory ran
+// out.
+fn said(rt: &HostRuntime) -> Option<()> {
+    let alloc = rt.alloc();
+    let mut words = env::args(rt).ok()?.skip(1);
+    let mut files = DiskFiles::new(rt.clone().ok()?);
+    let documents = Documents {
+        csdl: document(alloc, &mut files, words.next()?)?,
+        ssdl: document(alloc, &mut files, words.next()?)?,
+        msl: document(alloc, &mut files, words.next()?)?,
+    };
+    let meant = read(alloc, &documents).ok()?;
+    make_cells(alloc, &meant, words.count())?;
+    let mut out = OutSink::new(rt.clone().ok()?);
+    out.put("cells\n".as_bytes()).ok()
+}
+
+// Makes the cells of what three documents mean, so many times more than once; `None` where memory ran out.
+fn make_cells(alloc: Global, meant: &Meant, more: usize) -> Option<()>
+    requires { IsSoundSchema (schema_of meant.now.model meant.now.store meant.now.mapping) }
+{
+    Cells::of(alloc, &meant.model, &meant.store, &meant.mapping).ok()?;
+    for _ in 0..more {
+        Cells::of(alloc, &meant.model, &meant.store, &meant.mapping).ok()?;
+    }
+    Some(())
+}
+
+// The document in a file.
+fn document<F: Files>(alloc: Global, files: &mut F, name: String) -> Option<Doc> {
+    let bytes: Bin = files
+        .read(alloc, &Txt::from_string(name), LARGEST_FILE)
+        .ok()?;
+    Doc::of_bytes(alloc, &bytes).ok()
+}

@@ -1,0 +1,21 @@
+use Rattle.std.proofs.Common.{ℕ, ◌+◌, List, sym, subst}
+use Rattle.round_trip.specs.Words.{GroupId}
+use Rattle.soundness.specs.Joined.{prop}
+use Rattle.joined_groups.specs.declared.labels.Label.{Label}
+use Rattle.joined_groups.specs.Labels.{label_of}
+use Rattle.group_numbers.specs.Numbers.{AreNumbered, Grows, Notes}
+use Rattle.group_numbers.proofs.Labels.{numbered_more}
+use Rattle.group_numbers.proofs.numbers.prop_numbers.Goals as goal
+
+pub loop-place-preserved : goal.loop-place-preserved
+loop-place-preserved c =
+    let n = c.loop-place.place in
+    let label_at : ℕ → Label = λ i. label_of c.args.groups.now (prop (record { index = i })) in
+    let first = c.args.labels.now.keys in
+    let before = c.loop-place.labels.keys in
+    let after = c.noted.new.labels.keys in
+    let group = c.in_ok-noted.field-0 in
+    let Noted : Label → Type 0 = λ label. Notes before after label group in
+    let Numbered : List GroupId → Type 0 = λ numbers. Grows first after × AreNumbered after label_at (n + 1) numbers in
+    subst Numbered (sym c.in_ok-push.ensures.ok)
+    (numbered_more label_at n c.loop-place.numbers first before after group c.loop-place.invariant (subst Noted c.prop_label.ensures c.in_ok-noted.ensures))

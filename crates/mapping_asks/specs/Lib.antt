@@ -1,0 +1,4 @@
+pub mod Adding
+pub mod Asks
+pub mod Several
+pub mod Writes

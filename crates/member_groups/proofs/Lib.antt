@@ -1,0 +1,5 @@
+pub mod Asked
+pub mod Marks
+pub mod Numbering
+pub mod Sharing
+pub mod Telling

@@ -1,0 +1,11 @@
+pub mod Deriving
+pub mod Keys
+pub mod Fitting
+pub mod Holding
+pub mod Pairing
+pub mod Owned
+pub mod Local
+pub mod ReadBack
+pub mod Tuples
+pub mod Kept
+pub mod OneOwner

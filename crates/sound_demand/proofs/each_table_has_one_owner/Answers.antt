@@ -1,0 +1,15 @@
+use Rattle.sound_demand.proofs.OneOwner.{one_joined, one_owner, owned_or_joined}
+use Rattle.sound_demand.proofs.Owned.{has_owner}
+use Rattle.sound_demand.proofs.each_table_has_one_owner.Goals as goal
+
+pub returns-clause-owner : goal.returns-clause-owner
+returns-clause-owner c = has_owner
+
+pub returns-clause-one : goal.returns-clause-one
+returns-clause-one c = one_owner
+
+pub returns-clause-alone : goal.returns-clause-alone
+returns-clause-alone c = owned_or_joined
+
+pub returns-clause-joined : goal.returns-clause-joined
+returns-clause-joined c = one_joined

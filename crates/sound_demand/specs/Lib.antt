@@ -1,0 +1,4 @@
+pub mod Deriving
+pub mod Made
+pub mod Local
+pub mod ReadBack

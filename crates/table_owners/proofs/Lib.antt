@@ -1,0 +1,11 @@
+pub mod Begun
+pub mod Cleared
+pub mod Found
+pub mod Free
+pub mod Items
+pub mod OneEnd
+pub mod Owning
+pub mod Pairing
+pub mod Placing
+pub mod PutItems
+pub mod Sourcing
