@@ -1,2 +1,4 @@
+pub mod Hosting
 pub mod Lists
+pub mod Covering
 pub mod Few

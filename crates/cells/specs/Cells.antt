@@ -1,17 +1,14 @@
 -- What the cells of a mapping tell: whom tables belong to, how keys are paired, where links stand, which columns are free, and the groups of
 -- properties and columns.
 -- Source: the profile of this project, over MSL version 3.
-use Rattle.std.specs.Prelude.{◌≡◌, length, slice_get, Bool, false, IsSome, option_and_then}
+use Rattle.std.specs.Prelude.{slice_get, Bool, false, option_and_then}
 use Rattle.std.specs.Option.{unwrap_or}
-use Rattle.round_trip.specs.Words.{TableId, ColId, EntityModel, StoreModel, Schema}
-use Rattle.soundness.specs.Joined.{col}
-use Rattle.soundness.specs.Models.{IsSoundModel}
-use Rattle.soundness.specs.Stores.{IsSoundStore, IsColId}
+use Rattle.round_trip.specs.Words.{TableId, ColId, Schema}
 use Rattle.table_owners.specs.Owners.{TellOwners}
 use Rattle.table_owners.specs.Pairings.{TellPairings}
 use Rattle.table_owners.specs.Places.{TellPlaces}
 use Rattle.table_owners.specs.FreeColumns.{TellFree}
-use Rattle.member_groups.specs.MemberGroups.{TellsMemberGroups, group_in}
+use Rattle.member_groups.specs.MemberGroups.{TellsMemberGroups}
 use Rattle.cells.specs.declared.cells.Cells.{Cells}
 
 -- the cells tell just what the definitions give for these three
@@ -25,15 +22,3 @@ pub record TellsCells (schema : Schema) (cells : Cells) : Type 0 where
 -- whether a column is told as free
 abbrev pub is_free_in : Cells → TableId → ColId → Bool
 is_free_in cells t c = unwrap_or (option_and_then (λ columns. slice_get columns c.index) (slice_get cells.free t.index)) false
-
--- the condition of a call that takes cells without their mapping: the model is sound, and something is told of each of its association sets
-pub record CoverModel (model : EntityModel) (cells : Cells) : Type 0 where
-  pub sound : IsSoundModel model
-  pub places : length cells.places ≡ length model.assocs
-
--- and where it takes a store, this is sound, and something is told of each of its tables and columns
-pub record CoverStore (store : StoreModel) (cells : Cells) : Type 0 where
-  pub sound : IsSoundStore store
-  pub owners : length cells.owners ≡ length store.tables
-  pub pairings : length cells.pairings ≡ length store.tables
-  pub groups : (t : TableId) (c : ColId) → IsColId store t c → IsSome (group_in cells.groups (col t c))

@@ -1,15 +1,29 @@
 -- The links that an entity hosts, by where cells tell that links stand.
 -- Source: the profile's choice of how MSL version 3, AssociationSetMapping, may map an association.
-use Rattle.std.specs.Prelude.{◌==◌, ℕ, List, [], map, filter, slice_get, Bool, if◌then◌else◌}
+use Rattle.std.specs.Prelude.{◌≡◌, ◌⊎◌, ◌==◌, ℕ, List, Contains, [], map, filter, slice_get, Bool, if◌then◌else◌}
 use Rattle.std.specs.List.{enumerate_from, flat_map}
 use Rattle.std.specs.Option.{unwrap_or}
 use Rattle.std.specs.Cmp.Lexicographic.{slice_cmp}
 use Rattle.std.specs.Ordering.{eq_by_cmp}
 use Rattle.emc_base.specs.Order.{value_cmp}
-use Rattle.round_trip.specs.Words.{SetId, AssocId, Value, EntityModel, Assoc, Link, Hosted, State, links_in}
+use Rattle.round_trip.specs.Words.{SetId, AssocId, Value, EntityModel, Assoc, Link, LinkFragment, Hosted, Schema, State, At, links_in}
+use Rattle.round_trip.specs.FailsAt.{IsHostedAt}
 use Rattle.table_owners.specs.declared.places.LinkPlace.{LinkPlace}
 use Rattle.table_owners.specs.declared.places.LinkPlace.TheVariants as place
 use Rattle.cells.specs.declared.cells.Cells.{Cells}
+
+-- a link that the entity of this key in the set hosts, as this entity sees it: a fragment maps its association, and writes the key of the entity's
+-- end to a whole primary key
+pub record IsHostedLink (schema : Schema) (state : State) (set : SetId) (key : List Value) (hosted : Hosted) : Type 0 where
+  pub fragment : LinkFragment
+  pub assoc : Assoc
+  pub link : Link
+  pub is_fragment : Contains schema.mapping.links fragment
+  pub is_assoc : At schema.model.assocs fragment.assoc.index assoc
+  pub stands : Contains (links_in state fragment.assoc) link
+  pub of_assoc : hosted.assoc ≡ fragment.assoc
+  pub end : (IsHostedAt schema fragment.table fragment.first × (assoc.first.set ≡ set) × (link.first ≡ key) × (link.second ≡ hosted.partner))
+      ⊎ (IsHostedAt schema fragment.table fragment.second × (assoc.second.set ≡ set) × (link.second ≡ key) × (link.first ≡ hosted.partner))
 
 -- the set of the end that hosts
 abbrev pub host_set : Bool → Assoc → SetId

@@ -1,7 +1,13 @@
--- The condition of each call that takes a model, a store, a mapping and its cells together.
+-- The condition of each call that takes a model, a store, a mapping and its cells together, and that of calls that take cells without the mapping.
 -- Source: the profile of this project, over CSDL, SSDL and MSL version 3.
-use Rattle.round_trip.specs.Words.{Schema}
+use Rattle.std.specs.Prelude.{◌≡◌, ◌≤◌, length, Some, IsSome}
+use Rattle.round_trip.specs.Words.{TableId, ColId, GroupId, EntityModel, StoreModel, Schema}
+use Rattle.soundness.specs.Joined.{col}
 use Rattle.soundness.specs.Mappings.{IsSoundSchema}
+use Rattle.soundness.specs.Models.{IsSoundModel}
+use Rattle.soundness.specs.Stores.{IsSoundStore, IsColId}
+use Rattle.member_groups.specs.MemberGroups.{constants_in, group_in}
+use Rattle.cells.specs.declared.cells.Cells.{Cells}
 use Rattle.cells.specs.declared.parts.Parts.{Parts}
 use Rattle.cells.specs.Cells.{TellsCells}
 use Rattle.cells.specs.Limits.{IsWithinLimits}
@@ -15,3 +21,17 @@ pub record AreParts (parts : Parts) : Type 0 where
   pub sound : IsSoundSchema (schema_in parts)
   pub limits : IsWithinLimits (schema_in parts)
   pub cells : TellsCells (schema_in parts) parts.cells.now
+
+-- the condition of a call that takes cells without their mapping: the model is sound, and something is told of each of its association sets
+pub record CoverModel (model : EntityModel) (cells : Cells) : Type 0 where
+  pub sound : IsSoundModel model
+  pub places : length model.assocs ≤ length cells.places
+
+-- and where it takes a store, this is sound, and something is told of each of its tables and columns
+pub record CoverStore (store : StoreModel) (cells : Cells) : Type 0 where
+  pub sound : IsSoundStore store
+  pub owners : length store.tables ≤ length cells.owners
+  pub pairings : length store.tables ≤ length cells.pairings
+  pub groups : (t : TableId) (c : ColId) → IsColId store t c → IsSome (group_in cells.groups (col t c))
+  pub constants : (t : TableId) (c : ColId) → IsColId store t c → (group : GroupId) → group_in cells.groups (col t c) ≡ Some group
+      → IsSome (constants_in cells.groups group)

@@ -1,5 +1,5 @@
 ghost use Rattle.std.specs.Prelude.{◌≡◌, ◌<◌, ◌++◌, ◌↔◌, IfOk, IsTrue, length};
-ghost use Rattle.cells.specs.Cells.{CoverModel};
+ghost use Rattle.cells.specs.Parts.{CoverModel};
 ghost use Rattle.cells.specs.HostedLinks.{host_key, host_set, hosted_at, hosted_links, of_key, partner_key};
 
 use crate::cells::Cells;

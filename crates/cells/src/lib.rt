@@ -3,11 +3,13 @@
 
 mod cells;
 mod hosted;
+mod laws;
 mod limits;
 mod parts;
 
 pub use cells::Cells;
 pub use hosted::hosted_links;
+pub use laws::{hosted_links_are_those_of_the_mapping, parts_cover_their_model_and_store};
 pub use limits::is_within_limits;
 pub use parts::Parts;
 pub use table_owners::LinkPlace;

@@ -4,22 +4,16 @@
 ghost use Rattle.link_places.specs.Between.{schema_of};
 ghost use Rattle.soundness.specs.Mappings.{IsSoundSchema};
 
-mod schema;
 #[cfg(test)]
 mod tests;
 
 use cells::Cells;
-use emc_base::{Bin, Txt};
-use emc_files::{DiskFiles, Files, OutSink, Sink};
-use json_form::Doc;
-pub use schema::{Documents, Meant, read};
+use emc_files::{DiskFiles, OutSink, Sink};
+use schema_reader::{Meant, read_files};
 use std::alloc::Global;
 use std::env;
 use std::process::ExitCode;
 use std::rt::HostRuntime;
-
-/// The largest document, in bytes.
-const LARGEST_FILE: u64 = 1_073_741_824;
 
 fn main(rt: HostRuntime) -> ExitCode {
     match said(&rt) {
@@ -33,13 +27,9 @@ fn main(rt: HostRuntime) -> ExitCode {
 fn said(rt: &HostRuntime) -> Option<()> {
     let alloc = rt.alloc();
     let mut words = env::args(rt).ok()?.skip(1);
+    let names = [words.next()?, words.next()?, words.next()?];
     let mut files = DiskFiles::new(rt.clone().ok()?);
-    let documents = Documents {
-        csdl: document(alloc, &mut files, words.next()?)?,
-        ssdl: document(alloc, &mut files, words.next()?)?,
-        msl: document(alloc, &mut files, words.next()?)?,
-    };
-    let meant = read(alloc, &documents).ok()?;
+    let meant = read_files(alloc, &mut files, names)?;
     make_cells(alloc, &meant, words.count())?;
     let mut out = OutSink::new(rt.clone().ok()?);
     out.put("cells\n".as_bytes()).ok()
@@ -54,12 +44,4 @@ fn make_cells(alloc: Global, meant: &Meant, more: usize) -> Option<()>
         Cells::of(alloc, &meant.model, &meant.store, &meant.mapping).ok()?;
     }
     Some(())
-}
-
-// The document in a file.
-fn document<F: Files>(alloc: Global, files: &mut F, name: String) -> Option<Doc> {
-    let bytes: Bin = files
-        .read(alloc, &Txt::from_string(name), LARGEST_FILE)
-        .ok()?;
-    Doc::of_bytes(alloc, &bytes).ok()
 }

@@ -2,60 +2,30 @@ ghost use Rattle.std.specs.Prelude.{◌<◌, length};
 ghost use Rattle.cells.specs.Cells.{TellsCells};
 ghost use Rattle.cells.specs.Parts.{schema_in};
 
-use crate::{Documents, Meant, read};
-use cells::{Cells, Parts, hosted_links};
-use emc_base::{Bin, ColId, GroupId, Memory, PropId, Seq, SetId, TableId, Value};
+use cells::{Cells, LinkPlace, Owner, Parts, hosted_links, is_within_limits};
+use emc_base::{AssocId, ColId, GroupId, Key, Memory, PropId, Seq, SetId, TableId, Value};
 use entity_documents::state_of_doc;
-use json_form::Doc;
+use schema_reader::{
+    BOSS, CAMP, COLORS, CREW, KIND, PETS, RED, SHARED, SUMMER, document, read_texts,
+};
 use std::alloc::Global;
-use std::process::Abort;
 use std::test::Fail;
 
-// Persons and employees in one table, told apart by a column of kinds.
-const KIND: [&str; 3] = [
-    r#"{"Namespace":"N","EntityContainer":{"Name":"C","EntitySet":[{"Name":"People","EntityType":"N.Person"}]},"EntityType":[{"Name":"Person","Key":["Id"],"Property":[{"Name":"Id","Type":"Int32","Nullable":false},{"Name":"Name","Type":"String","MaxLength":20}]},{"Name":"Employee","BaseType":"N.Person","Property":[]}]}"#,
-    r#"{"Namespace":"S","EntityContainer":{"Name":"D","EntitySet":[{"Name":"People","EntityType":"S.People"}]},"EntityType":[{"Name":"People","Key":["Id"],"Property":[{"Name":"Id","Type":"int","Nullable":false},{"Name":"Name","Type":"nvarchar","MaxLength":20},{"Name":"Kind","Type":"nvarchar","Nullable":false,"MaxLength":1}]}]}"#,
-    r#"{"EntityContainerMapping":{"StorageEntityContainer":"D","CdmEntityContainer":"C","EntitySetMapping":[{"Name":"People","EntityTypeMapping":[{"TypeName":"N.Person","MappingFragment":[{"StoreEntitySet":"People","ScalarProperty":[{"Name":"Id","ColumnName":"Id"},{"Name":"Name","ColumnName":"Name"}],"Condition":[{"ColumnName":"Kind","Value":"P"}]}]},{"TypeName":"N.Employee","MappingFragment":[{"StoreEntitySet":"People","ScalarProperty":[{"Name":"Id","ColumnName":"Id"},{"Name":"Name","ColumnName":"Name"}],"Condition":[{"ColumnName":"Kind","Value":"E"}]}]}]}]}}"#,
-];
-
-// Cats and dogs in one table, whose own properties share a column.
-const PETS: [&str; 3] = [
-    r#"{"Namespace":"N","EntityContainer":{"Name":"C","EntitySet":[{"Name":"Pets","EntityType":"N.Pet"}]},"EntityType":[{"Name":"Pet","Abstract":true,"Key":["Id"],"Property":[{"Name":"Id","Type":"Int32","Nullable":false}]},{"Name":"Cat","BaseType":"N.Pet","Property":[{"Name":"Lives","Type":"Int32"}]},{"Name":"Dog","BaseType":"N.Pet","Property":[{"Name":"Tricks","Type":"Int32"}]}]}"#,
-    r#"{"Namespace":"S","EntityContainer":{"Name":"D","EntitySet":[{"Name":"Pets","EntityType":"S.Pets"}]},"EntityType":[{"Name":"Pets","Key":["Id"],"Property":[{"Name":"Id","Type":"int","Nullable":false},{"Name":"Kind","Type":"nvarchar","Nullable":false,"MaxLength":1},{"Name":"N","Type":"int"}]}]}"#,
-    r#"{"EntityContainerMapping":{"StorageEntityContainer":"D","CdmEntityContainer":"C","EntitySetMapping":[{"Name":"Pets","EntityTypeMapping":[{"TypeName":"N.Cat","MappingFragment":[{"StoreEntitySet":"Pets","ScalarProperty":[{"Name":"Id","ColumnName":"Id"},{"Name":"Lives","ColumnName":"N"}],"Condition":[{"ColumnName":"Kind","Value":"C"}]}]},{"TypeName":"N.Dog","MappingFragment":[{"StoreEntitySet":"Pets","ScalarProperty":[{"Name":"Id","ColumnName":"Id"},{"Name":"Tricks","ColumnName":"N"}],"Condition":[{"ColumnName":"Kind","Value":"D"}]}]}]}]}}"#,
-];
-
-// People, whose boss stands in a column of their rows.
-const BOSS: [&str; 3] = [
-    r#"{"Namespace":"N","EntityContainer":{"Name":"C","EntitySet":[{"Name":"People","EntityType":"N.Person"}],"AssociationSet":[{"Name":"Boss","Association":"N.Boss","End":[{"Role":"Staff","EntitySet":"People"},{"Role":"Manager","EntitySet":"People"}]}]},"EntityType":[{"Name":"Person","Key":["Id"],"Property":[{"Name":"Id","Type":"Int32","Nullable":false},{"Name":"Name","Type":"String","MaxLength":20}]}],"Association":[{"Name":"Boss","End":[{"Role":"Staff","Type":"N.Person","Multiplicity":"*"},{"Role":"Manager","Type":"N.Person","Multiplicity":"0..1"}]}]}"#,
-    r#"{"Namespace":"S","EntityContainer":{"Name":"D","EntitySet":[{"Name":"People","EntityType":"S.People"}]},"EntityType":[{"Name":"People","Key":["Id"],"Property":[{"Name":"Id","Type":"int","Nullable":false},{"Name":"Name","Type":"nvarchar","MaxLength":20},{"Name":"BossId","Type":"int"}]}],"Association":[{"Name":"FK_Boss","End":[{"Role":"Principal","Type":"S.People","Multiplicity":"0..1"},{"Role":"Dependent","Type":"S.People","Multiplicity":"*"}],"ReferentialConstraint":{"Principal":{"Role":"Principal","PropertyRef":["Id"]},"Dependent":{"Role":"Dependent","PropertyRef":["BossId"]}}}]}"#,
-    r#"{"EntityContainerMapping":{"StorageEntityContainer":"D","CdmEntityContainer":"C","EntitySetMapping":[{"Name":"People","EntityTypeMapping":[{"TypeName":"N.Person","MappingFragment":[{"StoreEntitySet":"People","ScalarProperty":[{"Name":"Id","ColumnName":"Id"},{"Name":"Name","ColumnName":"Name"}]}]}]}],"AssociationSetMapping":[{"Name":"Boss","TypeName":"N.Boss","StoreEntitySet":"People","EndProperty":[{"Name":"Staff","ScalarProperty":[{"Name":"Id","ColumnName":"Id"}]},{"Name":"Manager","ScalarProperty":[{"Name":"Id","ColumnName":"BossId"}]}]}]}}"#,
-];
-
-// Items in three tables, by their colors.
-const COLORS: [&str; 3] = [
-    r#"{"Namespace":"N","EntityContainer":{"Name":"C","EntitySet":[{"Name":"Items","EntityType":"N.Item"}]},"EntityType":[{"Name":"Item","Key":["Id"],"Property":[{"Name":"Id","Type":"Int32","Nullable":false},{"Name":"Color","Type":"N.Color","Nullable":false}]}],"EnumType":[{"Name":"Color","Member":[{"Name":"Red"},{"Name":"Green"},{"Name":"Blue"}]}]}"#,
-    r#"{"Namespace":"S","EntityContainer":{"Name":"D","EntitySet":[{"Name":"RedItems","EntityType":"S.RedItems"},{"Name":"GreenItems","EntityType":"S.GreenItems"},{"Name":"BlueItems","EntityType":"S.BlueItems"}]},"EntityType":[{"Name":"RedItems","Key":["Id"],"Property":[{"Name":"Id","Type":"int","Nullable":false}]},{"Name":"GreenItems","Key":["Id"],"Property":[{"Name":"Id","Type":"int","Nullable":false}]},{"Name":"BlueItems","Key":["Id"],"Property":[{"Name":"Id","Type":"int","Nullable":false}]}]}"#,
-    r#"{"EntityContainerMapping":{"StorageEntityContainer":"D","CdmEntityContainer":"C","EntitySetMapping":[{"Name":"Items","EntityTypeMapping":[{"TypeName":"N.Item","MappingFragment":[{"StoreEntitySet":"RedItems","ScalarProperty":[{"Name":"Id","ColumnName":"Id"}],"Condition":[{"Name":"Color","Value":"0"}]},{"StoreEntitySet":"GreenItems","ScalarProperty":[{"Name":"Id","ColumnName":"Id"}],"Condition":[{"Name":"Color","Value":"1"}]},{"StoreEntitySet":"BlueItems","ScalarProperty":[{"Name":"Id","ColumnName":"Id"}],"Condition":[{"Name":"Color","Value":"2"}]}]}]}]}}"#,
-];
-
-// Items of one color, which isn't mapped.
-const RED: [&str; 3] = [
-    r#"{"Namespace":"N","EntityContainer":{"Name":"C","EntitySet":[{"Name":"Items","EntityType":"N.Item"}]},"EntityType":[{"Name":"Item","Key":["Id"],"Property":[{"Name":"Id","Type":"Int32","Nullable":false},{"Name":"Color","Type":"N.Color","Nullable":false}]}],"EnumType":[{"Name":"Color","Member":[{"Name":"Red"}]}]}"#,
-    r#"{"Namespace":"S","EntityContainer":{"Name":"D","EntitySet":[{"Name":"Items","EntityType":"S.Items"}]},"EntityType":[{"Name":"Items","Key":["Id"],"Property":[{"Name":"Id","Type":"int","Nullable":false}]}]}"#,
-    r#"{"EntityContainerMapping":{"StorageEntityContainer":"D","CdmEntityContainer":"C","EntitySetMapping":[{"Name":"Items","EntityTypeMapping":[{"TypeName":"N.Item","MappingFragment":[{"StoreEntitySet":"Items","ScalarProperty":[{"Name":"Id","ColumnName":"Id"}]}]}]}]}}"#,
-];
-
-// Paints and tools, a color and a weight in one column, beside a note, and a table that nothing writes.
-const SHARED: [&str; 3] = [
-    r#"{"Namespace":"N","EntityContainer":{"Name":"C","EntitySet":[{"Name":"Items","EntityType":"N.Item"}]},"EnumType":[{"Name":"Color","Member":[{"Name":"Red","Value":4},{"Name":"Blue","Value":1}]}],"EntityType":[{"Name":"Item","Abstract":true,"Key":["Id"],"Property":[{"Name":"Id","Type":"Int32","Nullable":false}]},{"Name":"Paint","BaseType":"N.Item","Property":[{"Name":"Color","Type":"N.Color"}]},{"Name":"Tool","BaseType":"N.Item","Property":[{"Name":"Weight","Type":"Int32"}]}]}"#,
-    r#"{"Namespace":"S","EntityContainer":{"Name":"D","EntitySet":[{"Name":"Items","EntityType":"S.Items"},{"Name":"Others","EntityType":"S.Others"}]},"EntityType":[{"Name":"Items","Key":["Id"],"Property":[{"Name":"Id","Type":"int","Nullable":false},{"Name":"Kind","Type":"int"},{"Name":"N","Type":"int"},{"Name":"Note","Type":"nvarchar"}]},{"Name":"Others","Key":["Id"],"Property":[{"Name":"Id","Type":"int","Nullable":false},{"Name":"Note","Type":"nvarchar"}]}]}"#,
-    r#"{"EntityContainerMapping":{"StorageEntityContainer":"D","CdmEntityContainer":"C","EntitySetMapping":[{"Name":"Items","EntityTypeMapping":[{"TypeName":"N.Paint","MappingFragment":[{"StoreEntitySet":"Items","ScalarProperty":[{"Name":"Id","ColumnName":"Id"},{"Name":"Color","ColumnName":"N"}],"Condition":[{"ColumnName":"Kind","Value":"2"}]}]},{"TypeName":"N.Tool","MappingFragment":[{"StoreEntitySet":"Items","ScalarProperty":[{"Name":"Id","ColumnName":"Id"},{"Name":"Weight","ColumnName":"N"}],"Condition":[{"ColumnName":"Kind","Value":"1"}]}]}]}]}}"#,
-];
-
-fn document(rt: &impl Abort, alloc: Global, text: &str) -> Doc {
-    let bytes = Bin::of(alloc, text.as_bytes()).expect(rt, "memory");
-    Doc::of_bytes(alloc, &bytes).expect(rt, "no document")
+// Values, one after another.
+fn values_text(alloc: Global, values: &[Value]) -> Result<String, Memory> {
+    let mut text = String::new(alloc);
+    for value in values {
+        let shown = match value {
+            Value::Whole(number) => format!(in alloc; " {number}")?,
+            Value::Text(letters) => {
+                let letters = letters.as_str();
+                format!(in alloc; " {letters}")?
+            }
+            _ => format!(in alloc; " other")?,
+        };
+        text.push_str(shown.as_str())?;
+    }
+    Ok(text)
 }
 
 // A group: its number, whether it is tested, and its constants.
@@ -67,19 +37,9 @@ fn group_text(
 ) -> Result<String, Memory> {
     let number = group.index;
     let mark = if is_tested { "?" } else { "" };
-    let mut text = format!(in alloc; "{number}{mark}")?;
-    for constant in constants.as_slice() {
-        let shown = match constant {
-            Value::Whole(number) => format!(in alloc; " {number}")?,
-            Value::Text(letters) => {
-                let letters = letters.as_str();
-                format!(in alloc; " {letters}")?
-            }
-            _ => format!(in alloc; " other")?,
-        };
-        text.push_str(shown.as_str())?;
-    }
-    Ok(text)
+    let shown = values_text(alloc, constants.as_slice())?;
+    let shown = shown.as_str();
+    Ok(format!(in alloc; "{number}{mark}{shown};")?)
 }
 
 // The group of a property.
@@ -105,14 +65,12 @@ fn props_text(alloc: Global, parts: &Parts<'_>) -> Result<String, Memory>
         let property = PropId {
             index: place as u32,
         };
-        let shown = prop_text(alloc, parts, property)?;
-        text.push_str(shown.as_str())?;
-        text.push_str(";")?;
+        text.push_str(prop_text(alloc, parts, property)?.as_str())?;
     }
     Ok(text)
 }
 
-// The group of a column, and whether it is free; nothing where there is no such column.
+// The group of a column, with a star where the column is free; nothing where there is no such column.
 fn column_text(
     alloc: Global,
     parts: &Parts<'_>,
@@ -136,15 +94,15 @@ fn column_text(
     )?;
     let shown = shown.as_str();
     let mark = if parts.cells.is_free(table, column) {
-        " free"
+        "*"
     } else {
         ""
     };
-    Ok(format!(in alloc; "{shown}{mark};")?)
+    Ok(format!(in alloc; "{mark}{shown}")?)
 }
 
 // The groups of the columns of a table.
-fn table_text(alloc: Global, parts: &Parts<'_>, table: TableId) -> Result<String, Memory>
+fn columns_text(alloc: Global, parts: &Parts<'_>, table: TableId) -> Result<String, Memory>
     requires { TellsCells (schema_in parts.now) parts.now.cells.now }
 {
     let mut text = String::new(alloc);
@@ -155,17 +113,96 @@ fn table_text(alloc: Global, parts: &Parts<'_>, table: TableId) -> Result<String
     Ok(text)
 }
 
-fn documents(rt: &impl Abort, alloc: Global, [csdl, ssdl, msl]: [&str; 3]) -> Documents {
-    Documents {
-        csdl: document(rt, alloc, csdl),
-        ssdl: document(rt, alloc, ssdl),
-        msl: document(rt, alloc, msl),
+// Whose a table is, and the properties that are paired with its key.
+fn owner_text(alloc: Global, owner: Option<Owner>, pairing: &[PropId]) -> Result<String, Memory> {
+    let mut text = match owner {
+        Some(Owner::Set(set)) => {
+            let number = set.index;
+            format!(in alloc; "set {number}")?
+        }
+        Some(Owner::Assoc(assoc)) => {
+            let number = assoc.index;
+            format!(in alloc; "links {number}")?
+        }
+        None => format!(in alloc; "none")?,
+    };
+    for property in pairing {
+        let number = property.index;
+        text.push_str(format!(in alloc; " {number}")?.as_str())?;
+    }
+    Ok(text)
+}
+
+// A table: its owner and pairing, and the groups of its columns.
+fn table_text(alloc: Global, parts: &Parts<'_>, table: TableId) -> Result<String, Memory>
+    requires told { TellsCells (schema_in parts.now) parts.now.cells.now }
+    requires within { table.index < length parts.now.store.now.tables }
+{
+    let pairing = parts.cells.pairing(table);
+    let owner = owner_text(alloc, parts.cells.owner(table), pairing.as_slice())?;
+    let owner = owner.as_str();
+    let columns = columns_text(alloc, parts, table)?;
+    let columns = columns.as_str();
+    Ok(format!(in alloc; "{owner}: {columns}/")?)
+}
+
+// All tables.
+fn tables_text(alloc: Global, parts: &Parts<'_>) -> Result<String, Memory>
+    requires { TellsCells (schema_in parts.now) parts.now.cells.now }
+{
+    let mut text = String::new(alloc);
+    for place in 0..parts.store.tables.len() {
+        let table = TableId {
+            index: place as u32,
+        };
+        text.push_str(table_text(alloc, parts, table)?.as_str())?;
+    }
+    Ok(text)
+}
+
+// Where the links of an association set stand.
+fn place_text(alloc: Global, place: LinkPlace) -> Result<String, Memory> {
+    match place {
+        LinkPlace::Hosted {
+            first_hosts: true,
+            fragment,
+        } => {
+            let number = fragment.index;
+            Ok(format!(in alloc; "first {number};")?)
+        }
+        LinkPlace::Hosted {
+            first_hosts: false,
+            fragment,
+        } => {
+            let number = fragment.index;
+            Ok(format!(in alloc; "second {number};")?)
+        }
+        LinkPlace::Joined(fragment) => {
+            let number = fragment.index;
+            Ok(format!(in alloc; "joined {number};")?)
+        }
+        LinkPlace::Unmapped => Ok(format!(in alloc; "unmapped;")?),
+        LinkPlace::Constraint => Ok(format!(in alloc; "constraint;")?),
     }
 }
 
-// What the cells of three documents tell of properties, and of the columns of their first two tables.
-fn told(alloc: Global, documents: &Documents) -> Result<[String; 3], Fail> {
-    let Ok(meant) = read(alloc, documents) else {
+// Where those of all association sets stand.
+fn places_text(alloc: Global, parts: &Parts<'_>) -> Result<String, Memory>
+    requires { TellsCells (schema_in parts.now) parts.now.cells.now }
+{
+    let mut text = String::new(alloc);
+    for place in 0..parts.model.assocs.len() {
+        let assoc = AssocId {
+            index: place as u32,
+        };
+        text.push_str(place_text(alloc, parts.cells.link_place(assoc))?.as_str())?;
+    }
+    Ok(text)
+}
+
+// What the cells of three documents tell of properties, of tables and of links, and whether the limits are kept.
+fn told(alloc: Global, texts: [&str; 3]) -> Result<([String; 3], bool), Fail> {
+    let Some(meant) = read_texts(alloc, texts) else {
         return Err(Fail::from("no schema"));
     };
     let cells = Cells::of(alloc, &meant.model, &meant.store, &meant.mapping)?;
@@ -176,73 +213,101 @@ fn told(alloc: Global, documents: &Documents) -> Result<[String; 3], Fail> {
         cells: &cells,
     };
     let props = props_text(alloc, &parts)?;
-    let first = table_text(alloc, &parts, TableId { index: 0 })?;
-    let second = table_text(alloc, &parts, TableId { index: 1 })?;
-    Ok([props, first, second])
+    let tables = tables_text(alloc, &parts)?;
+    let places = places_text(alloc, &parts)?;
+    Ok(([props, tables, places], is_within_limits(&parts)))
 }
 
 #[test]
-fn groups_are_found(rt: HostRuntime) -> Result<(), Fail> {
+fn cells_are_found(rt: HostRuntime) -> Result<(), Fail> {
     let cases = [
-        (KIND, ["0;1;", "2;1;3? E P;", ""]),
-        (PETS, ["0;1;1;", "2;3? C D;1;", ""]),
-        (BOSS, ["0;1;", "2;1;3?;", ""]),
-        (COLORS, ["0;1? 0 1 2;", "2;", "3;"]),
-        (RED, ["0;1? 0;", "2;", ""]),
+        (KIND, ["0;1;", "set 0 0: 2;1;3? E P;/", ""]),
+        (PETS, ["0;1;1;", "set 0 0: 2;3? C D;1;/", ""]),
+        (BOSS, ["0;1;", "set 0 0: 2;1;3?;/", "first 0;"]),
+        (
+            COLORS,
+            ["0;1? 0 1 2;", "set 0 0: 2;/set 0 0: 3;/set 0 0: 4;/", ""],
+        ),
+        (RED, ["0;1? 0;", "set 0 0: 2;/", ""]),
         (
             SHARED,
-            ["0;1? 1 4;1? 1 4;", "2;3? 1 2;1? 1 4;4 free;", "5;6;"],
+            [
+                "0;1? 1 4;1? 1 4;",
+                "set 0 0: 2;3? 1 2;1? 1 4;*4;/none: 5;6;/",
+                "",
+            ],
+        ),
+        (
+            CAMP,
+            [
+                "0;1;2;3;4;",
+                "set 0 1 0: 5;6;/set 1 2: 7;8?;9?;/set 2 3: 10;4;11?;12?;/links 3: 13;14;/",
+                "second 1;first 2;second 0;joined 3;unmapped;constraint;",
+            ],
         ),
     ];
     for (texts, wanted) in cases {
-        let shown = told(rt.alloc(), &documents(&rt, rt.alloc(), texts))?;
+        let (shown, is_within) = told(rt.alloc(), texts)?;
         for (shown, wanted) in shown.iter().zip(&wanted) {
             assert_eq!(rt; shown.as_str(), *wanted);
         }
+        assert_eq!(rt; is_within, true);
     }
     Ok(())
 }
 
-// Three people, of whom the first is the boss of the others.
-const CREW: &str =
-    r#"{"Boss":[{"Manager":[1],"Staff":[2]},{"Manager":[1],"Staff":[3]}],"People":[{"$type":"N.Person","Id":1,"Name":"a"},{"$type":"N.Person","Id":2,"Name":"b"},{"$type":"N.Person","Id":3,"Name":"c"}]}"#;
-
-// How many links the person of a number hosts, and whether the partner of the first is person 1.
+// The links that the entity of a key in a set hosts, by association set and partner.
 fn hosted(
     alloc: Global,
-    documents: &Documents,
-    crew: &Doc,
-    number: i64,
-) -> Result<(usize, bool), Fail> {
-    let Ok(meant) = read(alloc, documents) else {
+    texts: [&str; 3],
+    state: &str,
+    set: SetId,
+    key: &Key,
+) -> Result<String, Fail> {
+    let Some(meant) = read_texts(alloc, texts) else {
         return Err(Fail::from("no schema"));
     };
+    let Some(state) = document(alloc, state) else {
+        return Err(Fail::from("no document"));
+    };
     let cells = Cells::of(alloc, &meant.model, &meant.store, &meant.mapping)?;
-    let Ok(state) = state_of_doc(alloc, crew, &meant.model) else {
+    let Ok(state) = state_of_doc(alloc, &state, &meant.model) else {
         return Err(Fail::from("no state"));
     };
-    let mut key = Seq::empty(alloc);
-    key.push(Value::Whole(number))?;
-    let people = SetId { index: 0 };
-    let links = hosted_links(alloc, &meant.model, &cells, &state, people, &key)?;
-    let first = links.as_slice().first();
-    let is_boss = first.is_some_and(|link| matches!(link.partner.as_slice(), [Value::Whole(1)]));
-    Ok((links.len(), is_boss))
+    let links = hosted_links(alloc, &meant.model, &cells, &state, set, key)?;
+    let mut text = String::new(alloc);
+    for link in links.as_slice() {
+        let number = link.assoc.index;
+        let partner = values_text(alloc, link.partner.as_slice())?;
+        let partner = partner.as_str();
+        text.push_str(format!(in alloc; "{number}:{partner};")?.as_str())?;
+    }
+    Ok(text)
 }
 
 #[test]
 fn hosted_links_are_found(rt: HostRuntime) -> Result<(), Fail> {
     let alloc = rt.alloc();
-    let documents = documents(&rt, alloc, BOSS);
-    let crew = document(&rt, alloc, CREW);
-    for (number, wanted) in [
-        (1, (0, false)),
-        (2, (1, true)),
-        (3, (1, true)),
-        (4, (0, false)),
+    let boss = (BOSS, CREW);
+    let camp = (CAMP, SUMMER);
+    for (example, set, key, wanted) in [
+        (boss, 0, &[1][..], ""),
+        (boss, 0, &[2], "0: 1;"),
+        (boss, 0, &[3], "0: 1;"),
+        (boss, 0, &[4], ""),
+        (camp, 0, &[3, 4], ""),
+        (camp, 1, &[1], "0: 4 3;"),
+        (camp, 1, &[2], "0: 3 4;"),
+        (camp, 2, &[1], "1: 2;2: 1;"),
+        (camp, 2, &[2], "2: 2;"),
     ] {
-        let found = hosted(alloc, &documents, &crew, number)?;
-        assert_eq!(rt; found, wanted, "at {number}");
+        let mut values = Seq::empty(alloc);
+        for number in key {
+            values.push(Value::Whole(*number))?;
+        }
+        let (texts, state) = example;
+        let found = hosted(alloc, texts, state, SetId { index: set }, &values)?;
+        assert_eq!(rt; found.as_str(), wanted);
     }
     Ok(())
 }

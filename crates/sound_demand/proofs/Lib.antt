@@ -6,6 +6,9 @@ pub mod Pairing
 pub mod Owned
 pub mod Local
 pub mod ReadBack
+pub mod OneRow
+pub mod TupleKeys
 pub mod Tuples
+pub mod Disagreeing
 pub mod Kept
 pub mod OneOwner

@@ -69,7 +69,7 @@ module _ (schema : Schema) (sound : IsSoundSchema schema) (t : TableId) where
         let P : Fragment → Type 0 = λ f. f.table ≡ t → IsOfOwner owner pairing f in
         All-contains P schema.mapping.fragments fragment owned.fragments mapped to
 
-    hosted_at : (fragment : LinkFragment) (assoc : Assoc) → Contains schema.mapping.links fragment → At schema.model.assocs fragment.assoc.index assoc → fragment.table ≡ t
+    pub hosted_at : (fragment : LinkFragment) (assoc : Assoc) → Contains schema.mapping.links fragment → At schema.model.assocs fragment.assoc.index assoc → fragment.table ≡ t
         → IsHosted owner pairing assoc fragment
     hosted_at fragment assoc mapped here to =
         let P : LinkFragment → Type 0 = λ f. f.table ≡ t → (a : Assoc) → At schema.model.assocs f.assoc.index a → IsHosted owner pairing a f in

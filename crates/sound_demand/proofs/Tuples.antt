@@ -9,7 +9,7 @@ use Rattle.state_demand.specs.WellWritten.{cols_of}
 use Rattle.state_demand.specs.Writings.{entity_writing, link_writing}
 use Rattle.state_demand.proofs.ByRows.{entity_tuple, fragment_by_rows, link_fragment_by_rows, link_tuple}
 use Rattle.state_demand.proofs.Owners.{entity_key, host_of, link_key, of_owner_at, one}
-use Rattle.sound_demand.specs.ReadBack.{AgreesAtEntities, AgreesAtHosts, IsRowOfLink, ShowsEveryRow}
+use Rattle.sound_demand.specs.ReadBack.{AgreesAtEntities, AgreesAtHosts, HasLinkOf, IsRowOfLink, ShowsEveryRow}
 use Rattle.sound_demand.proofs.Fitting.{well_written}
 use Rattle.sound_demand.proofs.Keys.{inherits_keys}
 use Rattle.sound_demand.proofs.ReadBack.{rows_of, rows_of_links}
@@ -19,12 +19,12 @@ module _ (schema : Schema) (sound : IsSoundSchema schema) (state : State) (legal
   module _ (fragment : Fragment) (mapped : Contains schema.mapping.fragments fragment) (table : Table) (here : At schema.store.tables fragment.table.index table)
       (owner : SetId) (pairing : List Pair) (owned : IsOwned schema fragment.table owner pairing) where
     -- the fragment's set is the owner
-    in_owner : (entity : Entity) → Contains (entities_in state fragment.set) entity → Contains (entities_in state owner) entity
+    pub in_owner : (entity : Entity) → Contains (entities_in state fragment.set) entity → Contains (entities_in state owner) entity
     in_owner entity has =
         let of_set = (of_owner_at schema (inherits_keys schema.model sound.model) fragment.table owner pairing owned state legal fragment mapped refl).of_set in
         subst (λ (s : SetId). Contains (entities_in state s) entity) of_set has
 
-    in_set : (entity : Entity) → Contains (entities_in state owner) entity → Contains (entities_in state fragment.set) entity
+    pub in_set : (entity : Entity) → Contains (entities_in state owner) entity → Contains (entities_in state fragment.set) entity
     in_set entity has =
         let of_set = (of_owner_at schema (inherits_keys schema.model sound.model) fragment.table owner pairing owned state legal fragment mapped refl).of_set in
         subst (λ (s : SetId). Contains (entities_in state s) entity) (sym of_set) has
@@ -35,7 +35,7 @@ module _ (schema : Schema) (sound : IsSoundSchema schema) (state : State) (legal
     writes_to row entity stands =
         entity_key schema (inherits_keys schema.model sound.model) fragment.table owner pairing owned state legal fragment mapped refl entity ∙ stands.at_key
 
-    at_entity : (row : Row) (entity : Entity) → StandsAt schema state owner pairing (row_key table row) entity → IsSelectedAt schema state fragment table row
+    pub at_entity : (row : Row) (entity : Entity) → StandsAt schema state owner pairing (row_key table row) entity → IsSelectedAt schema state fragment table row
         ↔ Selects schema.model fragment entity
     at_entity row entity stands = (
       (λ at.
@@ -46,7 +46,8 @@ module _ (schema : Schema) (sound : IsSoundSchema schema) (state : State) (legal
       (λ selects. record { entity = entity; stands = in_set entity stands.stands; selected = selects; at_row = writes_to row entity stands }),
     )
 
-    pub agrees_at_entities : AreSameTuples (IsWrittenTuple schema state fragment) (IsShownTuple tables fragment) ↔ AgreesAtEntities schema state tables owner pairing fragment table
+    pub agrees_at_entities : AreSameTuples (IsWrittenTuple schema state fragment) (IsShownTuple tables fragment)
+        ↔ AgreesAtEntities schema state tables owner pairing fragment table
     agrees_at_entities =
         let by_rows = fragment_by_rows schema (well_written schema sound) state tables are fragment mapped table here in
         let read = rows_of schema sound state legal tables are fragment.table table here owner pairing owned in (
@@ -83,9 +84,6 @@ module _ (schema : Schema) (sound : IsSoundSchema schema) (state : State) (legal
         subst P same at.at_row
 
     module _ (owner : SetId) (pairing : List Pair) (owned : IsOwned schema fragment.table owner pairing) where
-      abbrev HasLinkOf : Entity → Type 0
-      HasLinkOf entity = (link : Link) × Contains (links_in state fragment.assoc) link × IsLinkOf schema owner pairing assoc fragment link entity
-
       -- a link that is hosted at an entity writes to the row at which this stands
       link_to : (row : Row) (entity : Entity) → StandsAt schema state owner pairing (row_key table row) entity → (link : Link) → Contains (links_in state fragment.assoc) link
           → IsLinkOf schema owner pairing assoc fragment link entity → written_key schema.store (link_writing schema.model fragment assoc link) ≡ row_key table row
@@ -93,7 +91,8 @@ module _ (schema : Schema) (sound : IsSoundSchema schema) (state : State) (legal
           link_key schema (inherits_keys schema.model sound.model) fragment.table owner pairing owned state legal fragment assoc link
           (writes_link link has) refl entity stands.stands of_entity ∙ stands.at_key
 
-      at_host : (row : Row) (entity : Entity) → StandsAt schema state owner pairing (row_key table row) entity → IsLinkedAt schema state fragment table row ↔ HasLinkOf entity
+      pub at_host : (row : Row) (entity : Entity) → StandsAt schema state owner pairing (row_key table row) entity → IsLinkedAt schema state fragment table row
+          ↔ HasLinkOf schema state owner pairing assoc fragment entity
       at_host row entity stands = (
         (λ at.
             let writes = writes_link at.link at.stands in
@@ -131,13 +130,15 @@ module _ (schema : Schema) (sound : IsSoundSchema schema) (state : State) (legal
           (link_to row entity stands link has_link of_entity)
 
     module _ (joined : IsJoinedTo schema fragment.table fragment assoc) where
+      -- each row is a link's
+      pub linked : (row : Row) → Contains (rows_in tables fragment.table) row → IsLinkedAt schema state fragment table row
+      linked row has =
+          let found = (rows_of_links schema sound state legal tables are fragment.table table here fragment assoc joined).links row has in
+          record { assoc = assoc; link = found.0; is_assoc = is_assoc; stands = found.1; at_row = sym found.2 }
+
       pub shows_every_row : AreSameTuples (IsWrittenLinkTuple schema state fragment) (IsShownLinkTuple tables fragment) ↔ ShowsEveryRow tables fragment
       shows_every_row =
-          let by_rows = link_fragment_by_rows schema (well_written schema sound) state tables are fragment mapped table here in
-          let read = rows_of_links schema sound state legal tables are fragment.table table here fragment assoc joined in
-          let linked : (row : Row) → Contains (rows_in tables fragment.table) row → IsLinkedAt schema state fragment table row = λ row has.
-          let found = read.links row has in
-          record { assoc = assoc; link = found.0; is_assoc = is_assoc; stands = found.1; at_row = sym found.2 } in (
+          let by_rows = link_fragment_by_rows schema (well_written schema sound) state tables are fragment mapped table here in (
             (λ same row has. (by_rows.0 same row has).0 (linked row has)),
             (λ shows. by_rows.1 (λ row has. ((λ _. shows row has), (λ _. linked row has)))),
           )

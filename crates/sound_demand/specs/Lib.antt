@@ -1,4 +1,7 @@
 pub mod Deriving
 pub mod Made
+pub mod OneOwner
 pub mod Local
+pub mod Fragments
 pub mod ReadBack
+pub mod Disagreeing

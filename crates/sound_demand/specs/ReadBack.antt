@@ -1,9 +1,11 @@
 -- Rows read back: which entity or link a row is of, and what its cells hold.
 -- Source: MSL version 3; the query views of Melnik, Adya and Bernstein, SIGMOD 2007.
-use Rattle.std.specs.Prelude.{◌≡◌, ◌↔◌, List, Any, Contains}
-use Rattle.round_trip.specs.Words.{SetId, TableId, ColId, Value, Null, Assoc, Column, Entity, Fragment, Link, LinkFragment, Pair, Row, Schema, Selects, Shows, ShowsLink, State, Table, Tables, At, Writing, Fills, cell_of, entities_in, links_in, row_key, rows_in, written_key}
+use Rattle.std.specs.Prelude.{◌≡◌, ◌↔◌, ◌++◌, List, Any, Contains, map}
+use Rattle.round_trip.specs.Words.{SetId, TableId, ColId, Value, Null, AreSameTuples, Assoc, Column, Entity, Fragment, IsShownLinkTuple, IsShownTuple, IsWrittenLinkTuple, IsWrittenTuple, Link, LinkFragment, Pair, Row, Schema, Selects, Shows, ShowsLink, State, Table, Tables, At, Writing, Fills, cell_of, cells_of, entities_in, entity_cells, link_cells, links_in, row_key, rows_in, written_key}
 use Rattle.state_demand.specs.Owners.{IsLinkOf, IsWritingOf, StandsAt, paired_key}
+use Rattle.state_demand.specs.WellWritten.{cols_of}
 use Rattle.state_demand.specs.Writings.{link_writing}
+use Rattle.sound_demand.specs.Fragments.{IsHostedFragment, IsJoinedFragment, IsOwnedFragment}
 
 -- a writing of the entity to the table
 abbrev pub WritesTo : Schema → State → TableId → SetId → List Pair → Entity → Writing → Type 0
@@ -40,12 +42,54 @@ abbrev pub AgreesAtEntities : Schema → State → Tables → SetId → List Pai
 AgreesAtEntities schema state tables owner pairing fragment table = (row : Row) → Contains (rows_in tables fragment.table) row
     → (entity : Entity) → StandsAt schema state owner pairing (row_key table row) entity → Selects schema.model fragment entity ↔ Shows fragment row
 
+-- a link of the fragment's association is hosted at the entity
+abbrev pub HasLinkOf : Schema → State → SetId → List Pair → Assoc → LinkFragment → Entity → Type 0
+HasLinkOf schema state owner pairing assoc fragment entity =
+    (link : Link) × Contains (links_in state fragment.assoc) link × IsLinkOf schema owner pairing assoc fragment link entity
+
 -- the link fragment shows the row of an entity exactly where a link of its association is hosted at the entity
 abbrev pub AgreesAtHosts : Schema → State → Tables → SetId → List Pair → LinkFragment → Assoc → Table → Type 0
 AgreesAtHosts schema state tables owner pairing fragment assoc table = (row : Row) → Contains (rows_in tables fragment.table) row
     → (entity : Entity) → StandsAt schema state owner pairing (row_key table row) entity
-    → ((link : Link) × Contains (links_in state fragment.assoc) link × IsLinkOf schema owner pairing assoc fragment link entity) ↔ ShowsLink fragment row
+    → HasLinkOf schema state owner pairing assoc fragment entity ↔ ShowsLink fragment row
 
 -- the link fragment of a joined association shows every row
 abbrev pub ShowsEveryRow : Tables → LinkFragment → Type 0
 ShowsEveryRow tables fragment = (row : Row) → Contains (rows_in tables fragment.table) row → ShowsLink fragment row
+
+-- each fragment of a set that owns its table agrees with the tables exactly where it does at each entity
+abbrev pub AgreementIsAtEntities : Schema → State → Tables → Type 0
+AgreementIsAtEntities schema state tables = (owner : SetId) (pairing : List Pair) (fragment : Fragment) (table : Table) → IsOwnedFragment schema owner pairing fragment table
+    → AreSameTuples (IsWrittenTuple schema state fragment) (IsShownTuple tables fragment) ↔ AgreesAtEntities schema state tables owner pairing fragment table
+
+-- each hosted link fragment does so exactly where it does at each host
+abbrev pub AgreementIsAtHosts : Schema → State → Tables → Type 0
+AgreementIsAtHosts schema state tables = (owner : SetId) (pairing : List Pair) (assoc : Assoc) (fragment : LinkFragment) (table : Table)
+    → IsHostedFragment schema owner pairing assoc fragment table
+    → AreSameTuples (IsWrittenLinkTuple schema state fragment) (IsShownLinkTuple tables fragment) ↔ AgreesAtHosts schema state tables owner pairing fragment assoc table
+
+-- and each joined one exactly where it shows every row
+abbrev pub AgreementIsAtRows : Schema → State → Tables → Type 0
+AgreementIsAtRows schema state tables = (assoc : Assoc) (fragment : LinkFragment) (table : Table) → IsJoinedFragment schema assoc fragment table
+    → AreSameTuples (IsWrittenLinkTuple schema state fragment) (IsShownLinkTuple tables fragment) ↔ ShowsEveryRow tables fragment
+
+-- what an entity writes by a fragment that selects it is what its row holds in the written columns
+abbrev pub EntitiesWriteRows : Schema → State → Tables → Type 0
+EntitiesWriteRows schema state tables = (owner : SetId) (pairing : List Pair) (fragment : Fragment) (table : Table) → IsOwnedFragment schema owner pairing fragment table
+    → (row : Row) → Contains (rows_in tables fragment.table) row → (entity : Entity) → StandsAt schema state owner pairing (row_key table row) entity
+    → Selects schema.model fragment entity → map (λ cell. cell.1) (entity_cells schema.model fragment entity) ≡ cells_of row (cols_of fragment.pairs)
+
+-- what a link writes is what the row of its host holds in the written columns
+abbrev pub HostedLinksWriteRows : Schema → State → Tables → Type 0
+HostedLinksWriteRows schema state tables = (owner : SetId) (pairing : List Pair) (assoc : Assoc) (fragment : LinkFragment) (table : Table)
+    → IsHostedFragment schema owner pairing assoc fragment table
+    → (row : Row) → Contains (rows_in tables fragment.table) row → (entity : Entity) → StandsAt schema state owner pairing (row_key table row) entity
+    → (link : Link) → Contains (links_in state fragment.assoc) link → IsLinkOf schema owner pairing assoc fragment link entity
+    → map (λ cell. cell.1) (link_cells schema.model assoc fragment link) ≡ cells_of row (cols_of (fragment.first ++ fragment.second))
+
+-- what a link of a joined association writes is what its row holds in the written columns
+abbrev pub JoinedLinksWriteRows : Schema → State → Tables → Type 0
+JoinedLinksWriteRows schema state tables = (assoc : Assoc) (fragment : LinkFragment) (table : Table) → IsJoinedFragment schema assoc fragment table
+    → (row : Row) → Contains (rows_in tables fragment.table) row → (link : Link) → Contains (links_in state fragment.assoc) link
+    → IsRowOfLink schema fragment assoc table link row
+    → map (λ cell. cell.1) (link_cells schema.model assoc fragment link) ≡ cells_of row (cols_of (fragment.first ++ fragment.second))

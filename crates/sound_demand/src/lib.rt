@@ -1,21 +1,23 @@
 //! What a state of a sound schema demands of the tables. No law here has a premise on the schema but that it is sound.
 #![tactic(auto)]
 
-ghost use Rattle.std.specs.Prelude.{◌≡◌, ◌++◌, ◌↔◌, Contains, IsTrue, List, map};
-ghost use Rattle.round_trip.specs.Words.{AreLegalTables, AreSameTables, AreSameTuples, Assoc, At, Entity, EntityModel, Fragment, HasGoodTables, HasNoClash, IsLegal, IsShownLinkTuple, IsShownTuple, IsWritten, IsWrittenLinkTuple, IsWrittenTuple, Link, LinkFragment, Pair, Place, RoundTrips, Row, Schema, Selects, SetId, State, Table, TableId, Tables, TablesAre, cells_of, entity_cells, link_cells, links_in, row_key, rows_in};
+ghost use Rattle.std.specs.Prelude.{◌↔◌, IsTrue, List};
+ghost use Rattle.round_trip.specs.Words.{AreLegalTables, AreSameTables, Assoc, At, EntityModel, HasGoodTables, HasNoClash, IsLegal, IsWritten, LinkFragment, Pair, Place, RoundTrips, Schema, SetId, State, Table, TableId, Tables, TablesAre};
 ghost use Rattle.round_trip.specs.FailsAt.{Clashes, Dangles, LeavesNull};
 ghost use Rattle.emc_base.specs.Lists.{HoldsEachOnce};
 ghost use Rattle.soundness.specs.Lookups.{set_key};
 ghost use Rattle.soundness.specs.Mappings.{IsSoundSchema};
 ghost use Rattle.soundness.specs.Models.{IsSoundModel};
-ghost use Rattle.state_demand.specs.Owners.{HasOwner, IsJoinedTo, IsLinkOf, IsOwned, StandsAt, props_in};
+ghost use Rattle.state_demand.specs.Owners.{HasOwner, IsJoinedTo, IsOwned, props_in};
 ghost use Rattle.state_demand.specs.Selecting.{DecidesTypes};
-ghost use Rattle.state_demand.specs.WellWritten.{cols_of};
 ghost use Rattle.state_demand.specs.Writings.{AreWritings};
 ghost use Rattle.sound_demand.specs.Deriving.{derives};
+ghost use Rattle.sound_demand.specs.Disagreeing.{FailsAtEntities, TuplesAreOfEntities, TuplesAreOfHosts, TuplesAreOfLinks};
+ghost use Rattle.sound_demand.specs.Fragments.{IsStoredIn};
 ghost use Rattle.sound_demand.specs.Local.{HasLocalDemand, IsLocal, IsLocalToLinks};
 ghost use Rattle.sound_demand.specs.Made.{has_no_clash, tables_for, writings_in};
-ghost use Rattle.sound_demand.specs.ReadBack.{AgreesAtEntities, AgreesAtHosts, AreRowsOf, AreRowsOfLinks, IsRowOfLink, ShowsEveryRow};
+ghost use Rattle.sound_demand.specs.OneOwner.{IsJoinedOnce, IsOwnedAlone, IsOwnedOnce};
+ghost use Rattle.sound_demand.specs.ReadBack.{AgreementIsAtEntities, AgreementIsAtHosts, AgreementIsAtRows, AreRowsOf, AreRowsOfLinks, EntitiesWriteRows, HostedLinksWriteRows, JoinedLinksWriteRows};
 
 /// In a sound model it is computed whether a type is another or derived from it.
 pub fn types_are_decided()
@@ -46,13 +48,9 @@ pub fn a_clash_is_decided()
 /// A set with a pairing owns a table, or a joined association does, or nothing writes it; a table that is written has one owner and one pairing.
 pub fn each_table_has_one_owner()
     ensures owner { (schema : Schema) → IsSoundSchema schema → (t : TableId) → HasOwner schema t }
-    ensures one { (schema : Schema) → IsSoundSchema schema → (t : TableId) (owner other : SetId) (pairing others : List Pair) → IsOwned schema t owner pairing
-        → IsOwned schema t other others
-        → IsWritten schema.mapping t → (owner ≡ other) × (pairing ≡ others) }
-    ensures alone { (schema : Schema) → IsSoundSchema schema → (t : TableId) (owner : SetId) (pairing : List Pair) (fragment : LinkFragment) (assoc : Assoc)
-        → IsOwned schema t owner pairing → ¬ IsJoinedTo schema t fragment assoc }
-    ensures joined { (schema : Schema) → IsSoundSchema schema → (t : TableId) (fragment other : LinkFragment) (assoc joins : Assoc) → IsJoinedTo schema t fragment assoc
-        → IsJoinedTo schema t other joins → (fragment ≡ other) × (assoc ≡ joins) }
+    ensures one { (schema : Schema) → IsSoundSchema schema → (t : TableId) → IsWritten schema.mapping t → IsOwnedOnce schema t }
+    ensures alone { (schema : Schema) → IsSoundSchema schema → (t : TableId) → IsOwnedAlone schema t }
+    ensures joined { (schema : Schema) → IsSoundSchema schema → (t : TableId) → IsJoinedOnce schema t }
 {}
 
 /// A pairing holds the set's key, each property once; its columns are the primary key.
@@ -83,39 +81,24 @@ pub fn rows_are_read_back()
 /// A fragment agrees with the tables exactly where it does at each key: it shows the row exactly where it selects the entity that stands there,
 /// or where a link of its association is hosted at this; in a joined association's table it shows every row.
 pub fn tuples_are_decided_at_their_key()
-    ensures entities { (schema : Schema) → IsSoundSchema schema → (state : State) → IsLegal schema.model state → (tables : Tables) → TablesAre schema state tables
-        → (fragment : Fragment) → Contains schema.mapping.fragments fragment → (table : Table) → At schema.store.tables fragment.table.index table
-        → (owner : SetId) (pairing : List Pair) → IsOwned schema fragment.table owner pairing
-        → AreSameTuples (IsWrittenTuple schema state fragment) (IsShownTuple tables fragment) ↔ AgreesAtEntities schema state tables owner pairing fragment table }
-    ensures hosted { (schema : Schema) → IsSoundSchema schema → (state : State) → IsLegal schema.model state → (tables : Tables) → TablesAre schema state tables
-        → (fragment : LinkFragment) → Contains schema.mapping.links fragment → (table : Table) → At schema.store.tables fragment.table.index table
-        → (assoc : Assoc) → At schema.model.assocs fragment.assoc.index assoc → (owner : SetId) (pairing : List Pair) → IsOwned schema fragment.table owner pairing
-        → AreSameTuples (IsWrittenLinkTuple schema state fragment) (IsShownLinkTuple tables fragment) ↔ AgreesAtHosts schema state tables owner pairing fragment assoc table }
-    ensures joined { (schema : Schema) → IsSoundSchema schema → (state : State) → IsLegal schema.model state → (tables : Tables) → TablesAre schema state tables
-        → (fragment : LinkFragment) → Contains schema.mapping.links fragment → (table : Table) → At schema.store.tables fragment.table.index table
-        → (assoc : Assoc) → At schema.model.assocs fragment.assoc.index assoc → IsJoinedTo schema fragment.table fragment assoc
-        → AreSameTuples (IsWrittenLinkTuple schema state fragment) (IsShownLinkTuple tables fragment) ↔ ShowsEveryRow tables fragment }
+    ensures entities { (schema : Schema) → IsSoundSchema schema → (state : State) (tables : Tables) → IsStoredIn schema state tables → AgreementIsAtEntities schema state tables }
+    ensures hosted { (schema : Schema) → IsSoundSchema schema → (state : State) (tables : Tables) → IsStoredIn schema state tables → AgreementIsAtHosts schema state tables }
+    ensures joined { (schema : Schema) → IsSoundSchema schema → (state : State) (tables : Tables) → IsStoredIn schema state tables → AgreementIsAtRows schema state tables }
 {}
 
 /// What an entity or a link writes by a fragment is what its row holds in the written columns.
 pub fn tuples_of_one_key_are_one()
-    ensures entities { (schema : Schema) → IsSoundSchema schema → (state : State) → IsLegal schema.model state → (tables : Tables) → TablesAre schema state tables
-        → (fragment : Fragment) → Contains schema.mapping.fragments fragment → (table : Table) → At schema.store.tables fragment.table.index table
-        → (owner : SetId) (pairing : List Pair) → IsOwned schema fragment.table owner pairing → (row : Row) → Contains (rows_in tables fragment.table) row
-        → (entity : Entity) → StandsAt schema state owner pairing (row_key table row) entity → Selects schema.model fragment entity
-        → map (λ cell. cell.1) (entity_cells schema.model fragment entity) ≡ cells_of row (cols_of fragment.pairs) }
-    ensures hosted { (schema : Schema) → IsSoundSchema schema → (state : State) → IsLegal schema.model state → (tables : Tables) → TablesAre schema state tables
-        → (fragment : LinkFragment) → Contains schema.mapping.links fragment → (table : Table) → At schema.store.tables fragment.table.index table
-        → (assoc : Assoc) → At schema.model.assocs fragment.assoc.index assoc → (owner : SetId) (pairing : List Pair) → IsOwned schema fragment.table owner pairing
-        → (row : Row) → Contains (rows_in tables fragment.table) row → (entity : Entity) → StandsAt schema state owner pairing (row_key table row) entity
-        → (link : Link) → Contains (links_in state fragment.assoc) link → IsLinkOf schema owner pairing assoc fragment link entity
-        → map (λ cell. cell.1) (link_cells schema.model assoc fragment link) ≡ cells_of row (cols_of (fragment.first ++ fragment.second)) }
-    ensures joined { (schema : Schema) → IsSoundSchema schema → (state : State) → IsLegal schema.model state → (tables : Tables) → TablesAre schema state tables
-        → (fragment : LinkFragment) → Contains schema.mapping.links fragment → (table : Table) → At schema.store.tables fragment.table.index table
-        → (assoc : Assoc) → At schema.model.assocs fragment.assoc.index assoc → IsJoinedTo schema fragment.table fragment assoc
-        → (row : Row) → Contains (rows_in tables fragment.table) row → (link : Link) → Contains (links_in state fragment.assoc) link
-        → IsRowOfLink schema fragment assoc table link row
-        → map (λ cell. cell.1) (link_cells schema.model assoc fragment link) ≡ cells_of row (cols_of (fragment.first ++ fragment.second)) }
+    ensures entities { (schema : Schema) → IsSoundSchema schema → (state : State) (tables : Tables) → IsStoredIn schema state tables → EntitiesWriteRows schema state tables }
+    ensures hosted { (schema : Schema) → IsSoundSchema schema → (state : State) (tables : Tables) → IsStoredIn schema state tables → HostedLinksWriteRows schema state tables }
+    ensures joined { (schema : Schema) → IsSoundSchema schema → (state : State) (tables : Tables) → IsStoredIn schema state tables → JoinedLinksWriteRows schema state tables }
+{}
+
+/// A tuple that a fragment writes and doesn't show, or shows and doesn't write, stands at a row, with the key of the entity or the link there.
+pub fn a_disagreement_stands_at_a_row()
+    ensures entities { (schema : Schema) → IsSoundSchema schema → (state : State) (tables : Tables) → IsStoredIn schema state tables → TuplesAreOfEntities schema state tables }
+    ensures failing { (schema : Schema) → IsSoundSchema schema → (state : State) (tables : Tables) → IsStoredIn schema state tables → FailsAtEntities schema state tables }
+    ensures hosted { (schema : Schema) → IsSoundSchema schema → (state : State) (tables : Tables) → IsStoredIn schema state tables → TuplesAreOfHosts schema state tables }
+    ensures joined { (schema : Schema) → IsSoundSchema schema → (state : State) (tables : Tables) → IsStoredIn schema state tables → TuplesAreOfLinks schema state tables }
 {}
 
 /// A legal state that clashes nowhere, leaves no null and nothing dangling has tables, and these are legal.

@@ -2,6 +2,7 @@ pub mod Begun
 pub mod Cleared
 pub mod Found
 pub mod Free
+pub mod Hosting
 pub mod Items
 pub mod OneEnd
 pub mod Owning

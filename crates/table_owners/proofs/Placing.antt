@@ -24,8 +24,15 @@ module _ (schema : Schema) (sound : IsSoundSchema schema) where
       → (standing : Standing) → Stands schema fragment standing → TellsPlace schema a assoc (place_by (record { index = number }) standing)
   by_standing a assoc number fragment known maps AtFirst stands = (fragment, maps, stands)
   by_standing a assoc number fragment known maps AtSecond stands = (fragment, maps, stands)
-  by_standing a assoc number fragment known maps Apart stands =
-      (fragment, maps, joined_there schema sound fragment assoc (contains_at schema.mapping.links number fragment maps.is_fragment) known stands)
+  by_standing a assoc number fragment known maps Apart stands = (
+    fragment,
+    maps,
+    record {
+      joined = joined_there schema sound fragment assoc (contains_at schema.mapping.links number fragment maps.is_fragment) known stands;
+      first = stands.0;
+      second = stands.1;
+    },
+  )
 
   -- where no fragment maps the association set
   unmapped : (a : AssocId) (assoc : Assoc) → At schema.model.assocs a.index assoc → All (λ fragment. fragment.assoc ≢ a) schema.mapping.links

@@ -13,7 +13,7 @@ mod sources;
 mod tests;
 
 pub use free_columns::free_columns_of;
-pub use laws::a_link_is_hosted_at_one_end;
+pub use laws::{a_link_is_hosted_at_one_end, hosted_links_are_told};
 pub use owners::owners_of;
 pub use pairings::pairings_of;
 pub use places::{LinkPlace, places_of};

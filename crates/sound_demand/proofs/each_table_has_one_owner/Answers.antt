@@ -6,7 +6,7 @@ pub returns-clause-owner : goal.returns-clause-owner
 returns-clause-owner c = has_owner
 
 pub returns-clause-one : goal.returns-clause-one
-returns-clause-one c = one_owner
+returns-clause-one c schema sound t written owner other pairing others owned too = one_owner schema sound t owner other pairing others owned too written
 
 pub returns-clause-alone : goal.returns-clause-alone
 returns-clause-alone c = owned_or_joined

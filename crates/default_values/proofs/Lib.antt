@@ -1,0 +1,13 @@
+pub mod Classes
+pub mod Short
+pub mod Uses
+pub mod Lists
+pub mod Candidates
+pub mod Constants
+pub mod Valued
+pub mod Bounds
+pub mod Fitting
+pub mod Listed
+pub mod Defaults
+pub mod Changes
+pub mod Shared

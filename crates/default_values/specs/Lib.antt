@@ -1,0 +1,5 @@
+pub mod Short
+pub mod Candidates
+pub mod Fresh
+pub mod Defaults
+pub mod Admissible

@@ -1,0 +1,6 @@
+pub mod Listed
+pub mod Demanded
+pub mod Flags
+pub mod Hosts
+pub mod Partners
+pub mod Agreeing

@@ -1,0 +1,17 @@
+pub mod Choices
+pub mod Types
+pub mod Settled
+pub mod Cells
+pub mod Origins
+pub mod Regions
+pub mod Hosting
+pub mod Allowed
+pub mod Standing
+pub mod Possible
+pub mod Classes
+pub mod Groups
+pub mod Keys
+pub mod Decided
+pub mod Shown
+pub mod Laws
+pub mod Agreeing

@@ -1,0 +1,4 @@
+pub mod Allowed
+pub mod Listed
+pub mod Described
+pub mod Plain

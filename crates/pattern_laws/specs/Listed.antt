@@ -1,0 +1,42 @@
+-- Where symbols stand in patterns, and which properties are parts of keys.
+-- Source: MSL version 3, ScalarProperty, EndProperty and Condition; CSDL version 3, Key.
+use Rattle.std.specs.Prelude.{◌≡◌, List, [], ◌∷◌, Contains, Bool, if◌then◌else◌, ⊤}
+use Rattle.round_trip.specs.Words.{PropId, TableId, ColId, AssocId, Value, EntityModel, Prop, LinkFragment, Pair, Schema, At, key_props}
+use Rattle.condition_logic.specs.declared.atoms.AtomOf.{AtomOf}
+use Rattle.regions.specs.declared.pattern.Symbol.{Symbol}
+use Rattle.regions.specs.declared.pattern.Symbol.TheVariants as symbol
+use Rattle.regions.specs.declared.pattern.PatternRow.{PatternRow}
+use Rattle.regions.specs.declared.pattern.Pattern.{Pattern}
+use Rattle.regions.specs.Settled.{possible, single}
+
+-- the pattern's row of the table has the cell at the column
+pub record HasCell (pattern : Pattern) (t : TableId) (col : ColId) (cell : List Symbol) : Type 0 where
+  pub row : PatternRow
+  pub is_row : Contains pattern.rows row
+  pub of_table : row.table ≡ t
+  pub is_cell : At row.cells col.index cell
+
+-- a cell of this column lists the symbol
+abbrev pub Lists : Pattern → TableId → ColId → Symbol → Type 0
+Lists pattern t col symbol = (cell : List Symbol) × HasCell pattern t col cell × Contains cell symbol
+
+-- the property is a part of the key of the type that declares it, and so of all types that have it
+abbrev pub IsPartOfKey : EntityModel → PropId → Type 0
+IsPartOfKey model p = (declared : Prop) × At model.props p.index declared × Contains (key_props model declared.owner) p
+
+-- the symbol is null, a constant, the end of a link, or a property that can have one value alone
+abbrev pub IsTelling : EntityModel → List AtomOf → Symbol → Type 0
+IsTelling model atoms (symbol.Prop p) = (value : Value) × (possible model atoms (symbol.Prop p) ≡ single value)
+IsTelling model atoms _ = ⊤
+
+-- the cell lists one end of the association's links alone: that which its link fragment writes to the column
+pub record IsEndCell (schema : Schema) (a : AssocId) (t : TableId) (col : ColId) (cell : List Symbol) : Type 0 where
+  pub fragment : LinkFragment
+  pub mapped : Contains schema.mapping.links fragment
+  pub of_assoc : fragment.assoc ≡ a
+  pub to_table : fragment.table ≡ t
+  pub first : Bool
+  pub pair : Pair
+  pub paired : Contains (if first then fragment.first else fragment.second) pair
+  pub at_col : pair.col ≡ col
+  pub is : cell ≡ symbol.End a first pair.prop ∷ []

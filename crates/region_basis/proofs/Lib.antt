@@ -1,0 +1,4 @@
+pub mod Order
+pub mod Hosts
+pub mod Links
+pub mod Groups

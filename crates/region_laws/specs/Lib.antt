@@ -1,0 +1,5 @@
+pub mod IsBasis
+pub mod RegionAt
+pub mod Counting
+pub mod Concrete
+pub mod Partners

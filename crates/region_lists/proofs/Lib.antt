@@ -1,0 +1,10 @@
+pub mod OfTypes
+pub mod Fitting
+pub mod Taken
+pub mod Counts
+pub mod Products
+pub mod Further
+pub mod Members
+pub mod Bases
+pub mod Types
+pub mod Hosts

@@ -1,0 +1,3 @@
+pub mod Counts
+pub mod Listing
+pub mod Outcome

@@ -1,0 +1,11 @@
+pub mod Passing
+pub mod Linked
+pub mod Constants
+pub mod Rising
+pub mod AtomOrder
+pub mod FlagOrder
+pub mod RegionOrder
+pub mod Searched
+pub mod Bases
+pub mod Holding
+pub mod Finding

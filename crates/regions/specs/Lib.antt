@@ -1,0 +1,9 @@
+pub mod Lists
+pub mod Fitting
+pub mod Basis
+pub mod Atoms
+pub mod Regions
+pub mod Symbols
+pub mod Patterns
+pub mod Settled
+pub mod Shown

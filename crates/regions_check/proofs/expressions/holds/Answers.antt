@@ -1,0 +1,5 @@
+use Rattle.sound_forests.proofs.Whole.{sound_holds}
+use Rattle.regions_check.proofs.expressions.holds.Goals as goal
+
+pub holds_entity-requires-clause-whole : goal.holds_entity-requires-clause-whole
+holds_entity-requires-clause-whole c = sound_holds c.args.meant.now.model c.requires.model
