@@ -1,6 +1,6 @@
 -- The basis by which cells tell the regions of their mapping.
 -- Source: this project's profile of MSL version 3: the groups of properties and columns, and where links stand.
-use Rattle.std.specs.Prelude.{◌==◌, ℕ, List, [], ◌∷◌, slice_get, flat_map, false, unwrap_or, option_and_then, if◌then◌else◌}
+use Rattle.std.specs.Prelude.{◌==◌, ℕ, List, [], ◌∷◌, slice_get, flat_map, Bool, false, Option, None, Some, unwrap_or, option_and_then, if◌then◌else◌}
 use Rattle.std.specs.List.{enumerate_from}
 use Rattle.std.specs.Option.{option_map_or}
 use Rattle.round_trip.specs.Words.{SetId, AssocId, EntityModel, Assoc}
@@ -18,7 +18,12 @@ abbrev pub host_by : SetId → AssocId → Assoc → LinkPlace → List Host
 host_by s a assoc (place.Hosted first_hosts number) = if (host_end first_hosts assoc).set.index == s.index then record { assoc = a; first_hosts = first_hosts } ∷ [] else []
 host_by s a assoc _ = []
 
--- the same of a numbered one
+-- an association as one that is hosted, where an end is told
+abbrev pub hosts_told : AssocId → Option Bool → List Host
+hosts_told a None = []
+hosts_told a (Some first_hosts) = record { assoc = a; first_hosts = first_hosts } ∷ []
+
+-- a numbered association as one that is hosted at the set, if it is told so
 abbrev pub host_at : List LinkPlace → SetId → ℕ × Assoc → List Host
 host_at places s entry = host_by s (record { index = entry.0 }) entry.1 (unwrap_or (slice_get places entry.0) place.Unmapped)
 

@@ -1,5 +1,7 @@
-//! The basis by which cells tell the regions of their mapping.
+//! The basis by which cells tell the regions of their mapping, and the ends of hosted associations.
 #![tactic(auto)]
+
+mod ends;
 
 ghost use Rattle.round_trip.specs.Words.{Entity, SetId, State, key_of};
 ghost use Rattle.cells.specs.declared.parts.Parts.{Parts};
@@ -7,6 +9,8 @@ ghost use Rattle.cells.specs.HostedLinks.{hosted_links};
 ghost use Rattle.cells.specs.Parts.{AreParts, schema_in};
 ghost use Rattle.region_laws.specs.IsBasis.{AreHostedLinks, IsBasis};
 ghost use Rattle.region_basis.specs.BasisOf.{basis_of};
+
+pub use ends::{host_end, hosting_end, partner_end};
 
 /// The answers by a mapping's cells are those that the definitions give for its schema.
 pub fn parts_are_a_basis()

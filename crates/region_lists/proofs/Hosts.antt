@@ -13,7 +13,7 @@ use Rattle.cells.proofs.Lists.{one_more_gives}
 use Rattle.regions.specs.Basis.{Host, host_end, partner_end}
 use Rattle.regions.specs.Regions.{flag_values, flagged, flags_at}
 use Rattle.region_basis.specs.BasisOf.{basis_of, host_at, host_by, hosts_in}
-use Rattle.region_lists.specs.Listing.{hosts_told}
+use Rattle.region_basis.specs.BasisOf.{hosts_told}
 
 module _ (parts : Parts) (s : SetId) where
   -- those among the associations so far

@@ -1,11 +1,10 @@
 -- Lists of choices, made by choosing further; and the parts of a region as they are told.
 -- Source: this project's; the cells by which the mapping compiler of Melnik, Adya and Bernstein, SIGMOD 2007, divides entities.
-use Rattle.std.specs.Prelude.{◌++◌, List, [], ◌∷◌, map, flat_map, Bool, Option, None, Some}
+use Rattle.std.specs.Prelude.{◌++◌, List, [], ◌∷◌, map, flat_map}
 use Rattle.round_trip.specs.Words.{SetId, TypeId, PropId, AssocId}
 use Rattle.condition_logic.specs.declared.atoms.Atom.{Atom}
 use Rattle.condition_logic.specs.declared.atoms.AtomOf.{AtomOf}
 use Rattle.regions.specs.declared.region.Region.{Region}
-use Rattle.regions.specs.Basis.{Host}
 use Rattle.regions.specs.Lists.{choices}
 
 -- each of the first lists with each of the second ones behind it
@@ -19,11 +18,6 @@ joined_choices lists = map (λ choice. flat_map (λ list. list) choice) (choices
 -- atoms as those of a property
 abbrev pub told_atoms : PropId → List Atom → List AtomOf
 told_atoms p atoms = map (λ atom. record { prop = p; atom = atom }) atoms
-
--- the association as one that is hosted, where an end is told
-abbrev pub hosts_told : AssocId → Option Bool → List Host
-hosts_told a None = []
-hosts_told a (Some first_hosts) = record { assoc = a; first_hosts = first_hosts } ∷ []
 
 -- the region with these parts
 abbrev pub region_with : SetId → TypeId → List AtomOf → List AssocId → Region

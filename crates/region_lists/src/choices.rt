@@ -7,10 +7,11 @@ ghost use Rattle.region_basis.specs.BasisOf.{basis_of};
 ghost use Rattle.region_lists.specs.Listing.{beside, joined_choices};
 
 use crate::atoms::{atoms_at, is_tested};
-use crate::flags::{flag_values, hosting_end};
+use crate::flags::flag_values;
 use cells::Parts;
 use condition_logic::AtomOf;
 use emc_base::{AssocId, Memory, PropId, Seq, SetId, TypeId};
+use region_basis::hosting_end;
 use std::alloc::Global;
 
 // An atom of each tested property, for each choice, in their order; the last one varies fastest.

@@ -10,10 +10,11 @@ ghost use Rattle.region_lists.specs.Counts.{capped};
 
 use crate::atoms::{count_atoms, is_tested};
 use crate::base_types::{derives, props_of};
-use crate::flags::{flag_values, hosting_end};
+use crate::flags::flag_values;
 use cells::Parts;
 use edm_types::{Assoc, EntityModel, EntitySet, EntityType};
 use emc_base::{AssocId, PropId, SetId, TypeId};
+use region_basis::hosting_end;
 
 // The most regions that are counted.
 const MOST_COUNTED: u64 = 1_048_576;

@@ -6,6 +6,5 @@ pub mod AtomOrder
 pub mod FlagOrder
 pub mod RegionOrder
 pub mod Searched
-pub mod Bases
 pub mod Holding
 pub mod Finding

@@ -2,14 +2,14 @@ ghost use Rattle.std.specs.Prelude.{◌≡◌, ◌==◌};
 ghost use Rattle.std.specs.List.{list_any};
 ghost use Rattle.emc_base.specs.Lists.{At};
 ghost use Rattle.cells.specs.Parts.{AreParts, schema_in};
-ghost use Rattle.regions.specs.Basis.{host_end, partner_end};
 ghost use Rattle.region_laws.specs.RegionAt.{has_link};
 ghost use Rattle.region_basis.specs.BasisOf.{basis_of, host_at};
 ghost use Rattle.region_search.specs.Standing.{all_cmp, flag_cmp, host_cmp};
 
 use cells::{LinkPlace, Parts};
-use edm_types::{Assoc, End, Hosted, Mult};
+use edm_types::{Assoc, Hosted, Mult};
 use emc_base::{AssocId, SetId};
+use region_basis::{host_end, partner_end};
 use std::cmp::Ordering;
 
 /// Where flags stand against the links that an entity hosts, by the associations that are hosted at a set. One that lets an entity have
@@ -59,28 +59,6 @@ fn compare_at(
         has(linked, id),
         has_link(links, id),
     )
-}
-
-// The end of the entities that host.
-fn host_end(first_hosts: bool, assoc: &Assoc) -> &End
-    ensures { result.now ≡ host_end first_hosts assoc.now }
-{
-    if first_hosts {
-        &assoc.first
-    } else {
-        &assoc.second
-    }
-}
-
-// The end of their partners.
-fn partner_end(first_hosts: bool, assoc: &Assoc) -> &End
-    ensures { result.now ≡ partner_end first_hosts assoc.now }
-{
-    if first_hosts {
-        &assoc.second
-    } else {
-        &assoc.first
-    }
 }
 
 // A flag against whether there is a link.

@@ -3,13 +3,13 @@ ghost use Rattle.std.specs.List.{list_any};
 ghost use Rattle.cells.specs.Parts.{AreParts};
 ghost use Rattle.emc_base.specs.Lists.{At};
 ghost use Rattle.region_basis.specs.BasisOf.{basis_of};
-ghost use Rattle.regions.specs.Basis.{host_end};
 ghost use Rattle.symbolic_rows.specs.Written.{in_symbols, writings_at, writings_by};
 
 use crate::writing::{Writing, link_fragment_writing};
 use cells::{LinkPlace, Parts};
 use edm_types::{Assoc, End};
 use emc_base::{AssocId, Memory};
+use region_basis::host_end;
 use regions::Region;
 use std::alloc::Global;
 
@@ -70,17 +70,6 @@ fn add_at(
     Ok(())
 }
 
-// The end of the entities that host.
-fn host_end(first_hosts: bool, assoc: &Assoc) -> &End
-    ensures { result.now ≡ host_end first_hosts assoc.now }
-{
-    if first_hosts {
-        &assoc.first
-    } else {
-        &assoc.second
-    }
-}
-
 // Whether entities of the region stand at the end, and have links of the association.
 fn is_linked_at(region: &Region, id: AssocId, end: &End) -> bool
     ensures { result ≡ ((end.now.set.index == region.now.set.index) && list_any (λ linked. linked.index == id.index) region.now.linked) }
@@ -88,8 +77,8 @@ fn is_linked_at(region: &Region, id: AssocId, end: &End) -> bool
     end.set.index == region.set.index && is_linked(region, id)
 }
 
-// Whether the region's entities have links of the association.
-fn is_linked(region: &Region, id: AssocId) -> bool
+/// Whether the region's entities have links of the association.
+pub fn is_linked(region: &Region, id: AssocId) -> bool
     ensures { result ≡ list_any (λ linked. linked.index == id.index) region.now.linked }
 {
     region

@@ -10,5 +10,8 @@ mod symbols;
 mod writing;
 mod writings;
 
-pub use patterns::pattern;
-pub use symbols::{copy_symbol, same_symbol};
+pub use hosting::is_linked;
+pub use patterns::{link_pattern, pattern, region_pattern};
+pub use selects::{atom_at, passes};
+pub use symbols::{copy_symbol, same_symbol, stands};
+pub use writings::writes;

@@ -2,12 +2,13 @@ ghost use Rattle.std.specs.Prelude.{◌≡◌, IfOk};
 ghost use Rattle.cells.specs.Parts.{AreParts};
 ghost use Rattle.region_basis.specs.BasisOf.{basis_of};
 ghost use Rattle.regions.specs.Patterns.{pattern_of};
+ghost use Rattle.regions.specs.declared.pattern.Focus.TheVariants as focus;
 
 use crate::rows::pattern_by;
-use crate::writings::writings_of;
+use crate::writings::{link_writings, region_writings};
 use cells::Parts;
-use emc_base::Memory;
-use regions::{Focus, Pattern};
+use emc_base::{AssocId, Memory};
+use regions::{Focus, Pattern, Region};
 use std::alloc::Global;
 
 /// The rows that an entity of a region demands with its hosted links, or a link of a joined association, in symbols: one for each table
@@ -17,6 +18,26 @@ pub fn pattern(alloc: Global, parts: &Parts<'_>, focus: &Focus) -> Result<Patter
     requires { AreParts parts.now }
     ensures { IfOk result (λ pattern. pattern ≡ pattern_of (basis_of parts.now) focus.now) }
 {
-    let writings = writings_of(alloc, parts, focus)?;
+    match focus {
+        Focus::Entity(region) => region_pattern(alloc, parts, region),
+        Focus::Link(assoc) => link_pattern(alloc, parts, *assoc),
+    }
+}
+
+/// The same of an entity of a region.
+pub fn region_pattern(alloc: Global, parts: &Parts<'_>, region: &Region) -> Result<Pattern, Memory>
+    requires { AreParts parts.now }
+    ensures { IfOk result (λ pattern. pattern ≡ pattern_of (basis_of parts.now) (focus.Entity region.now)) }
+{
+    let writings = region_writings(alloc, parts, region)?;
+    pattern_by(alloc, parts.store, writings)
+}
+
+/// The same of a link.
+pub fn link_pattern(alloc: Global, parts: &Parts<'_>, assoc: AssocId) -> Result<Pattern, Memory>
+    requires { AreParts parts.now }
+    ensures { IfOk result (λ pattern. pattern ≡ pattern_of (basis_of parts.now) (focus.Link assoc)) }
+{
+    let writings = link_writings(alloc, parts, assoc)?;
     pattern_by(alloc, parts.store, writings)
 }

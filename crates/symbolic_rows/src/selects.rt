@@ -71,8 +71,8 @@ fn meet(atoms: &[AtomOf], cond: &Cond) -> bool
     }
 }
 
-// What is told of a property.
-fn atom_at(atoms: &[AtomOf], prop: PropId) -> Option<&AtomOf>
+/// What is told of a property.
+pub fn atom_at(atoms: &[AtomOf], prop: PropId) -> Option<&AtomOf>
     ensures { option_map (λ told. told.now) result ≡ told_of atoms.now prop }
 {
     atoms.iter().find(|told| told.prop.index == prop.index)
@@ -90,8 +90,8 @@ fn atom_passes(test: &Test, atom: &Atom) -> bool
     }
 }
 
-// Whether a value passes a test. Null equals no value.
-fn passes(test: &Test, value: &Value) -> bool
+/// Whether a value passes a test. Null equals no value.
+pub fn passes(test: &Test, value: &Value) -> bool
     ensures { result ≡ passes test.now value.now }
 {
     match test {

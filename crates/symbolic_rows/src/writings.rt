@@ -2,8 +2,7 @@ ghost use Rattle.std.specs.Prelude.{◌≡◌, ◌++◌, ◌==◌, ◌&&◌, IfO
 ghost use Rattle.std.specs.List.{enumerate_from};
 ghost use Rattle.cells.specs.Parts.{AreParts};
 ghost use Rattle.region_basis.specs.BasisOf.{basis_of};
-ghost use Rattle.regions.specs.Patterns.{writings_of};
-ghost use Rattle.regions.specs.Symbols.{fragment_writing, fragments_of, link_fragment_writing, link_fragments_of, selects_region};
+ghost use Rattle.regions.specs.Symbols.{fragment_writing, fragments_of, link_fragment_writing, link_fragments_of, link_writings, region_writings, selects_region};
 ghost use Rattle.symbolic_rows.specs.Written.{in_symbols, writings_by};
 
 use crate::hosting::add_hosted_by;
@@ -12,22 +11,35 @@ use crate::writing::{Writing, fragment_writing, link_fragment_writing};
 use cells::Parts;
 use edm_types::Fragment;
 use emc_base::{AssocId, Memory};
-use regions::{Focus, Region};
+use regions::Region;
 use std::alloc::Global;
 
-/// What an entity of a region writes with its hosted links, or a link of a joined association. `Memory` comes where memory ran out.
-pub fn writings_of(alloc: Global, parts: &Parts<'_>, focus: &Focus) -> Result<Vec<Writing>, Memory>
+/// What an entity of a region writes with its hosted links. `Memory` comes where memory ran out.
+pub fn region_writings(
+    alloc: Global,
+    parts: &Parts<'_>,
+    region: &Region,
+) -> Result<Vec<Writing>, Memory>
     requires { AreParts parts.now }
-    ensures { IfOk result (λ writings. map in_symbols writings.items ≡ writings_of (basis_of parts.now) focus.now) }
+    ensures { IfOk result (λ writings. map in_symbols writings.items ≡ region_writings (basis_of parts.now) region.now) }
 {
     let mut writings = Vec::new(alloc);
-    match focus {
-        Focus::Entity(region) => {
-            add_entities(alloc, parts, region, &mut writings)?;
-            add_hosted(alloc, parts, region, &mut writings)?;
-        }
-        Focus::Link(assoc) => add_links(alloc, parts, *assoc, &mut writings)?,
-    }
+    add_entities(alloc, parts, region, &mut writings)?;
+    add_hosted(alloc, parts, region, &mut writings)?;
+    Ok(writings)
+}
+
+/// What a link of a joined association writes. `Memory` comes where memory ran out.
+pub fn link_writings(
+    alloc: Global,
+    parts: &Parts<'_>,
+    assoc: AssocId,
+) -> Result<Vec<Writing>, Memory>
+    requires { AreParts parts.now }
+    ensures { IfOk result (λ writings. map in_symbols writings.items ≡ link_writings (basis_of parts.now) assoc) }
+{
+    let mut writings = Vec::new(alloc);
+    add_links(alloc, parts, assoc, &mut writings)?;
     Ok(writings)
 }
 
@@ -49,8 +61,8 @@ fn add_entities(
     Ok(())
 }
 
-// Whether a fragment writes the entities of the region.
-fn writes(parts: &Parts<'_>, region: &Region, fragment: &Fragment) -> bool
+/// Whether a fragment is one of the region's set and selects the region's entities.
+pub fn writes(parts: &Parts<'_>, region: &Region, fragment: &Fragment) -> bool
     requires { AreParts parts.now }
     ensures { result ≡ ((fragment.now.set.index == region.now.set.index) && selects_region (basis_of parts.now) region.now fragment.now) }
 {

@@ -1,24 +1,5 @@
-use Rattle.sound_demand.proofs.Deriving.{decides_types}
-use Rattle.region_laws.proofs.Domains.{decides_domains}
-use Rattle.cells.specs.Parts.{schema_in}
-use Rattle.region_basis.proofs.Groups.{constants_told, tested_told}
-use Rattle.region_basis.proofs.Hosts.{hosted_is, hosts_in_order, is_hosted}
+use Rattle.region_basis.proofs.Bases.{basis_is}
 use Rattle.region_basis.proofs.parts_are_a_basis.Goals as goal
 
 pub returns : goal.returns
-returns c = record {
-  basis = λ parts are.
-      let schema = schema_in parts in
-      let groups = parts.cells.now.groups in
-      let places = parts.cells.now.places in
-      record {
-        sound = are.sound;
-        types = decides_types schema.model are.sound.model;
-        domains = decides_domains;
-        groups = are.cells.groups.same;
-        constants = constants_told schema groups are.cells.groups;
-        tested = tested_told schema groups are.cells.groups;
-        hosts = λ s host. (hosted_is schema are.sound places are.cells.places s host, is_hosted schema are.sound places are.cells.places s host);
-        order = hosts_in_order schema are.sound places are.cells.places;
-      };
-}
+returns c = record { basis = basis_is }

@@ -5,7 +5,8 @@ use Rattle.round_trip.specs.Words.{Assoc, AssocId}
 use Rattle.regions.specs.Basis.{Host}
 use Rattle.regions.specs.Regions.{flagged, flags_at}
 use Rattle.region_basis.specs.BasisOf.{basis_of, host_at}
-use Rattle.region_lists.specs.Listing.{beside, hosts_told, joined_choices}
+use Rattle.region_basis.specs.BasisOf.{hosts_told}
+use Rattle.region_lists.specs.Listing.{beside, joined_choices}
 use Rattle.region_lists.proofs.Further.{joined_more}
 use Rattle.region_lists.proofs.Hosts.{flags_here, hosts_before, hosts_here, hosts_more, hosts_whole}
 use Rattle.region_lists.proofs.choices.linked_choices.Goals as goal

@@ -8,7 +8,7 @@ use Rattle.regions.specs.Regions.{Holds}
 use Rattle.regions.specs.declared.region.Region.{Region}
 use Rattle.region_basis.specs.BasisOf.{basis_of}
 use Rattle.region_search.specs.Standing.{FindsEqual, region_cmp}
-use Rattle.region_search.proofs.Bases.{basis_is}
+use Rattle.region_basis.proofs.Bases.{basis_is}
 use Rattle.region_search.proofs.Finding.{none_equal, none_other}
 use Rattle.region_search.proofs.search.find_region.Goals as goal
 

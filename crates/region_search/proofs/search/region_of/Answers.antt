@@ -5,7 +5,7 @@ use Rattle.regions.specs.declared.region.Region.{Region}
 use Rattle.region_laws.specs.RegionAt.{region_at}
 use Rattle.region_laws.proofs.Regions.{region_among, region_holds, region_only}
 use Rattle.region_basis.specs.BasisOf.{basis_of}
-use Rattle.region_search.proofs.Bases.{basis_is}
+use Rattle.region_basis.proofs.Bases.{basis_is}
 use Rattle.region_search.proofs.search.region_of.Goals as goal
 
 -- the region of the entity is listed, and holds it

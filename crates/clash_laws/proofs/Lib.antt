@@ -1,0 +1,12 @@
+pub mod Found
+pub mod Listed
+pub mod Clashing
+pub mod Ends
+pub mod Single
+pub mod Others
+pub mod Values
+pub mod Fails
+pub mod Clear
+pub mod Written
+pub mod Partners
+pub mod Told

@@ -1,0 +1,73 @@
+-- Where no association set is declared, conflicts are exact: kind by kind, by the laws of each.
+use Rattle.std.proofs.Common.{◌↔◌, arith}
+use Rattle.round_trip.specs.Words.{SetId}
+use Rattle.round_trip.specs.declared.FailKind.{FailKind}
+use Rattle.round_trip.specs.declared.FailKind.TheVariants as variant
+use Rattle.cells.specs.Limits.{IsWithinLimits}
+use Rattle.regions.specs.Basis.{Basis}
+use Rattle.region_laws.specs.IsBasis.{IsBasis}
+use Rattle.region_laws.specs.Partners.{HasFewPartners}
+use Rattle.conflicts.specs.declared.conflict.Conflict.{Conflict}
+use Rattle.conflicts.specs.declared.conflict.Conflict.TheVariants as conflict
+use Rattle.conflicts.specs.Conflicts.{IsConflictAt}
+use Rattle.conflicts.specs.There.{FailsThere, NoneFailsBefore, NoneFailsBy}
+use Rattle.region_states.specs.Hosting.{HostsFocuses}
+use Rattle.region_states.specs.LoneStates.{HasNoAssociationSets, empty_state, lone_focus}
+use Rattle.region_states.proofs.Alike.{lone_hosts, lone_leaves, lone_rivals}
+use Rattle.region_states.proofs.Legal.{no_host}
+use Rattle.clash_laws.proofs.Fails.{fails_there}
+use Rattle.clash_laws.proofs.Told.{clash_told}
+use Rattle.null_laws.proofs.Failing.{null_there}
+use Rattle.null_laws.proofs.Telling.{null_told}
+use Rattle.disagreement_laws.proofs.Failing.{there}
+use Rattle.disagreement_laws.proofs.Told.{told}
+use Rattle.same_laws.specs.States.{HasStates}
+use Rattle.same_laws.proofs.There.{same_there}
+use Rattle.same_laws.proofs.ToldThere.{same_told}
+
+module _ (basis : Basis) (is : IsBasis basis) (limits : IsWithinLimits basis.schema) (none : HasNoAssociationSets basis.schema.model) where
+  -- nothing is hosted, so partners are few
+  few : (s : SetId) → HasFewPartners basis s
+  few s = λ host has assoc here. absurd (no_host basis is none s host has)
+
+  -- the states of one entity
+  hosts : HostsFocuses basis (lone_focus basis)
+  hosts = lone_hosts basis is none
+
+  -- no legal state clashes, so there are the states that the laws on same tables ask for
+  states : NoneFailsBy basis.schema variant.Clash
+      → HasStates basis (lone_focus basis) (λ one values two others. (lone_focus basis one values, lone_focus basis two others))
+      (λ region values. (lone_focus basis region values, empty_state basis.schema.model))
+  states clear = record {
+    is_basis = is;
+    limits = limits;
+    hosts = hosts;
+    rival = lone_rivals basis is none;
+    leaves = lone_leaves basis is none;
+    few = few;
+    no_clash = clear;
+  }
+
+  -- no conflict is of the kind dangling
+  never_dangling : (found : Conflict) (s : SetId) → IsConflictAt basis s variant.Dangling found → ⊥
+  never_dangling (conflict.Clash focus t col one two) s is_at = (let kind = is_at.of_kind in cc)
+  never_dangling (conflict.NullIn focus t col one) s is_at = (let kind = is_at.of_kind in cc)
+  never_dangling (conflict.Disagree focus place) s is_at = (let kind = is_at.of_kind in cc)
+  never_dangling (conflict.Absent region) s is_at = (let kind = is_at.of_kind in cc)
+  never_dangling (conflict.Rival one two) s is_at = (let kind = is_at.of_kind in cc)
+  never_dangling (conflict.Lost region p) s is_at = (let kind = is_at.of_kind in cc)
+
+  -- each kind by its laws
+  pub exact : (kind : FailKind) → NoneFailsBefore basis.schema kind → (s : SetId)
+      → ((found : Conflict) × IsConflictAt basis s kind found) ↔ FailsThere basis s kind
+  exact variant.Clash before s =
+      (λ found. fails_there basis is limits (lone_focus basis) hosts s found.0 found.1, clash_told basis is limits s)
+  exact variant.Null before s =
+      (λ found. null_there basis is limits (lone_focus basis) hosts (before variant.Clash (omega (arith))) s found.0 found.1, null_told basis is s (few s))
+  exact variant.Disagrees before s =
+      let clear = before variant.Clash (omega (arith)) in
+      (λ found. there basis is limits (lone_focus basis) hosts clear s found.0 found.1, told basis is limits (lone_focus basis) hosts clear s (few s))
+  exact variant.Dangling before s = (λ found. absurd (never_dangling found.0 s found.1), λ fails. absurd fails.fails)
+  exact variant.Same before s =
+      let all = states (before variant.Clash (omega (arith))) in
+      (λ found. same_there _ _ _ _ all s found.0 found.1, same_told _ _ _ _ all (before variant.Disagrees (omega (arith))) s)

@@ -1,0 +1,4 @@
+pub mod Facts
+pub mod SameFacts
+pub mod Conflicts
+pub mod There

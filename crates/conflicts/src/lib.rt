@@ -1,0 +1,6 @@
+//! Conflicts: what makes some legal entity state fail, told by regions and symbols.
+#![tactic(auto)]
+
+mod conflict;
+
+pub use conflict::Conflict;

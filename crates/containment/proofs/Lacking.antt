@@ -1,0 +1,75 @@
+-- Nulls of a region by the rows of its pattern, by the columns of a row, and by the symbols of a cell.
+use Rattle.std.proofs.Common.{◌≡◌, ◌≢◌, ◌&&◌, List, [], ◌∷◌, slice_get, All, Contains, find, None, Option, Some, Bool, not, false, true≢false, IsTrue, refl, sym, ap, subst, ◌∙◌}
+use Rattle.std.specs.Option.{option_map_or}
+use Rattle.std.proofs.lemmas.Bool.{and_from, and_parts, false_from_ne_true}
+use Rattle.std.proofs.lemmas.List.Elements.{All-contains}
+use Rattle.std.proofs.lemmas.Option.{none-some}
+use Rattle.round_trip.specs.Words.{At, ColId, Column, StoreModel, Table, TableId}
+use Rattle.regions.specs.Basis.{Basis}
+use Rattle.regions.specs.Patterns.{pattern_of}
+use Rattle.regions.specs.Settled.{possible}
+use Rattle.regions.specs.Shown.{cell_in}
+use Rattle.regions.specs.declared.pattern.Focus.TheVariants as focus
+use Rattle.regions.specs.declared.pattern.PatternRow.{PatternRow}
+use Rattle.regions.specs.declared.pattern.Symbol.{Symbol}
+use Rattle.regions.specs.declared.region.Region.{Region}
+use Rattle.pattern_laws.proofs.Choices.{found_passes, none_passes}
+use Rattle.conflicts.specs.Facts.{can_be_null, has_row, is_null_in, is_required, listed_in, lists, stands_for_null}
+use Rattle.clash_laws.proofs.Listed.{Decides-lists}
+use Rattle.null_laws.proofs.Listed.{Decides-row}
+use Rattle.containment.specs.Cells.{HasNoGap, lacks}
+use Rattle.containment.proofs.Listed.{listed_row}
+
+module _ (basis : Basis) (region : Region) where
+  abbrev is_nullable : Symbol → Bool
+  is_nullable one = can_be_null (possible basis.schema.model region.atoms one)
+
+  abbrev stands : List Symbol → Symbol → Bool
+  stands cell one = stands_for_null basis (focus.Entity region) cell one
+
+  -- a symbol that can be null
+  pub symbol_stands : (cell : List Symbol) (one : Symbol) → find is_nullable cell ≡ Some one → IsTrue (stands cell one)
+  symbol_stands [] one is = absurd (none-some one is)
+  symbol_stands (first ∷ others) one is =
+      let found = found_passes is_nullable (first ∷ others) one is in
+      and_from (lists (first ∷ others) one) (is_nullable one) ((Decides-lists (first ∷ others) one).1 found.0) found.1
+
+  -- where symbols are listed and none can be null
+  pub none_stands : (cell : List Symbol) → cell ≢ [] → find is_nullable cell ≡ None → (one : Symbol) → stands cell one ≡ false
+  none_stands [] some none one = absurd (some refl)
+  none_stands (first ∷ others) some none one = false_from_ne_true (stands (first ∷ others) one) (λ told.
+      let parts = and_parts (lists (first ∷ others) one) (is_nullable one) told in
+      none_passes is_nullable (first ∷ others) one none ((Decides-lists (first ∷ others) one).0 parts.0) parts.1)
+
+  abbrev rows : List PatternRow
+  rows = (pattern_of basis (focus.Entity region)).rows
+
+  -- a null in a row of the pattern
+  pub null_told : (row : PatternRow) → Contains rows row → (t : TableId) (col : ColId) (one : Symbol) → row.table ≡ t → IsTrue (lacks basis region row col one)
+      → IsTrue (is_null_in basis (focus.Entity region) t col one)
+  null_told row has t col one of_table lack =
+      let required = is_required basis.schema.store row.table col in
+      let parts = and_parts required (stands (cell_in row col) one) lack in
+      let P : TableId → Type 0 = λ u. IsTrue (is_null_in basis (focus.Entity region) u col one) in
+      let Q : List Symbol → Type 0 = λ cell. IsTrue (stands cell one) in
+      subst P of_table
+      (and_from (has_row (pattern_of basis (focus.Entity region)) row.table && required) (stands (listed_in (pattern_of basis (focus.Entity region)) row.table col) one)
+      (and_from (has_row (pattern_of basis (focus.Entity region)) row.table) required ((Decides-row (pattern_of basis (focus.Entity region)) row.table).1 (row, has, refl)) parts.0)
+      (subst Q (sym (listed_row basis (focus.Entity region) row has col)) parts.1))
+
+  -- where no row has a null there is none
+  pub null_none : All (HasNoGap basis region) rows → (t : TableId) (col : ColId) (one : Symbol) → is_null_in basis (focus.Entity region) t col one ≡ false
+  null_none none t col one = false_from_ne_true (is_null_in basis (focus.Entity region) t col one) (λ told.
+      let pattern = pattern_of basis (focus.Entity region) in
+      let there = (Decides-row pattern t).0
+      (and_parts (has_row pattern t) (is_required basis.schema.store t col)
+      (and_parts (has_row pattern t && is_required basis.schema.store t col) (stands (listed_in pattern t col) one) told).0).0 in
+      let row = there.0 in
+      let P : TableId → Type 0 = λ u. IsTrue (is_null_in basis (focus.Entity region) u col one) in
+      let here : P row.table = subst P (sym there.2) told in
+      let parts = and_parts (has_row pattern row.table && is_required basis.schema.store row.table col) (stands (listed_in pattern row.table col) one) here in
+      let Q : List Symbol → Type 0 = λ cell. IsTrue (stands cell one) in
+      true≢false (sym (and_from (is_required basis.schema.store row.table col) (stands (cell_in row col) one)
+      (and_parts (has_row pattern row.table) (is_required basis.schema.store row.table col) parts.0).1
+      (subst Q (listed_row basis (focus.Entity region) row there.1 col) parts.1))
+      ∙ All-contains (HasNoGap basis region) rows row none there.1 col one))

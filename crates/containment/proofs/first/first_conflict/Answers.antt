@@ -1,0 +1,12 @@
+use Rattle.std.proofs.Common.{Ok, Err}
+use Rattle.region_basis.specs.BasisOf.{basis_of}
+use Rattle.region_basis.proofs.Bases.{basis_is}
+use Rattle.conflict_laws.proofs.Exact.{exact}
+use Rattle.containment.proofs.Exact.{found_exactly}
+use Rattle.containment.proofs.first.first_conflict.Goals as goal
+
+pub returns-clause-exact : goal.returns-clause-exact
+returns-clause-exact c none before =
+    let parts = c.args.parts.now in
+    found_exactly (basis_of parts) c.args.set c.args.kind c.conflict_of.result c.conflict_of.ensures.told c.conflict_of.ensures.free
+    (exact (basis_of parts) (basis_is parts c.requires.parts) c.requires.parts.limits none c.args.kind before c.args.set)

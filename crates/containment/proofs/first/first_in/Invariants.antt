@@ -1,0 +1,8 @@
+use Rattle.std.proofs.Common.{All, None, take}
+use Rattle.region_basis.specs.BasisOf.{basis_of}
+use Rattle.containment.specs.Found.{FindsOne}
+use Rattle.containment.proofs.first.first_in.Given as goal
+
+-- the regions so far have no conflict
+abbrev pub invariant-loop-region : goal.invariant-loop-region
+invariant-loop-region l = All (λ region. FindsOne (basis_of l.parts) region l.kind None) (take l.region-index l.region-items)

@@ -1,0 +1,8 @@
+use Rattle.std.proofs.Common.{All, take}
+use Rattle.region_basis.specs.BasisOf.{basis_of}
+use Rattle.containment.specs.Cells.{HasNoGap}
+use Rattle.containment.proofs.nulls.gap_in.Given as goal
+
+-- the rows so far have no gap
+abbrev pub invariant-loop-row : goal.invariant-loop-row
+invariant-loop-row l = All (HasNoGap (basis_of l.parts) l.region) (take l.row-index l.rows)

@@ -1,0 +1,32 @@
+use Rattle.std.proofs.Common.{List, All, Any, sym, subst, ap, ◌∙◌}
+use Rattle.round_trip.specs.declared.FailKind.TheVariants as kind
+use Rattle.state_demand.proofs.Lists.{of_any}
+use Rattle.regions.specs.declared.pattern.Pattern.{Pattern}
+use Rattle.regions.specs.declared.pattern.PatternRow.{PatternRow}
+use Rattle.region_basis.specs.BasisOf.{basis_of}
+use Rattle.conflicts.specs.declared.conflict.Conflict.{Conflict}
+use Rattle.containment.specs.Cells.{GapsIn, HasNoGap}
+use Rattle.containment.specs.Found.{IsOneOf}
+use Rattle.containment.specs.Lent.{symbol_of}
+use Rattle.containment.proofs.Lacking.{null_none, null_told}
+use Rattle.containment.proofs.OfKind.{is_null_one, no_null_one}
+use Rattle.containment.proofs.nulls.null_at.Goals as goal
+
+pub returns-in_ok-told-in-Some : goal.returns-in_ok-told-in-Some
+returns-in_ok-told-in-Some c =
+    let basis = basis_of c.args.parts.now in
+    let region = c.args.region.now in
+    let gap = c.in-Some.gap in
+    let P : List PatternRow → Type 0 = λ rows. Any (GapsIn basis region gap) rows in
+    let found = of_any (GapsIn basis region gap) _ (subst P (c.as_slice.ensures.items ∙ ap (λ (pattern : Pattern). pattern.rows) c.requires) c.in-Some.ensures.found) in
+    let Q : Conflict → Type 0 = λ made. IsOneOf basis region kind.Null made in
+    subst Q (sym c.in_ok-told-in-Some.ensures)
+    (is_null_one basis region gap.table gap.col (symbol_of gap.lack) (null_told basis region found.0 found.1 gap.table gap.col (symbol_of gap.lack) found.2.0 found.2.1))
+
+pub returns-in-None : goal.returns-in-None
+returns-in-None c =
+    let basis = basis_of c.args.parts.now in
+    let region = c.args.region.now in
+    let P : List PatternRow → Type 0 = λ rows. All (HasNoGap basis region) rows in
+    no_null_one basis region
+    (null_none basis region (subst P (c.as_slice.ensures.items ∙ ap (λ (pattern : Pattern). pattern.rows) c.requires) c.in-None.ensures.none))

@@ -1,0 +1,10 @@
+//! The exact tests of four of the ways in which legal states fail: over the regions of a set and their patterns.
+#![tactic(auto)]
+
+mod clashes;
+mod disagreements;
+mod first;
+mod nulls;
+mod shown;
+
+pub use first::first_conflict;

@@ -1,0 +1,20 @@
+-- What the states that are shown of a conflict rest on.
+-- Source: this project's.
+use Rattle.round_trip.specs.Words.{SetId}
+use Rattle.cells.specs.declared.parts.Parts.{Parts}
+use Rattle.cells.specs.Parts.{AreParts, schema_in}
+use Rattle.region_laws.specs.IsBasis.{IsBasis}
+use Rattle.region_basis.specs.BasisOf.{basis_of}
+use Rattle.region_states.specs.LoneStates.{HasNoAssociationSets}
+use Rattle.conflicts.specs.Conflicts.{IsConflictAt, kind_of}
+use Rattle.conflicts.specs.There.{NoneFailsBefore}
+use Rattle.conflicts.specs.declared.conflict.Conflict.{Conflict}
+
+-- sound parts without association sets, and a conflict of a set, before whose kind no legal state fails
+pub record IsFirstConflict (parts : Parts) (conflict : Conflict) : Type 0 where
+  pub are : AreParts parts
+  pub is_basis : IsBasis (basis_of parts)
+  pub alone : HasNoAssociationSets (schema_in parts).model
+  pub of_set : SetId
+  pub is_conflict : IsConflictAt (basis_of parts) of_set (kind_of conflict) conflict
+  pub earlier : NoneFailsBefore (schema_in parts) (kind_of conflict)

@@ -1,0 +1,3 @@
+pub mod FirstConflict
+pub mod CellPlaces
+pub mod Shown

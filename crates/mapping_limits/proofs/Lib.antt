@@ -1,0 +1,5 @@
+pub mod Firsts
+pub mod Turns
+pub mod Told
+pub mod Kept
+pub mod Bases

@@ -1,0 +1,5 @@
+pub mod Listed
+pub mod Required
+pub mod Nulls
+pub mod Failing
+pub mod Telling

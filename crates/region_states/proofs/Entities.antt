@@ -1,0 +1,78 @@
+-- An entity that is made of values has them, and so does all that is told of these values.
+use Rattle.std.proofs.Common.{◌≡◌, ◌≢◌, All, Contains, refl, sym, subst, ◌∙◌}
+use Rattle.std.proofs.lemmas.List.Elements.{All-contains}
+use Rattle.emc_base.proofs.Lists.{all_from_members}
+use Rattle.round_trip.specs.Words.{SetId, PropId, TableId, ColId, Value, Null, Entity, props_of, value_of}
+use Rattle.soundness.specs.Joined.{prop}
+use Rattle.condition_logic.specs.declared.atoms.AtomOf.{AtomOf}
+use Rattle.state_demand.proofs.Owners.{beside_map}
+use Rattle.regions.specs.declared.region.Region.{Region}
+use Rattle.regions.specs.declared.pattern.Focus.TheVariants as focus
+use Rattle.regions.specs.declared.pattern.Symbol.{Symbol}
+use Rattle.regions.specs.declared.pattern.Symbol.TheVariants as symbol
+use Rattle.regions.specs.Atoms.{Allows, LiesIn}
+use Rattle.regions.specs.Basis.{Basis}
+use Rattle.regions.specs.Patterns.{Valuation, by_entity, pattern_of, value_under}
+use Rattle.regions.specs.Regions.{regions_of}
+use Rattle.region_laws.specs.IsBasis.{IsBasis}
+use Rattle.pattern_laws.specs.Allowed.{IsAllowed}
+use Rattle.pattern_laws.specs.Listed.{Lists}
+use Rattle.pattern_laws.proofs.Laws.{listed_from}
+use Rattle.pattern_laws.proofs.Standing.{listed_prop}
+use Rattle.pattern_laws.proofs.Types.{key_among}
+use Rattle.default_values.specs.Admissible.{IsAdmissible}
+use Rattle.default_values.specs.Short.{IsShort}
+use Rattle.default_values.proofs.Listed.{told_is}
+use Rattle.region_states.specs.Entities.{focus_entity}
+
+module _ (basis : Basis) (region : Region) (values : Valuation) where
+  -- the values of the entity, with the same partners
+  abbrev pub by_focus : Valuation
+  by_focus = by_entity basis.schema.model (focus_entity basis region values) values.part
+
+  -- a property of the type has its value
+  pub has_value : (p : PropId) → Contains (props_of basis.schema.model region.ty) p → value_of basis.schema.model (focus_entity basis region values) p ≡ values.prop p
+  has_value p among = beside_map values.prop (props_of basis.schema.model region.ty) p among
+
+  -- and so what is so of the value is so of the entity's
+  pub carried : (p : PropId) → Contains (props_of basis.schema.model region.ty) p → (P : Value → Type 0) → P (values.prop p)
+      → P (value_of basis.schema.model (focus_entity basis region values) p)
+  carried p among P holds = subst P (sym (has_value p among)) holds
+
+module _ (basis : Basis) (is : IsBasis basis) (s : SetId) (region : Region) (has : Contains (regions_of basis s) region) (values : Valuation) where
+  abbrev entity : Entity
+  entity = focus_entity basis region values
+
+  -- each symbol that is listed has the same value by the entity
+  pub symbol_value : (t : TableId) (c : ColId) (one : Symbol) → Lists (pattern_of basis (focus.Entity region)) t c one
+      → value_under (by_focus basis region values) one ≡ value_under values one
+  symbol_value t c symbol.Null lists = refl
+  symbol_value t c (symbol.Const value) lists = refl
+  symbol_value t c (symbol.Prop p) lists =
+      has_value basis region values p (listed_prop basis is s region has t c p (listed_from basis is (focus.Entity region) t c (symbol.Prop p) lists))
+  symbol_value t c (symbol.End a first p) lists = refl
+
+  -- what is told of the region's atoms is told of the entity's values
+  pub atoms_lie : IsAllowed basis region values → All (λ told. LiesIn (basis.constants (prop told.prop)) told.atom (value_of basis.schema.model entity told.prop)) region.atoms
+  atoms_lie allowed =
+      let Lies : AtomOf → Type 0 = λ told. LiesIn (basis.constants (prop told.prop)) told.atom (values.prop told.prop) in
+      all_from_members (λ (told : AtomOf). LiesIn (basis.constants (prop told.prop)) told.atom (value_of basis.schema.model entity told.prop)) region.atoms
+      (λ told there. carried basis region values told.prop (told_is basis is s region has told there).of_type
+      (LiesIn (basis.constants (prop told.prop)) told.atom) (All-contains Lies region.atoms told allowed.atoms there))
+
+  -- allowed values are allowed of the entity
+  pub allowed_by : IsAllowed basis region values → IsAllowed basis region (by_focus basis region values)
+  allowed_by allowed = record {
+    atoms = atoms_lie allowed;
+    props = λ p declared among here. carried basis region values p among (Allows declared) (allowed.props p declared among here);
+    parts = allowed.parts;
+  }
+
+  -- and so are admissible ones
+  pub admissible_by : IsAdmissible basis region values → IsAdmissible basis region (by_focus basis region values)
+  admissible_by admissible = record {
+    allowed = allowed_by admissible.allowed;
+    keys = λ p key. has_value basis region values p (key_among basis.schema.model is.sound.model p region.ty key) ∙ admissible.keys p key;
+    partners = admissible.partners;
+    dependent = λ p among by. carried basis region values p among (λ v. v ≢ Null → IsShort v) (admissible.dependent p among by);
+  }

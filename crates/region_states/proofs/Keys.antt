@@ -1,0 +1,39 @@
+-- The key of an entity of admissible values: numbered, and the same for each region of a set.
+use Rattle.std.proofs.Common.{◌≡◌, List, map, Contains, sym, ap, ◌∙◌}
+use Rattle.round_trip.specs.Words.{SetId, PropId, Value, EntityModel, key_of, key_props, value_of}
+use Rattle.soundness.specs.Lookups.{set_key}
+use Rattle.state_demand.proofs.Places.{map_agree}
+use Rattle.regions.specs.declared.region.Region.{Region}
+use Rattle.regions.specs.Basis.{Basis}
+use Rattle.regions.specs.Patterns.{Valuation}
+use Rattle.regions.specs.Regions.{regions_of}
+use Rattle.region_laws.specs.IsBasis.{IsBasis}
+use Rattle.region_laws.proofs.Listed.{set_is}
+use Rattle.pattern_laws.proofs.Regions.{key_is}
+use Rattle.pattern_laws.proofs.Types.{key_among}
+use Rattle.default_values.specs.Admissible.{IsAdmissible}
+use Rattle.default_values.specs.Defaults.{fresh_at, place_in}
+use Rattle.default_values.specs.Fresh.{focus_key}
+use Rattle.region_states.specs.Entities.{focus_entity}
+use Rattle.region_states.proofs.Entities.{has_value}
+
+-- the numbered values of these parts of a key
+abbrev pub numbered_key : EntityModel → List PropId → List Value
+numbered_key model key = map (λ p. fresh_at model p (focus_key (place_in p key))) key
+
+module _ (basis : Basis) (is : IsBasis basis) (s : SetId) where
+  -- the key of an entity of admissible values is that of its set
+  pub focus_key_is : (region : Region) → Contains (regions_of basis s) region → (values : Valuation) → IsAdmissible basis region values
+      → key_of basis.schema.model (focus_entity basis region values) ≡ numbered_key basis.schema.model (set_key basis.schema.model s)
+  focus_key_is region has values admissible =
+      let key : List PropId = key_props basis.schema.model region.ty in
+      map_agree (value_of basis.schema.model (focus_entity basis region values)) (λ p. fresh_at basis.schema.model p (focus_key (place_in p key))) key
+      (λ p among. has_value basis region values p (key_among basis.schema.model is.sound.model p region.ty among) ∙ admissible.keys p among)
+      ∙ ap (numbered_key basis.schema.model) (key_is basis is s region has ∙ ap (set_key basis.schema.model) (set_is basis s region has))
+
+  -- and so entities of two regions of the set have one key
+  pub same_focus_key : (one two : Region) → Contains (regions_of basis s) one → Contains (regions_of basis s) two → (values others : Valuation)
+      → IsAdmissible basis one values → IsAdmissible basis two others
+      → key_of basis.schema.model (focus_entity basis two others) ≡ key_of basis.schema.model (focus_entity basis one values)
+  same_focus_key one two has_one has_two values others admissible admissible_too =
+      focus_key_is two has_two others admissible_too ∙ sym (focus_key_is one has_one values admissible)

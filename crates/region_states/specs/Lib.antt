@@ -1,0 +1,4 @@
+pub mod Entities
+pub mod LoneStates
+pub mod Hosting
+pub mod BasePopulation

@@ -1,0 +1,64 @@
+//! Legal states that hold an entity of a region: which there are, and that there are such for each region where no association set is declared.
+#![tactic(auto)]
+
+ghost use Rattle.std.specs.Prelude.{◌≡◌, Contains, List};
+ghost use Rattle.round_trip.specs.Words.{ColId, Entity, EntityModel, IsLegal, PropId, SetId, State, TableId, Value, props_of, value_of};
+ghost use Rattle.cells.specs.Limits.{IsWithinLimits};
+ghost use Rattle.regions.specs.Basis.{Basis};
+ghost use Rattle.regions.specs.Patterns.{Valuation, by_entity, pattern_of, value_under};
+ghost use Rattle.regions.specs.Regions.{regions_of};
+ghost use Rattle.regions.specs.declared.pattern.Focus.TheVariants as focus;
+ghost use Rattle.regions.specs.declared.pattern.Symbol.{Symbol};
+ghost use Rattle.regions.specs.declared.region.Region.{Region};
+ghost use Rattle.region_laws.specs.IsBasis.{IsBasis};
+ghost use Rattle.pattern_laws.specs.Allowed.{IsAllowed};
+ghost use Rattle.pattern_laws.specs.Listed.{Lists};
+ghost use Rattle.focus_laws.specs.Held.{IsHeldAt};
+ghost use Rattle.default_values.specs.Admissible.{IsAdmissible};
+ghost use Rattle.conflicts.specs.There.{HasFewLinks};
+ghost use Rattle.region_states.specs.BasePopulation.{IsBaseFor, IsKeyOf, base_state};
+ghost use Rattle.region_states.specs.Entities.{focus_entity};
+ghost use Rattle.region_states.specs.Hosting.{HoldsFocus, HostsFocuses, HostsRivals, LeavesOut};
+ghost use Rattle.region_states.specs.LoneStates.{HasNoAssociationSets, HasOneAtMost, empty_state, lone_focus, lone_state};
+
+/// An entity that is made of values has them, and each symbol that the pattern of its region lists has the same value by the entity as by these. Where
+/// they are admissible, the entity's are.
+pub fn an_entity_has_its_values()
+    ensures values { (basis : Basis) (region : Region) (values : Valuation) (p : PropId) → Contains (props_of basis.schema.model region.ty) p
+        → value_of basis.schema.model (focus_entity basis region values) p ≡ values.prop p }
+    ensures symbols { (basis : Basis) → IsBasis basis → (s : SetId) (region : Region) → Contains (regions_of basis s) region → (values : Valuation) (t : TableId) (c : ColId)
+        (one : Symbol) → Lists (pattern_of basis (focus.Entity region)) t c one
+        → value_under (by_entity basis.schema.model (focus_entity basis region values) values.part) one ≡ value_under values one }
+    ensures admissible { (basis : Basis) → IsBasis basis → (s : SetId) (region : Region) → Contains (regions_of basis s) region → (values : Valuation)
+        → IsAdmissible basis region values → IsAdmissible basis region (by_entity basis.schema.model (focus_entity basis region values) values.part) }
+{}
+
+/// In a state that holds an entity of allowed values, the region holds it with the partners that are told; and it hosts few links.
+pub fn a_focus_is_held()
+    ensures held { (basis : Basis) → IsBasis basis → (s : SetId) (region : Region) → Contains (regions_of basis s) region → (values : Valuation) → IsAllowed basis region values
+        → (state : State) → HoldsFocus basis region values state → IsHeldAt basis state s (focus_entity basis region values) region values.part }
+    ensures few { (basis : Basis) → IsBasis basis → (s : SetId) (region : Region) → Contains (regions_of basis s) region → (values : Valuation) (state : State)
+        → HoldsFocus basis region values state → HasFewLinks basis state s (focus_entity basis region values) }
+{}
+
+/// Where no association set is declared, the states of one entity, and the empty one, are legal, and they are all that the tests for failing states ask for.
+pub fn lone_states_serve()
+    ensures legal { (basis : Basis) → IsBasis basis → HasNoAssociationSets basis.schema.model → (s : SetId) (region : Region) → Contains (regions_of basis s) region
+        → (values : Valuation) → IsAllowed basis region values → HoldsFocus basis region values (lone_focus basis region values) }
+    ensures empty { (basis : Basis) → IsBasis basis → HasNoAssociationSets basis.schema.model → IsLegal basis.schema.model (empty_state basis.schema.model) }
+    ensures hosts { (basis : Basis) → IsBasis basis → HasNoAssociationSets basis.schema.model → HostsFocuses basis (lone_focus basis) }
+    ensures rivals { (basis : Basis) → IsBasis basis → HasNoAssociationSets basis.schema.model
+        → HostsRivals basis (λ one values two others. (lone_focus basis one values, lone_focus basis two others)) }
+    ensures leaves { (basis : Basis) → IsBasis basis → HasNoAssociationSets basis.schema.model
+        → LeavesOut basis (λ region values. (lone_focus basis region values, empty_state basis.schema.model)) }
+    ensures small { (model : EntityModel) (s : SetId) (entity : Entity) → HasOneAtMost (lone_state model s entity) s entity × HasOneAtMost (empty_state model) s entity }
+{}
+
+/// Where no association set is declared, for each region and each key of its entities a legal state holds an entity of the region with this key, to which
+/// nothing refers: that of this entity alone.
+pub fn each_region_has_a_base_population()
+    ensures legal { (basis : Basis) → IsBasis basis → IsWithinLimits basis.schema → HasNoAssociationSets basis.schema.model → (s : SetId) (region : Region)
+        → Contains (regions_of basis s) region → (key : List Value) → IsKeyOf basis region key → IsLegal basis.schema.model (base_state basis region key) }
+    ensures holds { (basis : Basis) → IsBasis basis → IsWithinLimits basis.schema → HasNoAssociationSets basis.schema.model → (s : SetId) (region : Region)
+        → Contains (regions_of basis s) region → (key : List Value) → IsKeyOf basis region key → IsBaseFor basis s region key (base_state basis region key) }
+{}

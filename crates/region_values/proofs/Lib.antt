@@ -1,0 +1,11 @@
+pub mod Dropped
+pub mod Passed
+pub mod Groups
+pub mod Telling
+pub mod Among
+pub mod Candidates
+pub mod Others
+pub mod Tried
+pub mod Lost
+pub mod Faced
+pub mod Lone

@@ -1,0 +1,10 @@
+use Rattle.std.proofs.Common.{◌≡◌, map, take}
+use Rattle.default_values.specs.Defaults.{changed, default_valuation}
+use Rattle.region_basis.specs.BasisOf.{basis_of}
+use Rattle.rival_laws.specs.RivalValues.{rival_value}
+use Rattle.region_values.proofs.rivals.rival_entity.Given as goal
+
+-- the values of the properties so far have come
+abbrev pub invariant-loop-property : goal.invariant-loop-property
+invariant-loop-property l = l.values ≡ map (changed (default_valuation (basis_of l.parts) l.rival.region.now)
+    (rival_value (basis_of l.parts) l.rival.first.now l.rival.second.now l.rival.region.now l.rival.other.now)).prop (take l.property-index l.property-items)

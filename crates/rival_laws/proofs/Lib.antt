@@ -1,0 +1,12 @@
+pub mod Matching
+pub mod Told
+pub mod Clear
+pub mod Rows
+pub mod Linked
+pub mod Atoms
+pub mod Alike
+pub mod Reading
+pub mod Shared
+pub mod Rivals
+pub mod Facing
+pub mod Written

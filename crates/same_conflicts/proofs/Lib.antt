@@ -1,0 +1,12 @@
+mod Lists
+mod Walked
+mod Keyed
+mod Losing
+mod Beside
+mod Ordered
+mod Certain
+mod Grouping
+mod Pairs
+mod Left
+mod Bases
+mod Telling

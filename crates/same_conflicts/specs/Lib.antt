@@ -1,0 +1,6 @@
+pub mod Written
+pub mod Lost
+pub mod Matching
+pub mod Forms
+pub mod Groups
+pub mod Rivals

@@ -1,0 +1,13 @@
+//! Conflicts of two states with the same tables: entities that leave no row, values that leave no trace, and regions that are written alike.
+#![tactic(auto)]
+
+mod absent;
+mod first;
+mod forms;
+mod groups;
+mod lost;
+mod matching;
+mod rivals;
+mod written;
+
+pub use first::first_same;

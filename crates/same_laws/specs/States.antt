@@ -1,0 +1,22 @@
+-- What the laws on same tables ask for: states that hold entities of regions, and that nothing clashes.
+-- Source: this project's.
+use Rattle.round_trip.specs.Words.{State}
+use Rattle.round_trip.specs.declared.FailKind.TheVariants as kind
+use Rattle.cells.specs.Limits.{IsWithinLimits}
+use Rattle.regions.specs.declared.region.Region.{Region}
+use Rattle.regions.specs.Basis.{Basis}
+use Rattle.regions.specs.Patterns.{Valuation}
+use Rattle.region_laws.specs.IsBasis.{IsBasis}
+use Rattle.conflicts.specs.There.{NoneFailsBy}
+use Rattle.region_states.specs.Hosting.{HaveFewPartners, HostsFocuses, HostsRivals, LeavesOut}
+
+-- a basis of a schema within the limits, with states as the laws ask for them; no entity may have any number of partners, and no legal state clashes
+pub record HasStates (basis : Basis) (state : Region → Valuation → State) (rivals : Region → Valuation → Region → Valuation → State × State)
+    (leaving : Region → Valuation → State × State) : Type 0 where
+  pub is_basis : IsBasis basis
+  pub limits : IsWithinLimits basis.schema
+  pub hosts : HostsFocuses basis state
+  pub rival : HostsRivals basis rivals
+  pub leaves : LeavesOut basis leaving
+  pub few : HaveFewPartners basis
+  pub no_clash : NoneFailsBy basis.schema kind.Clash
