@@ -5,8 +5,6 @@ mod arrow;
 mod components;
 mod cycle;
 mod search;
-#[cfg(test)]
-mod tests;
 mod within;
 
 pub use arrow::Arrow;

@@ -2,7 +2,5 @@
 #![tactic(auto)]
 
 mod barred;
-#[cfg(test)]
-mod tests;
 
 pub use barred::Barred;

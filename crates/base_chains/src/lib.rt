@@ -9,8 +9,6 @@ mod jumping;
 mod marks;
 mod roots;
 mod sizes;
-#[cfg(test)]
-mod tests;
 mod walking;
 
 pub use above::places_above;

@@ -3,8 +3,6 @@
 
 mod found;
 mod repeats;
-#[cfg(test)]
-mod tests;
 
 pub use found::Found;
 pub use repeats::{first_repeat, first_repeated_key};

@@ -2,8 +2,6 @@
 #![tactic(auto)]
 
 mod numbers;
-#[cfg(test)]
-mod tests;
 mod values;
 
 pub use values::{spelled, value_of};

@@ -6,7 +6,5 @@ mod constraints;
 mod set_arrows;
 mod set_ends;
 mod set_rules;
-#[cfg(test)]
-mod tests;
 
 pub use set_rules::first_set_fault;

@@ -8,8 +8,6 @@ mod mults;
 mod named;
 mod rules;
 mod sides;
-#[cfg(test)]
-mod tests;
 
 pub use dependent::{Dependent, dependents};
 pub use matching::breaks_lists;

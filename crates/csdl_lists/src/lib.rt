@@ -5,8 +5,6 @@ mod bases;
 mod named;
 mod raw;
 mod scope;
-#[cfg(test)]
-mod tests;
 
 pub use bases::bases_of;
 pub use raw::{

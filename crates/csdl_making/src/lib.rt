@@ -10,8 +10,6 @@ mod model;
 mod props;
 mod sets;
 mod sizes;
-#[cfg(test)]
-mod tests;
 mod types;
 
 pub use ids::narrow;

@@ -6,8 +6,6 @@ mod climbs;
 mod lookups;
 mod repeated;
 mod tables;
-#[cfg(test)]
-mod tests;
 mod unresolved;
 
 pub use again::first_twice;

@@ -9,8 +9,6 @@ mod numbers;
 mod prop_types;
 mod simple;
 mod sizes;
-#[cfg(test)]
-mod tests;
 mod type_rules;
 mod typing;
 

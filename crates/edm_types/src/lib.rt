@@ -10,8 +10,6 @@ mod model;
 mod names;
 mod schema;
 mod store;
-#[cfg(test)]
-mod tests;
 
 pub use data::{Entity, Hosted, Link, Row};
 pub use faults::{Breach, LimitFault, LimitKind, RuleFault, VocabFault, VocabFile};

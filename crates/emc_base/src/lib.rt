@@ -8,8 +8,6 @@ mod memory;
 mod order;
 mod place;
 mod seq;
-#[cfg(test)]
-mod tests;
 mod txt;
 mod value;
 mod value_ref;

@@ -2,15 +2,11 @@
 #![tactic(auto)]
 
 mod disk_files;
-#[cfg(test)]
-mod fake;
 mod files;
 mod mem_files;
 mod mem_sink;
 mod out_sink;
 mod sink;
-#[cfg(test)]
-mod tests;
 
 pub use disk_files::DiskFiles;
 pub use files::{Files, ReadFault, ReplaceFault};

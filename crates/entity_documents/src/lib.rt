@@ -10,8 +10,6 @@ mod names;
 mod read;
 mod state;
 mod tables;
-#[cfg(test)]
-mod tests;
 
 pub use names::ModelNames;
 pub use state::{entity_of_node, key_of_node, link_of_node, state_of_doc};

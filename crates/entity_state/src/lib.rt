@@ -5,7 +5,5 @@ mod key_order;
 mod keys;
 mod state;
 mod state_tree;
-#[cfg(test)]
-mod tests;
 
 pub use state::EntityState;

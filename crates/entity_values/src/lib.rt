@@ -4,8 +4,6 @@
 mod compared;
 mod lists;
 mod rule;
-#[cfg(test)]
-mod tests;
 mod values;
 
 pub use compared::{has_values, have_no_null, have_same_values, is_null, is_null_at};

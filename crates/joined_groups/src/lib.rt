@@ -5,8 +5,6 @@ mod groups;
 mod labels;
 mod links;
 mod places;
-#[cfg(test)]
-mod tests;
 
 pub use groups::Groups;
 pub use labels::{Label, column_label, prop_label};

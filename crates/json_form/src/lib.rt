@@ -5,8 +5,6 @@ mod doc;
 mod node;
 mod pointer;
 mod step_order;
-#[cfg(test)]
-mod tests;
 mod tree;
 
 pub use doc::{Doc, DocFault};

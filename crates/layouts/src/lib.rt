@@ -2,22 +2,16 @@
 //! layout, at its first place.
 #![tactic(auto)]
 
-#[cfg(test)]
-mod documents;
 mod fault;
 mod form;
 mod leaf;
 mod mapping_layout;
-#[cfg(test)]
-mod member_documents;
 mod missing;
 mod model_layout;
 mod names;
 mod path;
 mod rule;
 mod store_layout;
-#[cfg(test)]
-mod tests;
 mod walk;
 
 pub use fault::Fault;

@@ -3,8 +3,6 @@
 
 mod finder;
 mod least;
-#[cfg(test)]
-mod tests;
 
 pub use finder::{Finder, first_among};
 pub use least::earlier;

@@ -2,7 +2,5 @@
 #![tactic(auto)]
 
 mod placed;
-#[cfg(test)]
-mod tests;
 
 pub use placed::{is_hosted, is_joined, is_placed};

@@ -3,7 +3,5 @@
 
 mod classes;
 mod joining;
-#[cfg(test)]
-mod tests;
 
 pub use classes::{Classes, Link};

@@ -10,7 +10,7 @@ use Rattle.mapping_cli.specs.declared.status.Status.TheVariants.{Done, MappingRe
 use Rattle.mapping_cli.specs.declared.words.Command.{Command}
 use Rattle.mapping_cli.specs.declared.words.Command.TheVariants.{Check}
 use Rattle.mapping_cli.specs.Commands.{command_of, inputs_of}
-use Rattle.mapping_cli.specs.Gives.{GivesInputs, GivesOn, GivesVerdict, Says}
+use Rattle.mapping_cli.specs.Gives.{GivesInputs, GivesOn, GivesVerdict, GivesWithin, Says}
 use Rattle.mapping_cli.specs.Inputs.{FailsToRead}
 use Rattle.mapping_cli.specs.Runs.{Ends, Finishes, Runs}
 use Rattle.mapping_cli.specs.Texts.{accepted_text, usage_text}
@@ -30,9 +30,13 @@ module _ (held : Option FileMap) (text : List ℕ) (status : Status) (left : Opt
   said : (told : List ℕ) (ended : Status) → IsOfText ended → Says held text status left told ended → IsOfText status
   said told ended good says = subst IsOfText (sym says.1) good
 
+  of_within : (schema : Schema) → GivesWithin held text status left (λ schema. Says held text status left accepted_text Done) schema → IsOfText status
+  of_within schema (inl accepted) = subst IsOfText (sym accepted.2.1) cc
+  of_within schema (inr fails) = subst IsOfText (sym fails.2.2.1) cc
+
   of_verdict : (schema : Schema) → GivesVerdict held text status left (λ schema. Says held text status left accepted_text Done) schema → IsOfText status
-  of_verdict schema (inl accepted) = subst IsOfText (sym accepted.1.1) cc
-  of_verdict schema (inr fails) = subst IsOfText (sym fails.2.2.1) cc
+  of_verdict schema (inl limit) = subst IsOfText (sym limit.2.1) cc
+  of_verdict schema (inr within) = of_within schema within.1
 
   of_command : (command : Command) (contents : List (List ℕ)) → GivesOn held text status left command contents → IsOfText status
   of_command Check contents (csdl, ssdl, msl, at_csdl, at_ssdl, at_msl, inl told) = subst IsOfText (sym told.2.1) cc

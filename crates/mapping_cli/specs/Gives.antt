@@ -1,15 +1,15 @@
 -- What a command prints, the status it ends with, and what it leaves in the files, by the content of its input files.
-use Rattle.std.specs.Prelude.{◌≡◌, ◌⊎◌, ℕ, List, Option, MatchOption}
+use Rattle.std.specs.Prelude.{◌≡◌, ◌⊎◌, ℕ, List, Option, Some, MatchOption}
 use Rattle.emc_files.specs.Files.{FileMap}
 use Rattle.emc_base.specs.Lists.{At}
-use Rattle.mapping_core.specs.Words.{Failure, IsFailureOf, IsToldRule, Keeps, Means, RuleFault, Schema}
+use Rattle.mapping_core.specs.Words.{Failure, IsFailureOf, IsFirstLimit, IsToldRule, Keeps, LimitFault, Means, PassesNoLimit, RoundTrips, RuleFault, Schema}
 use Rattle.mapping_cli.specs.declared.status.Status.{Status}
 use Rattle.mapping_cli.specs.declared.status.Status.TheVariants.{Done, MappingRefused, Usage, FileFault}
 use Rattle.mapping_cli.specs.declared.words.Command.{Command}
 use Rattle.mapping_cli.specs.declared.words.Command.TheVariants.{Check}
 use Rattle.mapping_cli.specs.Commands.{command_of, inputs_of}
 use Rattle.mapping_cli.specs.Inputs.{AreInputs, LacksInput}
-use Rattle.mapping_cli.specs.Texts.{accepted_text, IsFailText, rule_text, usage_text}
+use Rattle.mapping_cli.specs.Texts.{accepted_text, IsFailText, limit_text, rule_text, usage_text}
 
 -- held: the files before; text and status: what is printed, and how the program ends; left: the files afterwards
 module _ (held : Option FileMap) (text : List ℕ) (status : Status) (left : Option FileMap) where
@@ -17,11 +17,18 @@ module _ (held : Option FileMap) (text : List ℕ) (status : Status) (left : Opt
   abbrev pub Says : List ℕ → Status → Type 0
   Says told ended = (text ≡ told) × (status ≡ ended) × (left ≡ held)
 
-  -- The verdict on what documents mean that break no rule: what comes next, where it keeps every state; else a legal state that fails.
-  abbrev pub GivesVerdict : (Schema → Type 0) → Schema → Type 0
-  GivesVerdict Next schema = (Keeps schema × Next schema)
+  -- the same where no limit is passed
+  abbrev pub GivesWithin : (Schema → Type 0) → Schema → Type 0
+  GivesWithin Next schema = (RoundTrips schema × Keeps schema × Next schema)
       ⊎ ((failure : Failure) × IsFailureOf schema failure
       × ((told : List ℕ) × IsFailText schema.model failure told × Says told MappingRefused))
+
+  -- The verdict on what documents mean that break no rule: the first limit that is passed; or, where none is, a legal state that fails; or, where none does,
+  -- what comes next, and then every legal state is kept.
+  abbrev pub GivesVerdict : (Schema → Type 0) → Schema → Type 0
+  GivesVerdict Next schema =
+      ((fault : LimitFault) × IsFirstLimit schema (Some fault) × Says (limit_text fault) MappingRefused)
+      ⊎ (PassesNoLimit schema × GivesWithin Next schema)
 
   -- What every command does with its first three input files, which are the documents of a mapping: the rule that is told, or the verdict
   -- on what they mean.

@@ -1,5 +1,5 @@
 ghost use Rattle.std.specs.Prelude.{◌≤◌, IfOk, length};
-ghost use Rattle.mapping_core.specs.Words.{IsMeant, IsSoundSchema, IsTableForm};
+ghost use Rattle.mapping_core.specs.Words.{IsDecided, IsMeant, IsSoundSchema};
 ghost use Rattle.mapping_cli.specs.RunSteps.{AnswersOn, AnswersVerdict, RefusesBy};
 ghost use Rattle.mapping_cli.specs.declared.words.Command.TheVariants.{Check};
 
@@ -26,7 +26,7 @@ pub(crate) fn check(alloc: Global, contents: &Seq<Bin>) -> Result<Answer, Memory
 fn verdict_on(alloc: Global, schema: Schema) -> Result<Answer, Memory>
     requires meant { IsMeant schema }
     requires sound { IsSoundSchema schema }
-    requires form { IsTableForm schema }
+    requires form { IsDecided schema }
     ensures { IfOk result (AnswersVerdict schema) }
 {
     match decide(alloc, schema) {

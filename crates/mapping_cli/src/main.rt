@@ -4,12 +4,8 @@
 mod answer;
 mod check;
 mod commands;
-#[cfg(test)]
-mod forms;
 mod inputs;
 mod status;
-#[cfg(test)]
-mod tests;
 mod texts;
 mod words;
 

@@ -15,7 +15,6 @@ use Rattle.edm_types.specs.declared.faults.VocabFault.{VocabFault}
 use Rattle.edm_types.specs.declared.faults.VocabFault.TheVariants as read
 use Rattle.edm_types.specs.declared.faults.VocabFile.TheVariants.{Csdl, Ssdl, Msl}
 use Rattle.round_trip.specs.Words.{EntityModel, StoreModel, Mapping, Schema, VocabFile}
-use Rattle.soundness.specs.Mappings.{IsSoundSchema}
 use Rattle.csdl_lists.specs.Raw.{raw_model}
 use Rattle.csdl_meaning.specs.ModelMeaning.{meaning}
 use Rattle.csdl_model.specs.ModelFaults.{IsModelFault}
@@ -26,14 +25,14 @@ use Rattle.ssdl_model.specs.ReadsStore.{IsStoreOf}
 use Rattle.ssdl_model.specs.StoreFaults.{IsStoreFault}
 use Rattle.msl_lists.specs.Raw.{raw_mapping}
 use Rattle.msl_rules.specs.MappingFaults.{IsMappingFault}
-use Rattle.msl_rules.specs.MappingMeaning.{mapping_in, schema_in}
+use Rattle.msl_rules.specs.MappingMeaning.{schema_in}
 use Rattle.msl_fragments.specs.ReadsMapping.{IsMappingOf}
-use Rattle.table_form.specs.TableForm.{IsTableForm}
+use Rattle.mapping_core.specs.Accepted.{IsDecided}
 use Rattle.told_rules.specs.Reads.{Answers}
 use Rattle.told_rules.specs.Told.{IsToldOrMemory, told_as}
 use Rattle.mapping_core.specs.Compiles.{IsReadSchema, ReadsSchema}
 use Rattle.mapping_core.specs.Reading.{IsReadOf, ReadsFile, ReadsTree}
-use Rattle.mapping_core.specs.Rules.{Breaks, IsFaultBy, IsFileFault, IsToldRule, Means, bytes_of, file_number, model_in, schema_of_files, store_in, tree_in}
+use Rattle.mapping_core.specs.Rules.{Breaks, IsFaultBy, IsFileFault, IsToldRule, file_number, model_in, schema_of_files, store_in, tree_in}
 
 -- files of one number are one file
 pub same_file : (one two : VocabFile) → file_number one ≡ file_number two → one ≡ two
@@ -210,11 +209,11 @@ module _ (csdl ssdl msl : List ℕ) where
         faultless Msl = mapping_clean Msl (omega arith)
 
         -- documents of no form that is built break the last rule
-        tells_unbuilt : (fault : Fault) → fault.rule ≡ IsBuilt → fault.place ≡ [] → (¬ IsTableForm together) → IsToldRule csdl ssdl msl (told_as Msl fault)
+        tells_unbuilt : (fault : Fault) → fault.rule ≡ IsBuilt → fault.place ≡ [] → (¬ IsDecided together) → IsToldRule csdl ssdl msl (told_as Msl fault)
         tells_unbuilt fault rule root formless = record {
           fault = fault;
           spelled = refl;
-          broken = inr (refl, rule, root, record { faultless = faultless; formless = λ form. formless (subst IsTableForm (sym together_is) form) });
+          broken = inr (refl, rule, root, record { faultless = faultless; formless = λ form. formless (subst IsDecided (sym together_is) form) });
           in_first_file = first_file;
           least = least;
         }
@@ -229,15 +228,15 @@ module _ (csdl ssdl msl : List ℕ) where
                 let same : fault ≡ other = same_fault fault other (rule ∙ sym last.1) (root ∙ sym last.2) in
                 subst (λ (else : Fault). fault_cmp fault else ≢ Greater) same (not_after_itself fault)
 
-        pub is_unbuilt : (fault : Fault) → fault.rule ≡ IsBuilt → fault.place ≡ [] → (answer : VocabFault) → (¬ IsTableForm together) → IsToldOrMemory (told_as Msl fault) answer
+        pub is_unbuilt : (fault : Fault) → fault.rule ≡ IsBuilt → fault.place ≡ [] → (answer : VocabFault) → (¬ IsDecided together) → IsToldOrMemory (told_as Msl fault) answer
             → ReadsSchema csdl ssdl msl (Err answer)
         is_unbuilt fault rule root (read.Rule told) formless answered = subst (IsToldRule csdl ssdl msl) (sym answered) (tells_unbuilt fault rule root formless)
         is_unbuilt fault rule root read.Memory formless answered = cc
 
         -- documents of the form break no rule
-        pub is_meant : IsTableForm together → IsReadSchema csdl ssdl msl together
+        pub is_meant : IsDecided together → IsReadSchema csdl ssdl msl together
         is_meant form = record { means = record { unbroken = unbroken; meaning = together_is }; sound = of_mapping.is_read.sound; form = form }
           where
             unbroken : (file : VocabFile) (fault : Fault) → ¬ Breaks csdl ssdl msl file fault
             unbroken file fault (inl own) = faultless file fault own
-            unbroken file fault (inr last) = last.3.formless (subst IsTableForm together_is form)
+            unbroken file fault (inr last) = last.3.formless (subst IsDecided together_is form)

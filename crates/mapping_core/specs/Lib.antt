@@ -1,3 +1,4 @@
+pub mod Accepted
 pub mod Rules
 pub mod Verdicts
 pub mod Compiles

@@ -1,6 +1,6 @@
 -- Which rules three documents break, which of them is told, and what the documents mean where they break none.
 -- Source: CSDL, SSDL and MSL version 3. The rules are that each file is JSON; those of its vocabulary; and, last of all, that what the documents mean
--- is of the form that is built so far.
+-- is of the form that is decided so far.
 use Rattle.std.specs.Prelude.{◌≡◌, ◌≢◌, ◌⊎◌, ℕ, ◌≤◌, List, [], Some, None, unwrap_or}
 use Rattle.std.specs.declared.cmp.Ordering.TheVariants.{Greater}
 use Rattle.serde_json.specs.Data.{Data, null}
@@ -20,7 +20,7 @@ use Rattle.msl_rules.specs.MappingFaults.{IsMappingFault}
 use Rattle.msl_rules.specs.MappingMeaning.{schema_in}
 use Rattle.round_trip.specs.Words.{EntityModel, StoreModel, RuleFault, Schema, VocabFile}
 use Rattle.edm_types.specs.declared.faults.VocabFile.TheVariants.{Csdl, Ssdl, Msl}
-use Rattle.table_form.specs.TableForm.{IsTableForm}
+use Rattle.mapping_core.specs.Accepted.{IsDecided}
 
 -- the place of a file in the order of the files
 abbrev pub file_number : VocabFile → ℕ
@@ -67,10 +67,10 @@ module _ (csdl ssdl msl : List ℕ) where
   abbrev pub IsFileFault : VocabFile → Fault → Type 0
   IsFileFault file = IsFaultBy (IsTreeFault file) (bytes_of file)
 
-  -- no file has a fault, and what the three mean isn't of the form that is built so far
+  -- no file has a fault, and what the three mean isn't of the form that is decided so far
   pub record AreUnbuilt : Type 0 where
     pub faultless : (file : VocabFile) (fault : Fault) → ¬ IsFileFault file fault
-    pub formless : ¬ IsTableForm schema_of_files
+    pub formless : ¬ IsDecided schema_of_files
 
   -- the documents break the rule at the place of the file: one of the file; or, at the root of the mapping, the last one of all
   abbrev pub Breaks : VocabFile → Fault → Type 0

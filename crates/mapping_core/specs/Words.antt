@@ -10,7 +10,7 @@ pub use Rattle.edm_types.specs.declared.schema.Schema.{Schema}
 pub use Rattle.round_trip.specs.declared.FailKind.{FailKind}
 pub use Rattle.round_trip.specs.declared.FailKind.TheVariants.{Clash, Null, Disagrees, Dangling, Same}
 pub use Rattle.witness_state.specs.declared.failure.Failure.{Failure}
-pub use Rattle.round_trip.specs.Words.{Place, State, IsState, Keeps}
+pub use Rattle.round_trip.specs.Words.{Place, State, IsState, Keeps, RoundTrips}
 pub use Rattle.json_form.specs.Documents.{printed}
 pub use Rattle.json_form.specs.Trees.{place_tree, quoted}
 pub use Rattle.entity_state.specs.Tells.{IsTreeInKeyOrder}
@@ -19,4 +19,5 @@ pub use Rattle.serde_json.specs.Data.{Data}
 pub use Rattle.serde_json.specs.Written.{compact_text}
 pub use Rattle.mapping_core.specs.Rules.{IsMeant, IsToldRule, Means}
 pub use Rattle.soundness.specs.Mappings.{IsSoundSchema}
-pub use Rattle.table_form.specs.TableForm.{IsTableForm}
+pub use Rattle.mapping_core.specs.Accepted.{IsDecided, PassesNoLimit}
+pub use Rattle.mapping_limits.specs.FirstLimit.{IsFirstLimit}

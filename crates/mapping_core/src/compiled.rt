@@ -1,21 +1,35 @@
 ghost use Rattle.std.specs.Prelude.{◌≡◌};
-ghost use Rattle.round_trip.specs.Words.{Keeps};
-ghost use Rattle.soundness.specs.Mappings.{IsSoundSchema};
+ghost use Rattle.cells.specs.Parts.{AreParts, schema_in};
+ghost use Rattle.region_basis.specs.BasisOf.{basis_of};
+ghost use Rattle.mapping_verdict.specs.Regions.{AreRegions};
+ghost use Rattle.mapping_core.specs.Accepted.{AreMadeOf, IsAccepted};
 ghost use Rattle.mapping_core.specs.Rules.{IsMeant};
 
+use cells::{Cells, Parts};
 use edm_types::Schema;
+use emc_base::Seq;
+use regions::Region;
 use std::marker::Model;
 
-/// An accepted mapping, which contracts see as what its documents mean. They break no rule, what they mean is sound, and every legal state of
-/// the model has tables of its own.
+/// An accepted mapping, which contracts see as what its documents mean. They break no rule, what they mean is sound and passes no limit, no legal state of
+/// it fails, and every one has tables of its own.
 #[derive(Drop)]
 pub struct Compiled {
     schema: Schema,
+    cells: Cells,
+    regions: Seq<Seq<Region>>,
+}
+
+/// What an accepted mapping is made of: its model, store and mapping with their cells, and the regions of each entity set, in the order of the model.
+#[derive(Drop)]
+pub struct CompiledParts<'a> {
+    pub parts: Parts<'a>,
+    pub regions: &'a Seq<Seq<Region>>,
 }
 
 impl Model for Compiled {
-    ghost use Rattle.round_trip.specs.Words.{Keeps, Schema};
-    ghost use Rattle.soundness.specs.Mappings.{IsSoundSchema};
+    ghost use Rattle.round_trip.specs.Words.{Schema};
+    ghost use Rattle.mapping_core.specs.Accepted.{AreMadeOf, IsAccepted};
     ghost use Rattle.mapping_core.specs.Rules.{IsMeant};
     ghost use Rattle.std.specs.Coded.{codes};
     ghost use Rattle.edm_types.specs.contracts.model.TypeNode as node;
@@ -26,27 +40,48 @@ impl Model for Compiled {
 
     ghost view = { λ c. c.schema };
 
-    ghost invariant = { λ c. IsMeant c.schema × IsSoundSchema c.schema × Keeps c.schema };
+    ghost invariant = { λ c. IsMeant c.schema × IsAccepted c.schema × AreMadeOf c.schema c.cells c.regions };
 }
 
 impl Compiled {
-    // What is accepted has to be meant by documents, to be sound, and to round-trip.
-    pub(crate) fn new(schema: Schema) -> Compiled
+    // What is accepted has to be meant by documents.
+    pub(crate) fn new(schema: Schema, cells: Cells, regions: Seq<Seq<Region>>) -> Compiled
         requires meant { IsMeant schema }
-        requires sound { IsSoundSchema schema }
-        requires keeps { Keeps schema }
+        requires accepted { IsAccepted schema }
+        requires made { AreMadeOf schema cells regions }
         ensures { result ≡ schema }
     {
-        Compiled { schema }
+        Compiled {
+            schema,
+            cells,
+            regions,
+        }
     }
 
-    /// Lends the model, the store and the mapping: documents that break no rule mean them, they are sound, and the round trip holds of them.
+    /// Lends the model, the store and the mapping: documents that break no rule mean them, they are sound and within the limits, and the round trip holds
+    /// of them.
     pub fn schema(&self) -> &Schema
         ensures lends { result.now ≡ self.now }
         ensures meant { IsMeant self.now }
-        ensures sound { IsSoundSchema self.now }
-        ensures keeps { Keeps self.now }
+        ensures accepted { IsAccepted self.now }
     {
         &self.schema
+    }
+
+    /// Lends the same with their cells, and the regions of each entity set.
+    pub fn parts(&self) -> CompiledParts<'_>
+        ensures lends { schema_in result.parts ≡ self.now }
+        ensures parts { AreParts result.parts }
+        ensures regions { AreRegions (basis_of result.parts) result.regions.now }
+    {
+        CompiledParts {
+            parts: Parts {
+                model: &self.schema.model,
+                store: &self.schema.store,
+                mapping: &self.schema.mapping,
+                cells: &self.cells,
+            },
+            regions: &self.regions,
+        }
     }
 }

@@ -7,8 +7,8 @@ use crate::verdict::Verdict;
 use emc_base::Bin;
 use std::alloc::Global;
 
-/// Compiles the three documents of a mapping: `Ok` where they break no rule and every legal entity state of what they mean has tables of
-/// its own; `Rule` where a rule of the documents is broken, `Fails` where none is and a legal state fails, `Memory` where memory ran out.
+/// Compiles the three documents of a mapping: `Rule` where a rule of the documents is broken; `Limit` where none is and what they mean passes a limit; `Fails`
+/// where it passes none and a legal state fails; `Ok` where none does, and then every legal state has tables of its own; `Memory` where memory ran out.
 pub fn compile(alloc: Global, csdl: &Bin, ssdl: &Bin, msl: &Bin) -> Result<Compiled, Verdict>
     ensures { Compiles csdl.now ssdl.now msl.now result }
 {

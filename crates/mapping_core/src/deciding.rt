@@ -1,46 +1,68 @@
+ghost use Rattle.std.specs.Prelude.{IfOk};
 ghost use Rattle.round_trip.specs.Words.{Schema};
 ghost use Rattle.soundness.specs.Mappings.{IsSoundSchema};
-ghost use Rattle.table_form.specs.TableForm.{IsTableForm};
-ghost use Rattle.one_table.specs.OneTable.{IsOneTable, WritesEveryProperty};
-ghost use Rattle.one_table.specs.Samples.{AllowsSamples};
-ghost use Rattle.mapping_core.specs.Compiles.{Decides};
+ghost use Rattle.cells.specs.Cells.{TellsCells};
+ghost use Rattle.mapping_core.specs.Accepted.{IsDecided};
+ghost use Rattle.mapping_core.specs.Compiles.{Decides, Judges};
 ghost use Rattle.mapping_core.specs.Rules.{IsMeant};
-ghost use Rattle.std.specs.Prelude.{◌≡◌};
 
 use crate::compiled::Compiled;
 use crate::verdict::Refusal;
-use edm_types::Schema;
-use emc_base::Memory;
-use one_table::{accepts, unwritten_property};
+use cells::{Cells, Parts};
+use edm_types::{LimitFault, Schema};
+use emc_base::{Memory, Seq};
+use mapping_limits::first_limit;
+use mapping_verdict::{first_failure, regions_of_sets};
+use regions::Region;
 use std::alloc::Global;
-use table_form::a_table_form_is_one_table;
-use witness_state::lost_failure;
+use witness_state::Failure;
 
-/// Decides whether every legal entity state of a schema has tables of its own: `Ok` where it does, `Fails` with a legal state that fails
-/// where one does, and `Memory` where memory ran out. A refusal gives the schema back.
+/// What is found of a schema.
+#[derive(Drop)]
+pub(crate) enum Judgement {
+    /// No limit is passed and no legal state fails; these are the regions of each entity set.
+    Keeps(Seq<Seq<Region>>),
+    /// A limit is passed.
+    Limit(LimitFault),
+    /// No limit is passed, and a legal state fails.
+    Fails(Failure),
+}
+
+/// Decides whether every legal entity state of a schema has tables of its own: `Limit` with the first limit that the schema passes; where it passes none,
+/// `Fails` with a legal state that fails, where one does, else `Ok`; and `Memory` where memory ran out. A refusal gives the schema back.
 pub fn decide(alloc: Global, schema: Schema) -> Result<Compiled, Refusal>
     requires meant { IsMeant schema }
     requires sound { IsSoundSchema schema }
-    requires form { IsTableForm schema }
+    requires form { IsDecided schema }
     ensures { Decides schema result }
 {
-    a_table_form_is_one_table();
-    match unwritten_property(&schema) {
-        None => Ok(accepted(schema)),
-        Some(lost) => match lost_failure(alloc, &schema, lost) {
-            Ok(failure) => Err(Refusal::Fails(schema, failure)),
-            Err(Memory) => Err(Refusal::Memory),
-        },
+    let cells = Cells::of(alloc, &schema.model, &schema.store, &schema.mapping)?;
+    match judge(alloc, &schema, &cells)? {
+        Judgement::Keeps(regions) => Ok(Compiled::new(schema, cells, regions)),
+        Judgement::Limit(fault) => Err(Refusal::Limit(schema, fault)),
+        Judgement::Fails(failure) => Err(Refusal::Fails(schema, failure)),
     }
 }
 
-fn accepted(schema: Schema) -> Compiled
-    requires meant { IsMeant schema }
-    requires sound { IsSoundSchema schema }
-    requires one_table { IsOneTable schema }
-    requires written { WritesEveryProperty schema }
-    ensures { result ≡ schema }
+// The same of a schema with its cells, which are lent.
+fn judge(alloc: Global, schema: &Schema, cells: &Cells) -> Result<Judgement, Memory>
+    requires sound { IsSoundSchema schema.now }
+    requires form { IsDecided schema.now }
+    requires cells { TellsCells schema.now cells.now }
+    ensures { IfOk result (Judges schema.now cells.now) }
 {
-    accepts();
-    Compiled::new(schema)
+    let parts = Parts {
+        model: &schema.model,
+        store: &schema.store,
+        mapping: &schema.mapping,
+        cells,
+    };
+    if let Some(fault) = first_limit(alloc, &parts)? {
+        return Ok(Judgement::Limit(fault));
+    }
+    let regions = regions_of_sets(alloc, &parts)?;
+    match first_failure(alloc, &parts, &regions)? {
+        Some(failure) => Ok(Judgement::Fails(failure)),
+        None => Ok(Judgement::Keeps(regions)),
+    }
 }

@@ -1,5 +1,5 @@
-//! Compiles a mapping: three documents are accepted where every legal state round-trips; otherwise the broken rule is named, or a
-//! legal state that fails is shown.
+//! Compiles a mapping: three documents are accepted where every legal state round-trips; otherwise the broken rule or the passed limit is
+//! named, or a legal state that fails is shown.
 #![tactic(auto)]
 
 mod compiled;
@@ -8,7 +8,7 @@ mod deciding;
 mod reading;
 mod verdict;
 
-pub use compiled::Compiled;
+pub use compiled::{Compiled, CompiledParts};
 pub use compiling::compile;
 pub use deciding::decide;
 pub use edm_types::{EntityModel, LimitFault, LimitKind, RuleFault, Schema, VocabFault, VocabFile};

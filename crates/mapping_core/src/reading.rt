@@ -1,4 +1,4 @@
-ghost use Rattle.std.specs.Prelude.{◌≡◌, ℕ, List};
+ghost use Rattle.std.specs.Prelude.{◌≡◌, ◌↔◌, ℕ, IsTrue, List};
 ghost use Rattle.edm_types.specs.declared.faults.VocabFile.TheVariants.{Csdl, Ssdl, Msl};
 ghost use Rattle.csdl_model.specs.ModelFaults.{IsModelFault};
 ghost use Rattle.csdl_model.specs.ReadsModel.{IsModelOf};
@@ -8,6 +8,7 @@ ghost use Rattle.soundness.specs.Models.{IsSoundModel};
 ghost use Rattle.soundness.specs.Stores.{IsSoundStore};
 ghost use Rattle.ssdl_model.specs.ReadsStore.{IsStoreOf};
 ghost use Rattle.ssdl_model.specs.StoreFaults.{IsStoreFault};
+ghost use Rattle.mapping_core.specs.Accepted.{IsDecided};
 ghost use Rattle.mapping_core.specs.Compiles.{ReadsSchema};
 ghost use Rattle.mapping_core.specs.Reading.{ReadsFile, ReadsTree};
 ghost use Rattle.mapping_core.specs.Rules.{IsToldRule};
@@ -20,7 +21,6 @@ use layouts::{Fault, Rule};
 use msl_fragments::read_msl;
 use ssdl_model::read_ssdl;
 use std::alloc::Global;
-use table_form::is_table_form;
 use told_rules::told;
 
 /// The law that no two different rules are told of three documents.
@@ -42,11 +42,18 @@ pub fn read(alloc: Global, csdl: &Bin, ssdl: &Bin, msl: &Bin) -> Result<Schema, 
         store,
         mapping,
     };
-    if !is_table_form(&schema) {
+    if !is_decided(&schema) {
         let fault = Fault::here(alloc, Rule::IsBuilt);
         return Err(told(alloc, VocabFile::Msl, fault));
     }
     Ok(schema)
+}
+
+// Whether what documents mean is of the form that is decided so far.
+fn is_decided(schema: &Schema) -> bool
+    ensures { IsTrue result ↔ IsDecided schema.now }
+{
+    schema.model.assocs.is_empty() && schema.store.keys.is_empty()
 }
 
 // The entity model that a file means. Its tree is let go.

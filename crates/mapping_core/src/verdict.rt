@@ -4,7 +4,7 @@ use witness_state::Failure;
 /// Why a schema is not accepted. It is given back, so that what is told can be told by its names.
 #[derive(Drop)]
 pub enum Refusal {
-    /// A limit is passed. No document of today's form passes one.
+    /// A limit is passed: the first, in the order of limits.
     Limit(Schema, LimitFault),
     /// No limit is passed, and a legal state fails.
     Fails(Schema, Failure),
@@ -17,12 +17,23 @@ pub enum Refusal {
 pub enum Verdict {
     /// A rule of the documents is broken: that of the first document that breaks one, the least of that document, at its first place.
     Rule(RuleFault),
-    /// No rule is broken, and a limit is passed. No document of today's form passes one.
+    /// No rule is broken, and a limit is passed: the first, in the order of limits.
     Limit(LimitFault),
     /// No rule is broken, no limit is passed, and a legal state fails.
     Fails(Failure),
     /// Memory ran out.
     Memory,
+}
+
+impl From<emc_base::Memory> for Refusal {
+    ghost use Rattle.std.specs.Prelude.{◌≡◌};
+    ghost use Rattle.mapping_core.specs.declared.verdict.Refusal.TheVariants as refusal;
+
+    ghost from_gives = { λ _ given. given ≡ refusal.Memory };
+
+    fn from(_memory: emc_base::Memory) -> Refusal {
+        Refusal::Memory
+    }
 }
 
 impl From<VocabFault> for Verdict {

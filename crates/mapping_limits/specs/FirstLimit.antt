@@ -30,7 +30,7 @@ abbrev pub most_fragments : ℕ
 most_fragments = 1024
 
 abbrev pub most_regions : ℕ
-most_regions = 16384
+most_regions = 1024
 
 -- the limit is passed where more are counted than are allowed; the name says at what
 abbrev pub passed : LimitKind → List ℕ → ℕ → ℕ → List LimitFault

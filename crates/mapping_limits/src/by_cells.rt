@@ -17,7 +17,7 @@ use region_lists::count;
 const MOST_CONSTANTS: u64 = 64;
 
 // The most regions of a set.
-const MOST_REGIONS: u64 = 16_384;
+const MOST_REGIONS: u64 = 1_024;
 
 // Looks at the limit on constants, property by property.
 pub(crate) fn check_constants<'p>(parts: &'p Parts<'_>) -> Result<(), Passed<'p>>

@@ -3,7 +3,5 @@
 
 mod groups;
 mod tested;
-#[cfg(test)]
-mod tests;
 
 pub use groups::MemberGroups;

@@ -3,7 +3,5 @@
 
 mod fragments;
 mod key;
-#[cfg(test)]
-mod tests;
 
 pub use fragments::first_fragment_fault;

@@ -8,7 +8,5 @@ mod end_keys;
 mod ends;
 mod links;
 mod of_link;
-#[cfg(test)]
-mod tests;
 
 pub use links::first_link_fault;

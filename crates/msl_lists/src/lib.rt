@@ -4,8 +4,6 @@
 mod named;
 mod picks;
 mod raw;
-#[cfg(test)]
-mod tests;
 
 pub use picks::read_picks;
 pub use raw::{

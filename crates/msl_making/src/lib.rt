@@ -6,8 +6,6 @@ mod fragments;
 mod links;
 mod mapping;
 mod places;
-#[cfg(test)]
-mod tests;
 
 pub use fragments::make_fragment;
 pub use links::make_link;

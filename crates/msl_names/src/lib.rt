@@ -5,8 +5,6 @@ mod containers;
 mod in_table;
 mod lacking;
 mod repeats;
-#[cfg(test)]
-mod tests;
 mod unresolved;
 
 pub use containers::first_other_container;

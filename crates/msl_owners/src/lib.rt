@@ -8,7 +8,5 @@ mod keys;
 mod links;
 mod owners;
 mod spots;
-#[cfg(test)]
-mod tests;
 
 pub use owners::first_owner_fault;

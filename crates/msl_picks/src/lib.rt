@@ -5,8 +5,6 @@ mod climbs;
 mod derived;
 mod link;
 mod shared;
-#[cfg(test)]
-mod tests;
 mod type_names;
 
 pub use climbs::allow_climbs;

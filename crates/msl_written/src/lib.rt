@@ -7,8 +7,6 @@ mod kinds;
 mod pairs;
 mod repeats;
 mod rising;
-#[cfg(test)]
-mod tests;
 mod writing;
 
 pub use between::Between;

@@ -4,8 +4,6 @@
 mod named;
 mod once;
 mod places;
-#[cfg(test)]
-mod tests;
 
 pub use named::Named;
 pub use once::{are_apart, holds_each_once};

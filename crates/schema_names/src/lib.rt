@@ -8,8 +8,6 @@ mod local_names;
 mod names;
 mod own_props;
 mod tables;
-#[cfg(test)]
-mod tests;
 
 pub use ends::WhichEnd;
 pub use lent_names::places_by;

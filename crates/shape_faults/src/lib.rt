@@ -7,8 +7,6 @@ mod nodes;
 mod place;
 mod search;
 mod step_order;
-#[cfg(test)]
-mod tests;
 mod value;
 
 pub use fault::ShapeFault;

@@ -4,8 +4,6 @@
 mod columns;
 mod store;
 mod tables;
-#[cfg(test)]
-mod tests;
 
 pub use columns::{ColumnTypes, column_simple, has_column_length};
 pub use store::read_store;

@@ -5,7 +5,5 @@ mod foreign;
 mod ids;
 mod store;
 mod tables;
-#[cfg(test)]
-mod tests;
 
 pub use store::make_store;

@@ -11,7 +11,5 @@
 mod read;
 mod shape;
 mod tables;
-#[cfg(test)]
-mod tests;
 
 pub use tables::tables_of_doc;

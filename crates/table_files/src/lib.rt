@@ -6,8 +6,6 @@ mod key_order;
 mod local_rows;
 mod tables;
 mod tables_tree;
-#[cfg(test)]
-mod tests;
 
 pub use key_order::KeyOrder;
 pub use local_rows::LocalRows;

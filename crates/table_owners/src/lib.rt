@@ -9,8 +9,6 @@ mod pairings;
 mod places;
 mod putting;
 mod sources;
-#[cfg(test)]
-mod tests;
 
 pub use free_columns::free_columns_of;
 pub use laws::{a_link_is_hosted_at_one_end, hosted_links_are_told};

@@ -1,5 +1,9 @@
-//! Tests of tables from documents: whether they are legal, and their first breach.
+//! Tests of tables: what is read of documents, rows by their keys, and their order.
 #![tactic(auto)]
 
+#[cfg(test)]
+mod documents;
+#[cfg(test)]
+mod files;
 #[cfg(test)]
 mod tests;

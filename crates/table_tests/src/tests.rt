@@ -1,15 +1,14 @@
 ghost use Rattle.std.specs.Prelude.{◌↔◌, All, Contains, IsTrue};
 ghost use Rattle.round_trip.specs.Words.{AreTables};
 
-use edm_types::{Breach, Column, ForeignKey, StoreModel, Table};
+use edm_types::{Column, ForeignKey, StoreModel, Table};
 use emc_base::{Bin, ColId, Kind, Memory, Seq, TableId, Txt, Value};
-use json_form::{Doc, place_text};
+use json_form::Doc;
 use std::alloc::Global;
-use std::process::Abort;
 use std::test::Fail;
 use table_documents::tables_of_doc;
 use table_files::{KeyOrder, Tables};
-use table_legality::{first_breach, is_legal};
+use table_legality::is_legal;
 
 fn ids(alloc: Global, indices: &[u32]) -> Result<Seq<ColId>, Memory> {
     let mut ids = Seq::empty(alloc);
@@ -66,120 +65,6 @@ fn store(alloc: Global) -> Result<StoreModel, Memory> {
             foreign_key(alloc, "IsBoss", 0, 1)?,
         ]?)?,
     })
-}
-
-// The first breach of tables, which agrees with whether they are legal.
-fn judge(rt: &impl Abort, alloc: Global, tables: &Tables, store: &StoreModel) -> Option<Breach>
-    requires { AreTables store.now tables.now }
-{
-    let rows = tables.as_slice();
-    let found = first_breach(alloc, rows, store).expect(rt, "memory");
-    assert_eq!(rt; is_legal(rows, store), found.is_none());
-    found
-}
-
-// What is told of rows of people and of lines: the rule and the place.
-fn tells(rt: &impl Abort, alloc: Global, (people, lines, wanted): Case) {
-    let text = format!(in alloc; "{{\"Lines\":[{lines}],\"People\":[{people}]}}").expect(
-        rt, "memory",
-    );
-    let bytes = Bin::of(alloc, text.as_bytes()).expect(rt, "memory");
-    let doc = Doc::of_bytes(alloc, &bytes).expect(rt, "no document");
-    let store = store(alloc).expect(rt, "memory");
-    let Ok(tables) = tables_of_doc(alloc, &doc, &store) else {
-        assert!(rt; false, "{text}");
-        return;
-    };
-    match judge(rt, alloc, &tables, &store) {
-        None => assert!(rt; wanted.is_none(), "{text}"),
-        Some(breach) => {
-            let place = place_text(alloc, &breach.place).expect(rt, "memory");
-            assert_eq!(rt; Some((breach.rule, place.as_str())), wanted, "{text}");
-        }
-    }
-}
-
-/// Rows of people, rows of lines, and the rule that is told with its place, if one is.
-type Case = (&'static str, &'static str, Option<(u8, &'static str)>);
-
-const CASES: [Case; 15] = [
-    ("", "", None),
-    (r#"{"Id":1,"Boss":null},{"Id":2,"Boss":1}"#, "", None),
-    (
-        r#"{"Id":1,"Boss":1}"#,
-        r#"{"Owner":1,"Number":1},{"Owner":1,"Number":255}"#,
-        None,
-    ),
-    (
-        r#"{"Id":null,"Boss":null}"#,
-        "",
-        Some((1, r#"{"key":[null],"name":"People","part":"Id"}"#)),
-    ),
-    (
-        r#"{"Id":1,"Boss":null}"#,
-        r#"{"Owner":1,"Number":null}"#,
-        Some((1, r#"{"key":[1,null],"name":"Lines","part":"Number"}"#)),
-    ),
-    (
-        r#"{"Id":1,"Boss":256}"#,
-        "",
-        Some((2, r#"{"key":[1],"name":"People","part":"Boss"}"#)),
-    ),
-    (
-        r#"{"Id":1,"Boss":null},{"Id":2,"Boss":null},{"Id":1,"Boss":null}"#,
-        "",
-        Some((3, r#"{"key":[1],"name":"People","part":""}"#)),
-    ),
-    (
-        r#"{"Id":1,"Boss":null}"#,
-        r#"{"Owner":1,"Number":7},{"Owner":1,"Number":8},{"Owner":1,"Number":7}"#,
-        Some((3, r#"{"key":[1,7],"name":"Lines","part":""}"#)),
-    ),
-    (
-        r#"{"Id":1,"Boss":2}"#,
-        "",
-        Some((4, r#"{"key":[1],"name":"People","part":"IsBoss"}"#)),
-    ),
-    (
-        "",
-        r#"{"Owner":1,"Number":7}"#,
-        Some((4, r#"{"key":[1,7],"name":"Lines","part":"IsOwner"}"#)),
-    ),
-    // Two rules: the lesser one is told, though it stands behind.
-    (
-        r#"{"Id":256,"Boss":null},{"Id":null,"Boss":null}"#,
-        "",
-        Some((1, r#"{"key":[null],"name":"People","part":"Id"}"#)),
-    ),
-    (
-        r#"{"Id":1,"Boss":null},{"Id":1,"Boss":null}"#,
-        r#"{"Owner":1,"Number":-1}"#,
-        Some((2, r#"{"key":[1,-1],"name":"Lines","part":"Number"}"#)),
-    ),
-    (
-        r#"{"Id":1,"Boss":9}"#,
-        r#"{"Owner":1,"Number":7},{"Owner":1,"Number":7}"#,
-        Some((3, r#"{"key":[1,7],"name":"Lines","part":""}"#)),
-    ),
-    // One rule twice: the first is told, by table and by row.
-    (
-        r#"{"Id":1,"Boss":8},{"Id":2,"Boss":9}"#,
-        r#"{"Owner":5,"Number":7}"#,
-        Some((4, r#"{"key":[1],"name":"People","part":"IsBoss"}"#)),
-    ),
-    (
-        r#"{"Id":3,"Boss":300},{"Id":2,"Boss":256}"#,
-        "",
-        Some((2, r#"{"key":[3],"name":"People","part":"Boss"}"#)),
-    ),
-];
-
-#[test]
-fn tables_of_documents_are_judged(rt: HostRuntime) -> Result<(), Fail> {
-    for case in CASES {
-        tells(&rt, rt.alloc(), case);
-    }
-    Ok(())
 }
 
 fn numbers(alloc: Global, numbers: &[i64]) -> Result<Seq<Value>, Memory> {

@@ -5,8 +5,6 @@ mod firsts;
 mod owners;
 mod ownership;
 mod pairings;
-#[cfg(test)]
-mod tests;
 mod writer;
 
 pub use owners::first_other_owner;

@@ -1,2 +1,4 @@
 pub mod Failures
-pub mod Lost
+pub mod FirstConflict
+pub mod CellPlaces
+pub mod Shown

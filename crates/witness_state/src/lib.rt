@@ -1,8 +1,12 @@
-//! Legal entity states that fail, whole, as the reason why a mapping is not accepted.
+//! Legal entity states that fail, whole, as the reason why a mapping is not accepted: for each conflict, one.
 #![tactic(auto)]
 
+mod differing;
 mod failure;
-mod lost;
+mod failures;
+mod one_state;
+mod places;
+mod two_states;
 
 pub use failure::Failure;
-pub use lost::lost_failure;
+pub use failures::build;

@@ -1,8 +1,8 @@
-use Rattle.std.proofs.Common.{◌≡◌, Err, inr, refl, subst}
+use Rattle.std.proofs.Common.{◌≡◌, Err, inl, inr, refl, subst}
 use Rattle.mapping_core.specs.Compiles.{Decides}
-use Rattle.mapping_core.specs.Words.{Schema}
+use Rattle.mapping_core.specs.Words.{IsFirstLimit, Schema}
 use Rattle.mapping_core.specs.declared.verdict.Refusal.{Refusal}
-use Rattle.mapping_core.specs.declared.verdict.Refusal.TheVariants.{Fails}
+use Rattle.mapping_core.specs.declared.verdict.Refusal.TheVariants.{Fails, Limit}
 use Rattle.mapping_cli.specs.Texts.{IsFailText}
 use Rattle.mapping_cli.proofs.check.verdict_on.Goals as goal
 
@@ -17,4 +17,4 @@ returns-in_ok-text-in-Err-Fails c = λ held.
     let decided : Decides c.args.schema (Err (Fails back failure)) = subst Decided field c.in-Err-Fails.ensures in
     let told : IsFailText back.model failure text = c.in_ok-text-in-Err-Fails.ensures in
     let Told : Schema → Type 0 = λ schema. IsFailText schema.model failure text in
-    inr (failure, decided.1, (text, subst Told decided.0 told, (refl, refl, refl)))
+    inr (decided.1, inr (failure, decided.2, (text, subst Told decided.0 told, (refl, refl, refl))))

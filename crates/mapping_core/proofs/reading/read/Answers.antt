@@ -16,13 +16,13 @@ returns-in_err-mapping c =
     stops_at_mapping c.args.csdl.now c.args.ssdl.now c.args.msl.now c.in_ok-model.model c.in_ok-model.ensures c.in_ok-store.store c.in_ok-store.ensures
     c.in_err-mapping.field-0.0 c.from_residual-in_err-mapping.result c.from_residual-in_err-mapping.ensures.1 c.in_err-mapping.ensures
 
-pub returns-then-not-is_table_form : goal.returns-then-not-is_table_form
-returns-then-not-is_table_form c =
+pub returns-then-not-is_decided : goal.returns-then-not-is_decided
+returns-then-not-is_decided c =
     is_unbuilt c.args.csdl.now c.args.ssdl.now c.args.msl.now c.in_ok-model.model c.in_ok-model.ensures c.in_ok-store.store c.in_ok-store.ensures c.in_ok-mapping.mapping c.in_ok-mapping.ensures
     c.here-fault.result c.here-fault.ensures.rule c.here-fault.ensures.place c.told.result
-    (λ form. absurd (both_ways c.is_table_form.result c.if-not-is_table_form.true (c.is_table_form.ensures.1 form))) c.told.ensures
+    (λ form. absurd (both_ways c.is_decided.result c.if-not-is_decided.true (c.is_decided.ensures.1 form))) c.told.ensures
 
 pub returns : goal.returns
 returns c =
     is_meant c.args.csdl.now c.args.ssdl.now c.args.msl.now c.in_ok-model.model c.in_ok-model.ensures c.in_ok-store.store c.in_ok-store.ensures c.in_ok-mapping.mapping c.in_ok-mapping.ensures
-    (c.is_table_form.ensures.0 c.if-not-is_table_form.false)
+    (c.is_decided.ensures.0 c.if-not-is_decided.false)

@@ -1,3 +1,0 @@
-pub mod FirstConflict
-pub mod CellPlaces
-pub mod Shown

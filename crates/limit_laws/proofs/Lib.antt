@@ -1,0 +1,4 @@
+pub mod Rising
+pub mod Answered
+pub mod Alike
+pub mod Told

@@ -1,0 +1,30 @@
+-- Parts of one schema with the same cells are told apart by nothing that regions depend on.
+use Rattle.std.proofs.Common.{List, [], false, subst}
+use Rattle.std.specs.Prelude.{unwrap_or, option_and_then}
+use Rattle.std.specs.Option.{option_map_or}
+use Rattle.round_trip.specs.Words.{Schema}
+use Rattle.member_groups.specs.MemberGroups.{constants_in, group_in, is_tested_in}
+use Rattle.sound_demand.specs.Deriving.{derives}
+use Rattle.cells.specs.declared.cells.Cells.{Cells}
+use Rattle.regions.specs.declared.region.Region.{Region}
+use Rattle.regions.specs.Basis.{Basis}
+use Rattle.regions.specs.Fitting.{fits}
+use Rattle.region_basis.specs.BasisOf.{hosts_in}
+use Rattle.mapping_core.specs.Accepted.{AreMadeOf}
+use Rattle.mapping_verdict.specs.Regions.{AreRegions}
+
+-- the basis by a schema and its cells
+abbrev pub basis_by : Schema → Cells → Basis
+basis_by schema cells = record {
+  schema = schema;
+  is_a = derives schema.model;
+  fits = fits;
+  group = λ member. group_in cells.groups member;
+  constants = λ member. unwrap_or (option_and_then (constants_in cells.groups) (group_in cells.groups member)) [];
+  tested = λ member. option_map_or (is_tested_in cells.groups) (group_in cells.groups member) false;
+  hosts = hosts_in schema.model cells.places;
+}
+
+-- the regions of which an accepted mapping is made are those by this basis
+pub regions_stand : (schema : Schema) (cells : Cells) (regions : List (List Region)) → AreMadeOf schema cells regions → AreRegions (basis_by schema cells) regions
+regions_stand schema cells regions made = subst (λ basis. AreRegions basis regions) (λ i. basis_by (made.of_schema i) (made.of_cells i)) made.are_regions

@@ -1,0 +1,5 @@
+use Rattle.mapping_core.proofs.MadeOf.{regions_stand}
+use Rattle.mapping_core.proofs.compiled.Compiled.parts.Goals as goal
+
+pub returns-clause-regions : goal.returns-clause-regions
+returns-clause-regions c = regions_stand c.self.inside.schema c.self.inside.cells c.self.inside.regions c.self.invariant.2

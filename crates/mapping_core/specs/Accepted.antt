@@ -1,0 +1,38 @@
+-- Which mappings are decided so far, and what an accepted one is.
+-- Source: this project's; CSDL, SSDL and MSL version 3, and the regions of entity states of Melnik, Adya and Bernstein, SIGMOD 2007.
+use Rattle.std.specs.Prelude.{◌≡◌, List, [], None}
+use Rattle.round_trip.specs.Words.{Keeps, RoundTrips, Schema}
+use Rattle.soundness.specs.Mappings.{IsSoundSchema}
+use Rattle.cells.specs.declared.cells.Cells.{Cells}
+use Rattle.cells.specs.declared.parts.Parts.{Parts}
+use Rattle.cells.specs.Parts.{AreParts, schema_in}
+use Rattle.regions.specs.declared.region.Region.{Region}
+use Rattle.region_basis.specs.BasisOf.{basis_of}
+use Rattle.region_states.specs.LoneStates.{HasNoAssociationSets}
+use Rattle.mapping_limits.specs.FirstLimit.{IsFirstLimit}
+use Rattle.mapping_verdict.specs.Regions.{AreRegions}
+
+-- the form that is decided so far: no association set, and no foreign key
+pub record IsDecided (schema : Schema) : Type 0 where
+  pub alone : HasNoAssociationSets schema.model
+  pub keyless : schema.store.keys ≡ []
+
+-- no limit is passed
+abbrev pub PassesNoLimit : Schema → Type 0
+PassesNoLimit schema = IsFirstLimit schema None
+
+-- the schema is sound and within the limits, and every legal state of it has tables of its own
+pub record IsAccepted (schema : Schema) : Type 0 where
+  pub sound : IsSoundSchema schema
+  pub decided : IsDecided schema
+  pub within : PassesNoLimit schema
+  pub round_trips : RoundTrips schema
+  pub keeps : Keeps schema
+
+-- these are the cells of the schema, and the regions of each entity set
+pub record AreMadeOf (schema : Schema) (cells : Cells) (regions : List (List Region)) : Type 0 where
+  pub parts : Parts
+  pub of_schema : schema_in parts ≡ schema
+  pub of_cells : parts.cells.now ≡ cells
+  pub are_parts : AreParts parts
+  pub are_regions : AreRegions (basis_of parts) regions

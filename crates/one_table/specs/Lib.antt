@@ -1,4 +1,0 @@
-pub mod OneTable
-pub mod LostValues
-pub mod Unwritten
-pub mod Samples

@@ -1,0 +1,46 @@
+use breach_order::{Found, first_repeat, first_repeated_key};
+use emc_base::{Key, Memory, Place, Seq, Txt, Value};
+use std::alloc::Global;
+use std::test::Fail;
+
+// A place with no more than a name.
+fn place(alloc: Global, name: &str) -> Result<Place, Memory> {
+    Ok(Place {
+        name: Txt::of(alloc, name)?,
+        key: Seq::empty(alloc),
+        part: Txt::of(alloc, "")?,
+    })
+}
+
+// A key of two numbers.
+fn key(alloc: Global, first: i64, second: i64) -> Result<Key, Memory> {
+    let mut key = Seq::empty(alloc);
+    key.push(Value::Whole(first))?;
+    key.push(Value::Whole(second))?;
+    Ok(key)
+}
+
+#[test]
+fn breaches_are_ordered_by_rule_and_spot(rt: HostRuntime) -> Result<(), Fail> {
+    let alloc = rt.alloc();
+    let found = |rule: u8, spot: &[usize]| Found::at(alloc, rule, spot, place(alloc, "T")?);
+    assert!(rt; found(1, &[7])? < found(2, &[0])?);
+    assert!(rt; found(2, &[0, 9])? < found(2, &[1, 0])?);
+    assert!(rt; found(2, &[1])? < found(2, &[1, 0])?);
+    assert!(rt; found(2, &[1])? == Found::at(alloc, 2, &[1], place(alloc, "U")?)?);
+    let told = found(2, &[1])?.breach();
+    assert_eq!(rt; told.rule, 2);
+    assert_eq!(rt; told.place.name.as_str(), "T");
+    Ok(())
+}
+
+#[test]
+fn the_first_repeat_is_found(rt: HostRuntime) -> Result<(), Fail> {
+    let alloc = rt.alloc();
+    assert_eq!(rt; first_repeat(alloc, &[5u8, 7, 5, 7])?, Some(2));
+    assert_eq!(rt; first_repeat(alloc, &[5u8, 7])?, None);
+    let keys = [key(alloc, 1, 2)?, key(alloc, 1, 3)?, key(alloc, 1, 2)?];
+    assert_eq!(rt; first_repeated_key(alloc, &keys)?, Some(2));
+    assert_eq!(rt; first_repeated_key(alloc, &keys[..2])?, None);
+    Ok(())
+}

@@ -1,0 +1,22 @@
+use Rattle.std.proofs.Common.{inl, ap, ◌∙◌}
+use Rattle.round_trip.specs.Words.{values_of}
+use Rattle.cells.specs.Parts.{schema_in}
+use Rattle.sound_demand.proofs.Owned.{owned}
+use Rattle.witness_state.proofs.Pairing.{key_told}
+use Rattle.witness_state.proofs.places.cell_place.Goals as goal
+
+pub returns : goal.returns
+returns c = λ s pairs writes.
+    let schema = schema_in c.args.parts.now in
+    let own = owned schema c.requires.parts.sound c.args.table s pairs (inl writes) in
+    let told = c.requires.parts.cells.pairings.each c.args.table c.pairing-pairing.result.now c.pairing-pairing.ensures in
+    let key = c.in_ok-values_of.ensures ∙ ap (values_of schema.model c.args.entity.now) c.as_slice.ensures.items
+    ∙ key_told schema c.args.table s pairs writes own.0 own.1 c.pairing-pairing.result.now told c.args.entity.now in
+    record {
+      table = c.at-declared.result.now;
+      column = c.at-column.result.now;
+      has_column = record { is_table = c.at-declared.ensures; is_column = c.at-column.ensures };
+      pairing = own.0;
+      owned = own.1;
+      place_is = λ k. record { name = c.in_ok-copy.ensures k; key = key k; part = c.in_ok-copy-2.ensures k };
+    }

@@ -1,0 +1,17 @@
+use Rattle.std.proofs.Common.{ap, ◌∙◌}
+use Rattle.cells.specs.Parts.{schema_in}
+use Rattle.region_states.specs.LoneStates.{lone_state}
+use Rattle.witness_state.proofs.Shown.{shown_is}
+use Rattle.witness_state.proofs.TwoStates.{lost_are, set_of, set_within}
+use Rattle.witness_state.proofs.two_states.lost_failure.Goals as goal
+
+pub beside-requires : goal.beside-requires
+beside-requires c = set_within c.args.parts.now c.requires.of_set c.args.region.now c.requires.is_conflict.of_set
+
+pub returns-clause-failure : goal.returns-clause-failure
+returns-clause-failure c =
+    let of = set_of c.args.parts.now c.requires.of_set c.args.region.now c.requires.is_conflict.of_set in
+    let other = c.in_ok-other.ensures ∙ ap (lone_state (schema_in c.args.parts.now).model c.args.region.now.set) c.in_ok-one.ensures.other in
+    shown_is (schema_in c.args.parts.now) _
+    (lost_are c.args.parts.now c.args.region.now c.args.property c.requires c.in_ok-one.one c.in_ok-one.ensures.one c.in_ok-other.other other)
+    c.beside.result (c.beside.ensures.shown of.0 of.1)
