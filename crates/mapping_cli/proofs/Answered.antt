@@ -1,7 +1,8 @@
 -- What the words of a command give, by what was read.
-use Rattle.std.proofs.Common.{◌≡◌, ◌≤◌, ℕ, List, [], ◌∷◌, length, ◌==◌, ◌&&◌, Bool, true, false, Option, Some, None, Result, Ok, Err, IfOk, MatchOption, if◌then◌else◌, codes, inl, inr, refl, sym, subst, arith}
+use Rattle.std.proofs.Common.{◌≡◌, ◌≤◌, ℕ, List, [], ◌∷◌, length, ◌==◌, ◌&&◌, Bool, true, false, Option, Some, None, Result, Ok, Err, IfOk, MatchOption, if◌then◌else◌, codes, inl, inr, refl, sym, subst, ◌∙◌, arith}
 use Rattle.std.specs.Str.{bytes_eq}
 use Rattle.std.proofs.lemmas.Bool.{and_parts}
+use Rattle.std.proofs.lemmas.Option.{none-some, same_Some}
 use Rattle.std.proofs.lemmas.Bool.Decides.{nat_tests}
 use Rattle.emc_base.specs.declared.memory.Memory.{Memory}
 use Rattle.emc_files.specs.Files.{FileMap}
@@ -9,8 +10,8 @@ use Rattle.mapping_cli.specs.declared.answer.Answer.{Answer}
 use Rattle.mapping_cli.specs.declared.status.Status.{Status}
 use Rattle.mapping_cli.specs.declared.status.Status.TheVariants.{Usage}
 use Rattle.mapping_cli.specs.declared.words.Command.{Command}
-use Rattle.mapping_cli.specs.declared.words.Command.TheVariants.{Check}
-use Rattle.mapping_cli.specs.Commands.{command_of, inputs_of}
+use Rattle.mapping_cli.specs.declared.words.Command.TheVariants.{Check, Store}
+use Rattle.mapping_cli.specs.Commands.{command_of, input_count, inputs_of}
 use Rattle.mapping_cli.specs.Inputs.{AreInputs}
 use Rattle.mapping_cli.specs.Gives.{GivesInputs, GivesOn, Says}
 use Rattle.mapping_cli.specs.RunSteps.{AnswersOn, EndsWith}
@@ -18,20 +19,38 @@ use Rattle.mapping_cli.specs.Runs.{Ends}
 use Rattle.mapping_cli.specs.Texts.{usage_text}
 use Rattle.mapping_cli.proofs.FilesRead.{as_many}
 
--- each command has three input files
-three_inputs : (words : List (List ℕ)) (command : Command) → command_of words ≡ Some command → length (inputs_of command words) ≡ 3
-three_inputs [] command is = cc
-three_inputs (word ∷ names) Check is = go (bytes_eq word (codes "check") && length names == 3) refl is
-  where
-    go : (b : Bool) → (bytes_eq word (codes "check") && length names == 3) ≡ b → (if b then Some Check else None) ≡ Some Check → length names ≡ 3
-    go true holds some = let parts = and_parts (bytes_eq word (codes "check")) (length names == 3) holds in grind (arith, nat_tests)
-    go false holds some = cc
+module _ (word : List ℕ) (names : List (List ℕ)) where
+  -- a command of this many names
+  by_command : (one command : Command) → length names ≡ input_count one → one ≡ command → length (inputs_of command (word ∷ names)) ≡ input_count command
+  by_command one command many same = let P : Command → Type 0 = λ c. length names ≡ input_count c in names_of command (subst P same many)
+    where
+      names_of : (c : Command) → length names ≡ input_count c → length (inputs_of c (word ∷ names)) ≡ input_count c
+      names_of Check many = many
+      names_of Store many = many
 
--- and so three contents
-pub three_contents : (held : Option FileMap) (words contents : List (List ℕ)) (command : Command) → command_of words ≡ Some command
-    → AreInputs held (inputs_of command words) contents → 3 ≤ length contents
-three_contents held words contents command is all =
-    let many = as_many held (inputs_of command words) contents all in let three = three_inputs words command is in omega arith
+  -- the names that a command has
+  by_words : (is_check : Bool) → (bytes_eq word (codes "check") && length names == 3) ≡ is_check
+      → (is_store : Bool) → (bytes_eq word (codes "store") && length names == 4) ≡ is_store
+      → (command : Command) → (if is_check then Some Check else (if is_store then Some Store else None)) ≡ Some command
+      → length (inputs_of command (word ∷ names)) ≡ input_count command
+  by_words true holds is_store _ command some =
+      let parts = and_parts (bytes_eq word (codes "check")) (length names == 3) holds in
+      let many : length names ≡ 3 = grind (arith, nat_tests) in by_command Check command many (same_Some Check command some)
+  by_words false _ true holds command some =
+      let parts = and_parts (bytes_eq word (codes "store")) (length names == 4) holds in
+      let many : length names ≡ 4 = grind (arith, nat_tests) in by_command Store command many (same_Some Store command some)
+  by_words false _ false _ command some = absurd (none-some command some)
+
+-- a command has as many input files as it counts
+counted_inputs : (words : List (List ℕ)) (command : Command) → command_of words ≡ Some command → length (inputs_of command words) ≡ input_count command
+counted_inputs [] command is = absurd (none-some command is)
+counted_inputs (word ∷ names) command is =
+    by_words word names (bytes_eq word (codes "check") && length names == 3) refl (bytes_eq word (codes "store") && length names == 4) refl command is
+
+-- and so many contents
+pub counted_contents : (held : Option FileMap) (words contents : List (List ℕ)) (command : Command) → command_of words ≡ Some command
+    → AreInputs held (inputs_of command words) contents → length contents ≡ input_count command
+counted_contents held words contents command is all = as_many held (inputs_of command words) contents all ∙ counted_inputs words command is
 
 module _ (may_fail : List ℕ → Type 0) (words : List (List ℕ)) (held : Option FileMap) (before now : ℕ) (text : List ℕ) (status : Status) where
   module _ (command : Command) (is : command_of words ≡ Some command) where

@@ -4,13 +4,13 @@ use Rattle.std.proofs.lemmas.Bool.Decides.{nat_tests}
 use Rattle.std.specs.Bool.{⊤}
 use Rattle.std.proofs.lemmas.List.{append-nil}
 use Rattle.emc_files.specs.Files.{FileMap}
-use Rattle.mapping_core.specs.Words.{Schema}
+use Rattle.mapping_core.specs.Words.{Schema, State}
 use Rattle.mapping_cli.specs.declared.status.Status.{Status}
 use Rattle.mapping_cli.specs.declared.status.Status.TheVariants.{Done, MappingRefused, DocumentRefused, Usage, FileFault, SinkFault, Memory}
 use Rattle.mapping_cli.specs.declared.words.Command.{Command}
-use Rattle.mapping_cli.specs.declared.words.Command.TheVariants.{Check}
+use Rattle.mapping_cli.specs.declared.words.Command.TheVariants.{Check, Store}
 use Rattle.mapping_cli.specs.Commands.{command_of, inputs_of}
-use Rattle.mapping_cli.specs.Gives.{GivesInputs, GivesOn, GivesVerdict, GivesWithin, Says}
+use Rattle.mapping_cli.specs.Gives.{GivesCheck, GivesInputs, GivesOn, GivesStored, GivesTables, RefusesMapping, RefusesSchema, Says}
 use Rattle.mapping_cli.specs.Inputs.{FailsToRead}
 use Rattle.mapping_cli.specs.Runs.{Ends, Finishes, Runs}
 use Rattle.mapping_cli.specs.Texts.{accepted_text, usage_text}
@@ -30,17 +30,29 @@ module _ (held : Option FileMap) (text : List ℕ) (status : Status) (left : Opt
   said : (told : List ℕ) (ended : Status) → IsOfText ended → Says held text status left told ended → IsOfText status
   said told ended good says = subst IsOfText (sym says.1) good
 
-  of_within : (schema : Schema) → GivesWithin held text status left (λ schema. Says held text status left accepted_text Done) schema → IsOfText status
-  of_within schema (inl accepted) = subst IsOfText (sym accepted.2.1) cc
-  of_within schema (inr fails) = subst IsOfText (sym fails.2.2.1) cc
+  of_schema : (schema : Schema) → RefusesSchema held text status left schema → IsOfText status
+  of_schema schema (inl limit) = subst IsOfText (sym limit.2.1) cc
+  of_schema schema (inr fails) = subst IsOfText (sym fails.1.2.2.1) cc
 
-  of_verdict : (schema : Schema) → GivesVerdict held text status left (λ schema. Says held text status left accepted_text Done) schema → IsOfText status
-  of_verdict schema (inl limit) = subst IsOfText (sym limit.2.1) cc
-  of_verdict schema (inr within) = of_within schema within.1
+  of_mapping : (csdl ssdl msl : List ℕ) → RefusesMapping held text status left csdl ssdl msl → IsOfText status
+  of_mapping csdl ssdl msl (inl told) = subst IsOfText (sym told.2.1) cc
+  of_mapping csdl ssdl msl (inr meant) = of_schema meant.0 meant.2
+
+  of_check : (Next : Schema → Type 0) → ((schema : Schema) → Next schema → IsOfText status) → (contents : List (List ℕ)) → GivesCheck held text status left Next contents → IsOfText status
+  of_check Next next contents (csdl, ssdl, msl, at_csdl, at_ssdl, at_msl, inl refuses) = of_mapping csdl ssdl msl refuses
+  of_check Next next contents (csdl, ssdl, msl, at_csdl, at_ssdl, at_msl, inr accepted) = next accepted.0 accepted.2
+
+  of_tables : (schema : Schema) (state : State) → GivesTables held text status left schema state → IsOfText status
+  of_tables schema state (inl breach) = subst IsOfText (sym breach.2.1) cc
+  of_tables schema state (inr stored) = subst IsOfText (sym stored.1.2.1) cc
+
+  of_stored : (entities : List ℕ) (schema : Schema) → GivesStored held text status left entities schema → IsOfText status
+  of_stored entities schema (inl shape) = subst IsOfText (sym shape.2.1) cc
+  of_stored entities schema (inr told) = of_tables schema told.0 told.2
 
   of_command : (command : Command) (contents : List (List ℕ)) → GivesOn held text status left command contents → IsOfText status
-  of_command Check contents (csdl, ssdl, msl, at_csdl, at_ssdl, at_msl, inl told) = subst IsOfText (sym told.2.1) cc
-  of_command Check contents (csdl, ssdl, msl, at_csdl, at_ssdl, at_msl, inr meant) = of_verdict meant.0 meant.2
+  of_command Check contents gives = of_check (λ schema. Says held text status left accepted_text Done) (λ schema says. subst IsOfText (sym says.1) cc) contents gives
+  of_command Store contents gives = of_check (GivesStored held text status left gives.0) (of_stored gives.0) contents gives.2
 
   of_inputs : (command : Command) (names : List (List ℕ)) → GivesInputs held text status left command names → IsOfText status
   of_inputs command names (inl lacking) = subst IsOfText (sym lacking.2.1) cc

@@ -1,6 +1,6 @@
 -- What the program prints. Each text ends with a line feed.
 use Rattle.std.specs.Prelude.{◌≡◌, ℕ, List, [], ◌∷◌, ◌++◌, Option, Some, None, codes, decimal}
-use Rattle.mapping_core.specs.Words.{Data, EntityModel, FailKind, Failure, IsTreeInKeyOrder, LimitFault, LimitKind, RuleFault, State, VocabFile, compact_text, place_tree, printed, quoted}
+use Rattle.mapping_core.specs.Words.{Breach, Data, EntityModel, FailKind, Failure, IsTreeInKeyOrder, LimitFault, LimitKind, RuleFault, State, VocabFile, compact_text, place_tree, printed, quoted}
 use Rattle.mapping_core.specs.Words.{Csdl, Ssdl, Msl}
 use Rattle.mapping_core.specs.Words.{Sets, Associations, Types, Properties, Tables, Columns, Foreign, Fragments, Constants, Regions}
 use Rattle.mapping_core.specs.Words.{Clash, Null, Disagrees, Dangling, Same}
@@ -76,3 +76,11 @@ pub record IsFailText (model : EntityModel) (failure : Failure) (text : List ℕ
   pub state_is : IsStateLine (codes "state") model failure.state state
   pub other_is : IsOtherLine model failure.other other
   pub is : text ≡ (failing_text failure ++ state) ++ other
+
+-- an entity document of another shape, by the first place where it is
+unfoldable pub entity_shape_text : List ℕ → List ℕ
+entity_shape_text pointer = codes "data E1 " ++ line (quoted pointer)
+
+-- an entity state that isn't legal, by the rule that it breaks, at its first place
+unfoldable pub entity_breach_text : Breach → List ℕ
+entity_breach_text breach = codes "data E2 S" ++ (decimal breach.rule ++ (codes " " ++ line (compact_text (place_tree breach.place))))

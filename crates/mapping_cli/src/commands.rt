@@ -1,7 +1,8 @@
-ghost use Rattle.std.specs.Prelude.{◌≡◌, ◌≤◌, IfOk, length};
+ghost use Rattle.std.specs.Prelude.{◌≡◌, IfOk, length};
 ghost use Rattle.emc_files.specs.contracts.files.Files as F;
 ghost use Rattle.emc_files.specs.contracts.sink.Sink as W;
 ghost use Rattle.mapping_cli.specs.declared.status.Status.TheVariants.{Usage};
+ghost use Rattle.mapping_cli.specs.Commands.{input_count};
 ghost use Rattle.mapping_cli.specs.Runs.{Runs};
 ghost use Rattle.mapping_cli.specs.RunSteps.{AnswersOn, EndsWith};
 ghost use Rattle.mapping_cli.specs.Texts.{usage_text};
@@ -11,6 +12,7 @@ use crate::answer::{Answer, Halt};
 use crate::check::check;
 use crate::inputs::read_inputs;
 use crate::status::Status;
+use crate::store::store;
 use crate::texts::usage_text;
 use crate::words::{Command, command_of, inputs_of};
 use emc_base::{Bin, Memory, Seq, Txt};
@@ -54,11 +56,12 @@ fn answer_of<F: Files>(alloc: Global, words: &[Txt], files: &mut F) -> Result<An
 
 // What a command answers on the contents of its input files.
 fn answer_on(alloc: Global, command: Command, contents: &Seq<Bin>) -> Result<Answer, Memory>
-    requires { 3 ≤ length contents.now }
+    requires { length contents.now ≡ input_count command }
     ensures { IfOk result (AnswersOn command contents.now) }
 {
     match command {
         Command::Check => check(alloc, contents),
+        Command::Store => store(alloc, contents),
     }
 }
 

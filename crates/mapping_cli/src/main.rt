@@ -1,11 +1,13 @@
 //! The command line of the mapping compiler.
 #![tactic(auto)]
 
+mod accepting;
 mod answer;
 mod check;
 mod commands;
 mod inputs;
 mod status;
+mod store;
 mod texts;
 mod words;
 

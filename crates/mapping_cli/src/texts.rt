@@ -1,10 +1,10 @@
 ghost use Rattle.std.specs.Prelude.{◌≡◌, IfOk, IfSome, string_bytes};
 ghost use Rattle.mapping_core.specs.Words.{IsFailureOf, IsState};
-ghost use Rattle.mapping_cli.specs.Texts.{IsFailText, IsOtherLine, IsStateLine, accepted_text, failing_text, file_text, file_word, kind_word, limit_text, limit_word, rule_text, usage_text};
+ghost use Rattle.mapping_cli.specs.Texts.{IsFailText, IsOtherLine, IsStateLine, accepted_text, entity_breach_text, entity_shape_text, failing_text, file_text, file_word, kind_word, limit_text, limit_word, rule_text, usage_text};
 
 use emc_base::{Bin, Memory, Txt};
 use mapping_core::{
-    EntityModel, EntityState, FailKind, Failure, LimitFault, LimitKind, RuleFault, Schema,
+    Breach, EntityModel, EntityState, FailKind, Failure, LimitFault, LimitKind, RuleFault, Schema,
     VocabFile, place_text, quoted,
 };
 use std::alloc::Global;
@@ -155,4 +155,25 @@ pub(crate) fn fail_text(alloc: Global, schema: &Schema, failure: &Failure) -> Re
     text.extend_from_slice(state.as_slice())?;
     text.extend_from_slice(other.as_slice())?;
     Ok(Bin::from_vec(text))
+}
+
+/// An entity document of another shape than it should be, by the pointer of the first place where it is.
+#[tactic(auto, unfolding(crate::specs::Texts::entity_shape_text))]
+pub(crate) fn entity_shape_text(alloc: Global, pointer: &str) -> Result<Txt, Memory>
+    ensures { IfOk result (λ text. text ≡ entity_shape_text pointer.now) }
+{
+    let pointer = quoted(alloc, pointer)?;
+    let text = format!(in alloc; "data E1 {pointer}\n")?;
+    Ok(Txt::from_string(text))
+}
+
+/// An entity state that isn't legal.
+#[tactic(auto, unfolding(crate::specs::Texts::entity_breach_text))]
+pub(crate) fn entity_breach_text(alloc: Global, breach: &Breach) -> Result<Txt, Memory>
+    ensures { IfOk result (λ text. text ≡ entity_breach_text breach.now) }
+{
+    let rule = breach.rule;
+    let place = place_text(alloc, &breach.place)?;
+    let text = format!(in alloc; "data E2 S{rule} {place}\n")?;
+    Ok(Txt::from_string(text))
 }

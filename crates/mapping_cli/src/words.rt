@@ -8,6 +8,8 @@ use emc_base::Txt;
 pub enum Command {
     /// `check M S P`: the verdict on the documents of three files.
     Check,
+    /// `store M S P ENTITIES`: the tables of an entity document, by the mapping of three files.
+    Store,
 }
 
 // The command that these words are; `None` where they are none.
@@ -19,6 +21,8 @@ pub(crate) fn command_of(words: &[Txt]) -> Option<Command>
     };
     if word.as_str() == "check" && names.len() == 3 {
         Some(Command::Check)
+    } else if word.as_str() == "store" && names.len() == 4 {
+        Some(Command::Store)
     } else {
         None
     }
@@ -29,7 +33,7 @@ pub(crate) fn inputs_of(command: Command, words: &[Txt]) -> &[Txt]
     ensures { result.now ≡ inputs_of command words.now }
 {
     match command {
-        Command::Check => after_first(words),
+        Command::Check | Command::Store => after_first(words),
     }
 }
 

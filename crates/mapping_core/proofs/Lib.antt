@@ -1,3 +1,4 @@
 pub mod Told
 pub mod OneRule
 pub mod MadeOf
+pub mod Stored

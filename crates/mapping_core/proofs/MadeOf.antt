@@ -11,7 +11,9 @@ use Rattle.regions.specs.Basis.{Basis}
 use Rattle.regions.specs.Fitting.{fits}
 use Rattle.region_basis.specs.BasisOf.{hosts_in}
 use Rattle.mapping_core.specs.Accepted.{AreMadeOf}
-use Rattle.mapping_verdict.specs.Regions.{AreRegions}
+use Rattle.set_regions.specs.Regions.{AreRegions}
+use Rattle.update_views.specs.declared.views.UpdateViews.{UpdateViews}
+use Rattle.update_views.specs.Views.{AreViewsOf}
 
 -- the basis by a schema and its cells
 abbrev pub basis_by : Schema → Cells → Basis
@@ -25,6 +27,11 @@ basis_by schema cells = record {
   hosts = hosts_in schema.model cells.places;
 }
 
--- the regions of which an accepted mapping is made are those by this basis
-pub regions_stand : (schema : Schema) (cells : Cells) (regions : List (List Region)) → AreMadeOf schema cells regions → AreRegions (basis_by schema cells) regions
-regions_stand schema cells regions made = subst (λ basis. AreRegions basis regions) (λ i. basis_by (made.of_schema i) (made.of_cells i)) made.are_regions
+module _ (schema : Schema) (cells : Cells) (regions : List (List Region)) (views : UpdateViews) (made : AreMadeOf schema cells regions views) where
+  -- the regions of which an accepted mapping is made are those by this basis
+  pub regions_stand : AreRegions (basis_by schema cells) regions
+  regions_stand = subst (λ basis. AreRegions basis regions) (λ i. basis_by (made.of_schema i) (made.of_cells i)) made.are_regions
+
+  -- and so are its update views
+  pub views_stand : AreViewsOf (basis_by schema cells) views
+  views_stand = subst (λ basis. AreViewsOf basis views) (λ i. basis_by (made.of_schema i) (made.of_cells i)) made.are_views

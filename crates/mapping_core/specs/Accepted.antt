@@ -10,7 +10,9 @@ use Rattle.regions.specs.declared.region.Region.{Region}
 use Rattle.region_basis.specs.BasisOf.{basis_of}
 use Rattle.region_states.specs.LoneStates.{HasNoAssociationSets}
 use Rattle.mapping_limits.specs.FirstLimit.{IsFirstLimit}
-use Rattle.mapping_verdict.specs.Regions.{AreRegions}
+use Rattle.set_regions.specs.Regions.{AreRegions}
+use Rattle.update_views.specs.declared.views.UpdateViews.{UpdateViews}
+use Rattle.update_views.specs.Views.{AreViewsOf}
 
 -- the form that is decided so far: no association set, and no foreign key
 pub record IsDecided (schema : Schema) : Type 0 where
@@ -29,10 +31,11 @@ pub record IsAccepted (schema : Schema) : Type 0 where
   pub round_trips : RoundTrips schema
   pub keeps : Keeps schema
 
--- these are the cells of the schema, and the regions of each entity set
-pub record AreMadeOf (schema : Schema) (cells : Cells) (regions : List (List Region)) : Type 0 where
+-- these are the cells of the schema, the regions of each entity set, and the update views
+pub record AreMadeOf (schema : Schema) (cells : Cells) (regions : List (List Region)) (views : UpdateViews) : Type 0 where
   pub parts : Parts
   pub of_schema : schema_in parts ≡ schema
   pub of_cells : parts.cells.now ≡ cells
   pub are_parts : AreParts parts
   pub are_regions : AreRegions (basis_of parts) regions
+  pub are_views : AreViewsOf (basis_of parts) views

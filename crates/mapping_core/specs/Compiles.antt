@@ -29,10 +29,10 @@ ReadsSchema csdl ssdl msl (Ok schema) = IsReadSchema csdl ssdl msl schema
 ReadsSchema csdl ssdl msl (Err (read.Rule fault)) = IsToldRule csdl ssdl msl fault
 ReadsSchema csdl ssdl msl (Err read.Memory) = ⊤
 
--- The first limit that is passed; or, where none is, a legal state that fails; or, where none does, the regions of each entity set, and then every
--- legal state has tables of its own.
+-- The first limit that is passed; or, where none is, a legal state that fails; or, where none does, the regions of each entity set and the update views,
+-- and then every legal state has tables of its own.
 abbrev pub Judges : Schema → Cells → Judgement → Type 0
-Judges schema cells (judgement.Keeps regions) = PassesNoLimit schema × RoundTrips schema × Keeps schema × AreMadeOf schema cells regions
+Judges schema cells (judgement.Keeps regions views) = PassesNoLimit schema × RoundTrips schema × Keeps schema × AreMadeOf schema cells regions views
 Judges schema cells (judgement.Limit fault) = IsFirstLimit schema (Some fault)
 Judges schema cells (judgement.Fails failure) = PassesNoLimit schema × IsFailureOf schema failure
 

@@ -4,3 +4,5 @@ pub mod Verdicts
 pub mod Compiles
 pub mod Reading
 pub mod Words
+pub mod Stores
+pub mod Documents

@@ -21,3 +21,7 @@ pub use Rattle.mapping_core.specs.Rules.{IsMeant, IsToldRule, Means}
 pub use Rattle.soundness.specs.Mappings.{IsSoundSchema}
 pub use Rattle.mapping_core.specs.Accepted.{IsDecided, PassesNoLimit}
 pub use Rattle.mapping_limits.specs.FirstLimit.{IsFirstLimit}
+pub use Rattle.edm_types.specs.declared.faults.Breach.{Breach}
+pub use Rattle.round_trip.specs.Words.{IsBreachOf, IsLegal}
+pub use Rattle.mapping_core.specs.Documents.{HoldsNoState, HoldsState}
+pub use Rattle.mapping_core.specs.Stores.{IsTablesText}

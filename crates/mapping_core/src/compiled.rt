@@ -1,15 +1,17 @@
 ghost use Rattle.std.specs.Prelude.{◌≡◌};
 ghost use Rattle.cells.specs.Parts.{AreParts, schema_in};
 ghost use Rattle.region_basis.specs.BasisOf.{basis_of};
-ghost use Rattle.mapping_verdict.specs.Regions.{AreRegions};
+ghost use Rattle.set_regions.specs.Regions.{AreRegions};
 ghost use Rattle.mapping_core.specs.Accepted.{AreMadeOf, IsAccepted};
 ghost use Rattle.mapping_core.specs.Rules.{IsMeant};
+ghost use Rattle.update_views.specs.Views.{AreViewsOf};
 
 use cells::{Cells, Parts};
 use edm_types::Schema;
 use emc_base::Seq;
 use regions::Region;
 use std::marker::Model;
+use update_views::UpdateViews;
 
 /// An accepted mapping, which contracts see as what its documents mean. They break no rule, what they mean is sound and passes no limit, no legal state of
 /// it fails, and every one has tables of its own.
@@ -18,13 +20,16 @@ pub struct Compiled {
     schema: Schema,
     cells: Cells,
     regions: Seq<Seq<Region>>,
+    views: UpdateViews,
 }
 
-/// What an accepted mapping is made of: its model, store and mapping with their cells, and the regions of each entity set, in the order of the model.
+/// What an accepted mapping is made of: its model, store and mapping with their cells, the regions of each entity set, in the order of the model, and the
+/// update views.
 #[derive(Drop)]
 pub struct CompiledParts<'a> {
     pub parts: Parts<'a>,
     pub regions: &'a Seq<Seq<Region>>,
+    pub update_views: &'a UpdateViews,
 }
 
 impl Model for Compiled {
@@ -40,21 +45,27 @@ impl Model for Compiled {
 
     ghost view = { λ c. c.schema };
 
-    ghost invariant = { λ c. IsMeant c.schema × IsAccepted c.schema × AreMadeOf c.schema c.cells c.regions };
+    ghost invariant = { λ c. IsMeant c.schema × IsAccepted c.schema × AreMadeOf c.schema c.cells c.regions c.views };
 }
 
 impl Compiled {
     // What is accepted has to be meant by documents.
-    pub(crate) fn new(schema: Schema, cells: Cells, regions: Seq<Seq<Region>>) -> Compiled
+    pub(crate) fn new(
+        schema: Schema,
+        cells: Cells,
+        regions: Seq<Seq<Region>>,
+        views: UpdateViews,
+    ) -> Compiled
         requires meant { IsMeant schema }
         requires accepted { IsAccepted schema }
-        requires made { AreMadeOf schema cells regions }
+        requires made { AreMadeOf schema cells regions views }
         ensures { result ≡ schema }
     {
         Compiled {
             schema,
             cells,
             regions,
+            views,
         }
     }
 
@@ -68,11 +79,13 @@ impl Compiled {
         &self.schema
     }
 
-    /// Lends the same with their cells, and the regions of each entity set.
+    /// Lends the same with their cells, the regions of each entity set, and the update views.
     pub fn parts(&self) -> CompiledParts<'_>
         ensures lends { schema_in result.parts ≡ self.now }
+        ensures accepted { IsAccepted self.now }
         ensures parts { AreParts result.parts }
         ensures regions { AreRegions (basis_of result.parts) result.regions.now }
+        ensures update_views { AreViewsOf (basis_of result.parts) result.update_views.now }
     {
         CompiledParts {
             parts: Parts {
@@ -82,6 +95,7 @@ impl Compiled {
                 cells: &self.cells,
             },
             regions: &self.regions,
+            update_views: &self.views,
         }
     }
 }

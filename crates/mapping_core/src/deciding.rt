@@ -12,16 +12,18 @@ use cells::{Cells, Parts};
 use edm_types::{LimitFault, Schema};
 use emc_base::{Memory, Seq};
 use mapping_limits::first_limit;
-use mapping_verdict::{first_failure, regions_of_sets};
+use mapping_verdict::first_failure;
 use regions::Region;
+use set_regions::regions_of_sets;
 use std::alloc::Global;
+use update_views::UpdateViews;
 use witness_state::Failure;
 
 /// What is found of a schema.
 #[derive(Drop)]
 pub(crate) enum Judgement {
-    /// No limit is passed and no legal state fails; these are the regions of each entity set.
-    Keeps(Seq<Seq<Region>>),
+    /// No limit is passed and no legal state fails; these are the regions of each entity set, and the update views.
+    Keeps(Seq<Seq<Region>>, UpdateViews),
     /// A limit is passed.
     Limit(LimitFault),
     /// No limit is passed, and a legal state fails.
@@ -38,7 +40,7 @@ pub fn decide(alloc: Global, schema: Schema) -> Result<Compiled, Refusal>
 {
     let cells = Cells::of(alloc, &schema.model, &schema.store, &schema.mapping)?;
     match judge(alloc, &schema, &cells)? {
-        Judgement::Keeps(regions) => Ok(Compiled::new(schema, cells, regions)),
+        Judgement::Keeps(regions, views) => Ok(Compiled::new(schema, cells, regions, views)),
         Judgement::Limit(fault) => Err(Refusal::Limit(schema, fault)),
         Judgement::Fails(failure) => Err(Refusal::Fails(schema, failure)),
     }
@@ -61,8 +63,9 @@ fn judge(alloc: Global, schema: &Schema, cells: &Cells) -> Result<Judgement, Mem
         return Ok(Judgement::Limit(fault));
     }
     let regions = regions_of_sets(alloc, &parts)?;
-    match first_failure(alloc, &parts, &regions)? {
-        Some(failure) => Ok(Judgement::Fails(failure)),
-        None => Ok(Judgement::Keeps(regions)),
+    if let Some(failure) = first_failure(alloc, &parts, &regions)? {
+        return Ok(Judgement::Fails(failure));
     }
+    let views = UpdateViews::of(alloc, &parts, &regions)?;
+    Ok(Judgement::Keeps(regions, views))
 }

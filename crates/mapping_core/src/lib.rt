@@ -5,16 +5,24 @@
 mod compiled;
 mod compiling;
 mod deciding;
+mod documents;
 mod reading;
+mod storing;
 mod verdict;
 
 pub use compiled::{Compiled, CompiledParts};
 pub use compiling::compile;
 pub use deciding::decide;
-pub use edm_types::{EntityModel, LimitFault, LimitKind, RuleFault, Schema, VocabFault, VocabFile};
+pub use documents::read_entities;
+pub use edm_types::{
+    Breach, EntityModel, LimitFault, LimitKind, RuleFault, Schema, VocabFault, VocabFile,
+};
 pub use entity_state::EntityState;
 pub use json_form::{Doc, DocFault, place_text, quoted};
 pub use reading::{one_rule, read};
 pub use round_trip::FailKind;
+pub use shape_faults::ShapeFault;
+pub use storing::{StoreFault, store_all};
+pub use table_files::Tables;
 pub use verdict::{Refusal, Verdict};
 pub use witness_state::Failure;

@@ -9,7 +9,7 @@ ghost use Rattle.round_trip.specs.Words.{At, EntitySet, Keeps, RoundTrips, SetId
 ghost use Rattle.round_trip.specs.declared.FailKind.TheVariants as fails;
 ghost use Rattle.witness_state.specs.Failures.{IsFailureOf};
 ghost use Rattle.witness_state.specs.declared.failure.Failure.{Failure};
-ghost use Rattle.mapping_verdict.specs.Regions.{AreRegions};
+ghost use Rattle.set_regions.specs.Regions.{AreRegions};
 
 use cells::Parts;
 use conflicts::Conflict;

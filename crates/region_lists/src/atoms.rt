@@ -15,8 +15,8 @@ use edm_types::Prop;
 use emc_base::{Kind, Memory, PropId, Seq, Value, in_domain};
 use std::alloc::Global;
 
-// Whether a property is tested.
-pub(crate) fn is_tested(parts: &Parts<'_>, property: PropId) -> bool
+/// Whether a property is tested.
+pub fn is_tested(parts: &Parts<'_>, property: PropId) -> bool
     requires parts { AreParts parts.now }
     requires within { property.index < length parts.now.model.now.props }
     ensures { result ≡ (basis_of parts.now).tested (prop property) }
@@ -24,8 +24,8 @@ pub(crate) fn is_tested(parts: &Parts<'_>, property: PropId) -> bool
     parts.cells.tested(parts.cells.group_of_prop(property))
 }
 
-// The constants of a property's group.
-fn constants_of<'p>(parts: &'p Parts<'_>, property: PropId) -> &'p Seq<Value>
+/// The constants of a property's group, in their order.
+pub fn constants_of<'p>(parts: &'p Parts<'_>, property: PropId) -> &'p Seq<Value>
     requires parts { AreParts parts.now }
     requires within { property.index < length parts.now.model.now.props }
     ensures { result.now ≡ (basis_of parts.now).constants (prop property) }
@@ -80,12 +80,8 @@ fn count_fitting(kind: &Kind, constants: &Seq<Value>) -> u64
     count
 }
 
-// The atoms of a tested property, in their order.
-pub(crate) fn atoms_at(
-    alloc: Global,
-    parts: &Parts<'_>,
-    property: PropId,
-) -> Result<Seq<AtomOf>, Memory>
+/// The atoms of a tested property, in their order.
+pub fn atoms_at(alloc: Global, parts: &Parts<'_>, property: PropId) -> Result<Seq<AtomOf>, Memory>
     requires parts { AreParts parts.now }
     requires within { property.index < length parts.now.model.now.props }
     ensures { IfOk result (λ atoms. atoms ≡ atoms_at (basis_of parts.now) property) }

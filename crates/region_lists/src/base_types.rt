@@ -5,8 +5,8 @@ ghost use Rattle.sound_demand.specs.Deriving.{base_of, derives};
 use edm_types::EntityModel;
 use emc_base::{PropId, TypeId};
 
-// Whether a type is another or derived from it. The time is linear in the number of types above the first.
-pub(crate) fn derives(model: &EntityModel, t: TypeId, u: TypeId) -> bool
+/// Whether a type is another or derived from it. The time is linear in the number of types above the first.
+pub fn derives(model: &EntityModel, t: TypeId, u: TypeId) -> bool
     ensures { result ≡ derives model.now t u }
 {
     let mut at = t;
@@ -32,8 +32,8 @@ fn base_of(model: &EntityModel, t: TypeId) -> Option<TypeId>
     }
 }
 
-// The properties of a type, inherited ones included.
-pub(crate) fn props_of(model: &EntityModel, t: TypeId) -> &[PropId]
+/// The properties of a type, inherited ones included.
+pub fn props_of(model: &EntityModel, t: TypeId) -> &[PropId]
     ensures { result.now ≡ props_of model.now t }
 {
     match model.types.get(t.index as usize) {

@@ -48,20 +48,15 @@ fn count_of_set(parts: &Parts<'_>, set: SetId, entry: &EntitySet) -> u64
     total
 }
 
-// Whether a type is one of the set's, and concrete.
-pub(crate) fn is_listed(
-    model: &EntityModel,
-    entry: &EntitySet,
-    ty: TypeId,
-    declared: &EntityType,
-) -> bool
+/// Whether a type is one of the set's, and concrete.
+pub fn is_listed(model: &EntityModel, entry: &EntitySet, ty: TypeId, declared: &EntityType) -> bool
     ensures { result ≡ not declared.now.is_abstract && derives model.now ty entry.now.element }
 {
     !declared.is_abstract && derives(model, ty, entry.element)
 }
 
-// How many regions have the type: the choices of atoms and those of flags, multiplied.
-fn count_of_type(parts: &Parts<'_>, set: SetId, ty: TypeId) -> u64
+/// How many regions of the set have the type, or 1,048,576 where there are more: the choices of atoms and those of flags, multiplied.
+pub fn count_of_type(parts: &Parts<'_>, set: SetId, ty: TypeId) -> u64
     requires { AreParts parts.now }
     ensures { result ≡ capped (count_by (basis_of parts.now) set ty) }
 {

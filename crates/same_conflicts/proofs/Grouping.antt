@@ -17,10 +17,10 @@ use Rattle.same_conflicts.specs.declared.forms.Form.{Form}
 use Rattle.same_conflicts.specs.declared.forms.Held.{Held}
 use Rattle.same_conflicts.specs.declared.written.Written.{Written}
 use Rattle.same_conflicts.specs.Forms.{form_cmp, form_of}
-use Rattle.same_conflicts.specs.Groups.{items_of}
+use Rattle.item_groups.specs.Groups.{items_of}
 use Rattle.same_conflicts.specs.Rivals.{AreGrouped, IsFormAt}
 use Rattle.same_conflicts.specs.Written.{region_in}
-use Rattle.same_conflicts.proofs.Keyed.{is_equal, list_of, list_with}
+use Rattle.item_groups.proofs.Keyed.{is_equal, list_of, list_with}
 use Rattle.same_conflicts.proofs.Ordered.{form_total, forms_same, links_same}
 
 module _ (basis : Basis) (written : List Written) (groups : BTreeMap Form (Vec ℕ)) (grouped : AreGrouped basis written groups) (ordered : IsOrdered form_cmp groups) where

@@ -1,6 +1,5 @@
 mod Lists
 mod Walked
-mod Keyed
 mod Losing
 mod Beside
 mod Ordered

@@ -2,5 +2,4 @@ pub mod Written
 pub mod Lost
 pub mod Matching
 pub mod Forms
-pub mod Groups
 pub mod Rivals

@@ -12,7 +12,7 @@ use Rattle.same_conflicts.specs.declared.forms.Form.{Form}
 use Rattle.same_conflicts.specs.declared.rivals.Rivals.{Rivals}
 use Rattle.same_conflicts.specs.declared.written.Written.{Written}
 use Rattle.same_conflicts.specs.Forms.{form_cmp, form_of, shown_form}
-use Rattle.same_conflicts.specs.Groups.{items_at, items_of}
+use Rattle.item_groups.specs.Groups.{items_at, items_of}
 use Rattle.same_conflicts.specs.Matching.{rows_alike}
 use Rattle.same_conflicts.specs.Written.{AreWritten, region_in}
 

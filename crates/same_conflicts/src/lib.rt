@@ -4,7 +4,6 @@
 mod absent;
 mod first;
 mod forms;
-mod groups;
 mod lost;
 mod matching;
 mod rivals;

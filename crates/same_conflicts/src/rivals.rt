@@ -10,11 +10,11 @@ ghost use Rattle.same_conflicts.specs.declared.written.Written.{Written};
 ghost use Rattle.same_conflicts.specs.Written.{IsWritten, region_in};
 
 use crate::forms::{Form, form_of};
-use crate::groups::group;
 use crate::matching::rows_alike;
 use crate::written::Written;
 use cells::Parts;
 use emc_base::Memory;
+use item_groups::group;
 use regions::Region;
 use std::alloc::Global;
 use std::collections::BTreeMap;

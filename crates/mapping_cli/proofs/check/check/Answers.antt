@@ -1,15 +1,15 @@
-use Rattle.mapping_cli.proofs.Checked.{check_meant}
+use Rattle.std.proofs.Common.{◌≡◌, Err, sym, subst}
+use Rattle.mapping_cli.specs.declared.answer.Halt.{Halt}
+use Rattle.mapping_cli.specs.declared.answer.Halt.TheVariants.{Tells}
+use Rattle.mapping_cli.specs.declared.words.Command.TheVariants.{Check}
+use Rattle.mapping_cli.specs.RunSteps.{Accepts, AnswersOn, RefusesContents}
+use Rattle.mapping_cli.proofs.Checked.{check_refused}
 use Rattle.mapping_cli.proofs.check.check.Goals as goal
 
-pub verdict_on-requires-clause-meant : goal.verdict_on-requires-clause-meant
-verdict_on-requires-clause-meant c = record { csdl = c.at.result.now; ssdl = c.at-2.result.now; msl = c.at-3.result.now; means = c.in-Ok.ensures.means }
-
-pub verdict_on-requires-clause-sound : goal.verdict_on-requires-clause-sound
-verdict_on-requires-clause-sound c = c.in-Ok.ensures.sound
-
-pub verdict_on-requires-clause-form : goal.verdict_on-requires-clause-form
-verdict_on-requires-clause-form c = c.in-Ok.ensures.form
-
-pub returns-in-Ok : goal.returns-in-Ok
-returns-in-Ok c = check_meant c.args.contents.now c.at.result.now c.at-2.result.now c.at-3.result.now c.at.ensures c.at-2.ensures c.at-3.ensures
-    c.in-Ok.schema c.verdict_on.result c.in-Ok.ensures.means c.verdict_on.ensures
+pub returns-in-Err-Tells : goal.returns-in-Err-Tells
+returns-in-Err-Tells c =
+    let answer = c.in-Err-Tells.answer in
+    let field : c.in-Err-Tells.field-0 ≡ Tells answer = cc in
+    let Told : Halt → Type 0 = λ halt. Accepts c.args.contents.now (Err halt) in
+    let refuses : RefusesContents c.args.contents.now answer = subst Told field c.in-Err-Tells.ensures in
+    subst (AnswersOn Check c.args.contents.now) (sym c.in-Err-Tells.answer-is) (check_refused c.args.contents.now answer refuses)

@@ -1,10 +1,10 @@
 use Rattle.std.proofs.Common.{ℕ, List, sym, subst}
 use Rattle.mapping_cli.specs.Inputs.{AreInputs}
-use Rattle.mapping_cli.proofs.Answered.{ends_result, three_contents}
+use Rattle.mapping_cli.proofs.Answered.{counted_contents, ends_result}
 use Rattle.mapping_cli.proofs.commands.answer_of.Goals as goal
 
 pub answer_on-requires : goal.answer_on-requires
-answer_on-requires g c = three_contents (g.F.Files.held c.args.files.now) c.args.words.now c.in-Ok.contents c.in-Some.command (sym c.in-Some.ensures)
+answer_on-requires g c = counted_contents (g.F.Files.held c.args.files.now) c.args.words.now c.in-Ok.contents c.in-Some.command (sym c.in-Some.ensures)
     (subst (λ (names : List (List ℕ)). AreInputs (g.F.Files.held c.args.files.now) names c.in-Ok.contents) c.inputs_of.ensures c.in-Ok.ensures.reads.1)
 
 pub returns-in-Ok-clause-ends : goal.returns-in-Ok-clause-ends

@@ -1,0 +1,95 @@
+-- The cells of a case, by the cells of its pattern.
+use Rattle.std.proofs.Common.{◌≡◌, ◌<◌, ℕ, List, map, length, option_map, Bool, Some, sym, ap, subst, ◌∙◌}
+use Rattle.std.specs.List.{enumerate_from}
+use Rattle.std.proofs.lemmas.List.{length-map}
+use Rattle.std.proofs.lemmas.List.FromFn.{length-enumerate_from}
+use Rattle.std.proofs.lemmas.Option.{slice_get-map, slice_get_within}
+use Rattle.emc_base.proofs.Lists.{item_at}
+use Rattle.emc_base.proofs.Mapped.{contains_map}
+use Rattle.emc_base.proofs.Numbered.{map_contains, numbered_at}
+use Rattle.round_trip.specs.Words.{TableId, ColId, Row, Tables, Value, At}
+use Rattle.regions.specs.declared.region.Region.{Region}
+use Rattle.regions.specs.declared.pattern.Focus.TheVariants as focus
+use Rattle.regions.specs.declared.pattern.PatternRow.{PatternRow}
+use Rattle.regions.specs.declared.pattern.Symbol.{Symbol}
+use Rattle.regions.specs.Basis.{Basis}
+use Rattle.regions.specs.Patterns.{pattern_of}
+use Rattle.pattern_laws.specs.Listed.{HasCell as IsCellOf}
+use Rattle.region_cases.specs.declared.case.CaseCell.{CaseCell}
+use Rattle.region_cases.specs.declared.case.CaseRow.{CaseRow}
+use Rattle.region_cases.specs.Cases.{case_cell, case_of, case_row}
+use Rattle.region_cases.specs.Meets.{HasCell, StandsHere}
+
+-- an item of a list of images is an image
+at_image : {X Y : Type 0} (f : X → Y) (xs : List X) (i : ℕ) (y : Y) → At (map f xs) i y → (x : X) × At xs i x × (f x ≡ y)
+at_image {X} {Y} f xs i y here =
+    let within : i < length xs = subst (λ n. i < n) (length-map xs f) (slice_get_within (map f xs) i y here) in
+    let found = item_at xs i within in
+    let same : Some (f found.0) ≡ Some y = sym (slice_get-map f xs i ∙ ap (option_map f) found.1) ∙ here in
+    let is : f found.0 ≡ y = cc in
+    (found.0, found.1, is)
+
+-- the cell of a region's pattern at a column
+abbrev pub IsCell : Basis → Region → TableId → ColId → List Symbol → Type 0
+IsCell basis region t col symbols = IsCellOf (pattern_of basis (focus.Entity region)) t col symbols
+
+module _ (is_free : TableId → ColId → Bool) (basis : Basis) (region : Region) where
+  -- what the case tells of a column in which these symbols are listed
+  abbrev pub told_of_cell : TableId → ColId → List Symbol → CaseCell
+  told_of_cell t col symbols = case_cell is_free basis.schema.model region.atoms t col symbols
+
+  abbrev row_of : PatternRow → CaseRow
+  row_of = case_row is_free basis.schema.model region.atoms
+
+  abbrev rows : List PatternRow
+  rows = (pattern_of basis (focus.Entity region)).rows
+
+  cell_of_row : (row : PatternRow) (col : ColId) (symbols : List Symbol) → At row.cells col.index symbols → At (row_of row).cells col.index (told_of_cell row.table col symbols)
+  cell_of_row row col symbols here =
+      let f : ℕ × List Symbol → CaseCell = λ placed. told_of_cell row.table (record { index = placed.0 }) placed.1 in
+      slice_get-map f (enumerate_from 0 row.cells) col.index ∙ ap (option_map f) (numbered_at row.cells col.index symbols here)
+
+  row_of_cell : (row : PatternRow) (col : ColId) (told : CaseCell) → At (row_of row).cells col.index told
+      → (symbols : List Symbol) × At row.cells col.index symbols × (told ≡ told_of_cell row.table col symbols)
+  row_of_cell row col told here =
+      let f : ℕ × List Symbol → CaseCell = λ placed. told_of_cell row.table (record { index = placed.0 }) placed.1 in
+      let image = at_image f (enumerate_from 0 row.cells) col.index told here in
+      let within : col.index < length row.cells =
+      subst (λ n. col.index < n) (length-enumerate_from 0 row.cells) (slice_get_within (enumerate_from 0 row.cells) col.index image.0 image.1) in
+      let found = item_at row.cells col.index within in
+      let same : Some (col.index, found.0) ≡ Some image.0 = sym (numbered_at row.cells col.index found.0 found.1) ∙ image.1 in
+      let is : (col.index, found.0) ≡ image.0 = cc in
+      (found.0, found.1, sym image.2 ∙ ap f (sym is))
+
+  module _ (tables : Tables) (key : List Value) where
+    -- a row that stands at the key
+    abbrev pub Stands : TableId → Row → Type 0
+    Stands = StandsHere basis tables key (case_of is_free basis region)
+
+    abbrev pub Tells : TableId → Row → ColId → CaseCell → Type 0
+    Tells = HasCell basis tables key (case_of is_free basis region)
+
+    -- what the case tells of a column is told of the pattern's cell there
+    pub cell_of_told : (t : TableId) (held : Row) (col : ColId) (told : CaseCell) → Tells t held col told
+        → (symbols : List Symbol) × IsCell basis region t col symbols × (told ≡ told_of_cell t col symbols)
+    cell_of_told t held col told has =
+        let made = map_contains row_of rows has.row has.of_case in
+        let of_table : made.0.table ≡ t = ap (λ (one : CaseRow). one.table) made.2 ∙ has.of_table in
+        let P : CaseRow → Type 0 = λ one. At one.cells col.index told in
+        let found = row_of_cell made.0 col told (subst P (sym made.2) has.is_cell) in (
+          found.0,
+          record { row = made.0; is_row = made.1; of_table = of_table; is_cell = found.1 },
+          found.2 ∙ ap (λ u. told_of_cell u col found.0) of_table,
+        )
+
+    -- and the other way
+    pub told_of_row : (t : TableId) (held : Row) → Stands t held → (col : ColId) (symbols : List Symbol) → IsCell basis region t col symbols → Tells t held col (told_of_cell t col symbols)
+    told_of_row t held stands col symbols has =
+        let P : TableId → Type 0 = λ u. At (row_of has.row).cells col.index (told_of_cell u col symbols) in
+        record {
+          row = row_of has.row;
+          of_case = contains_map row_of rows has.row has.is_row;
+          of_table = has.of_table;
+          stands = stands;
+          is_cell = subst P has.of_table (cell_of_row has.row col symbols has.is_cell);
+        }

@@ -1,0 +1,70 @@
+-- The rows of tables that are those of a state, but for their free cells.
+use Rattle.std.proofs.Common.{◌≡◌, ℕ, List, slice_get, Contains, Option, Some, None, MatchOption, refl, sym, subst, ◌∙◌}
+use Rattle.std.specs.List.{AllZip}
+use Rattle.std.specs.Option.{IsSomeAnd}
+use Rattle.std.proofs.lemmas.Slice.Zip.{AllZip-left, AllZip-right}
+use Rattle.base_chains.proofs.Orders.{place_of_member}
+use Rattle.emc_base.proofs.Lists.{at_once, same_place}
+use Rattle.emc_base.proofs.Mapped.{contains_at}
+use Rattle.round_trip.specs.Words.{TableId, IsErasedRow, IsFree, IsWritten, Row, State, Table, Tables, At, cell_of, row_key, rows_in}
+use Rattle.state_demand.proofs.Places.{map_agree}
+use Rattle.state_demand.proofs.ReadBack.{rows_demanded}
+use Rattle.regions.specs.Basis.{Basis}
+use Rattle.region_laws.specs.IsBasis.{IsBasis}
+use Rattle.case_laws.specs.Reading.{HasStateTables}
+use Rattle.case_laws.proofs.Settling.{key_named}
+
+-- items of zipped lists at one place
+zipped_left : {X Y : Type 0} (R : X → Y → Type 0) (xs : List X) (ys : List Y) → AllZip R xs ys → (i : ℕ) (x : X) → At xs i x → (y : Y) × At ys i y × R x y
+zipped_left {X} {Y} R xs ys zipped i x here =
+    let P : Option X → Type 0 = λ found. MatchOption found (Unit {0}) (λ one. IsSomeAnd (slice_get ys i) (R one)) in
+    by (slice_get ys i) refl (subst P here (AllZip-left R xs ys zipped i))
+  where
+    by : (found : Option Y) → slice_get ys i ≡ found → IsSomeAnd found (R x) → (y : Y) × At ys i y × R x y
+    by None none never = absurd never
+    by (Some y) at holds = (y, at, holds)
+
+zipped_right : {X Y : Type 0} (R : X → Y → Type 0) (xs : List X) (ys : List Y) → AllZip R xs ys → (i : ℕ) (y : Y) → At ys i y → (x : X) × At xs i x × R x y
+zipped_right {X} {Y} R xs ys zipped i y here =
+    let P : Option Y → Type 0 = λ found. MatchOption found (Unit {0}) (λ one. IsSomeAnd (slice_get xs i) (λ x. R x one)) in
+    by (slice_get xs i) refl (subst P here (AllZip-right R xs ys zipped i))
+  where
+    by : (found : Option X) → slice_get xs i ≡ found → IsSomeAnd found (λ x. R x y) → (x : X) × At xs i x × R x y
+    by None none never = absurd never
+    by (Some x) at holds = (x, at, holds)
+
+module _ (basis : Basis) (is : IsBasis basis) (state : State) (tables : Tables) (has : HasStateTables basis.schema state tables) (t : TableId) where
+  abbrev Erases : Row → Row → Type 0
+  Erases = IsErasedRow (IsFree basis.schema t)
+
+  abbrev zipped : AllZip Erases (rows_in tables t) (rows_in has.erased t)
+  zipped = has.are_erased.rows t
+
+  -- each row is one of the state's, but for its free cells
+  pub erased_row : (held : Row) → Contains (rows_in tables t) held → (row : Row) × Contains (rows_in has.erased t) row × Erases held row
+  erased_row held among =
+      let found = zipped_left Erases (rows_in tables t) (rows_in has.erased t) zipped among.0 held (place_of_member (rows_in tables t) held among) in
+      (found.0, contains_at (rows_in has.erased t) among.0 found.0 found.1, found.2)
+
+  -- and the other way
+  pub held_row : (row : Row) → Contains (rows_in has.erased t) row → (held : Row) × Contains (rows_in tables t) held × Erases held row
+  held_row row among =
+      let found = zipped_right Erases (rows_in tables t) (rows_in has.erased t) zipped among.0 row (place_of_member (rows_in has.erased t) row among) in
+      (found.0, contains_at (rows_in tables t) among.0 found.0 found.1, found.2)
+
+  module _ (table : Table) (is_table : At basis.schema.store.tables t.index table) (written : IsWritten basis.schema.mapping t) where
+    -- of one key
+    pub key_kept : (held row : Row) → Erases held row → row_key table held ≡ row_key table row
+    key_kept held row erases = map_agree (cell_of held) (cell_of row) table.key
+        (λ col among. sym (erases.rest col (key_named basis is t table is_table written col among)))
+
+    -- so no two have one key
+    pub one_row : (one other : Row) → Contains (rows_in tables t) one → Contains (rows_in tables t) other → row_key table one ≡ row_key table other → one ≡ other
+    one_row one other among too same =
+        let first = zipped_left Erases (rows_in tables t) (rows_in has.erased t) zipped among.0 one (place_of_member (rows_in tables t) one among) in
+        let second = zipped_left Erases (rows_in tables t) (rows_in has.erased t) zipped too.0 other (place_of_member (rows_in tables t) other too) in
+        let alike : row_key table first.0 ≡ row_key table second.0 = sym (key_kept one first.0 first.2) ∙ same ∙ key_kept other second.0 second.2 in
+        let place : among.0 ≡ too.0 = same_place (row_key table) (rows_in has.erased t) among.0 too.0 first.0 second.0
+        (rows_demanded basis.schema state has.erased has.are t table is_table).once first.1 second.1 alike in
+        let P : ℕ → Type 0 = λ i. At (rows_in tables t) i one in
+        at_once (rows_in tables t) too.0 one other (subst P place (place_of_member (rows_in tables t) one among)) (place_of_member (rows_in tables t) other too)

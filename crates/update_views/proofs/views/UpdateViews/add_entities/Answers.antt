@@ -1,0 +1,27 @@
+use Rattle.std.proofs.Common.{◌++◌, List, flat_map, take, Some, sym, ap, ◌∙◌}
+use Rattle.std.proofs.lemmas.Option.{slice_get-get_or}
+use Rattle.emc_base.specs.Lists.{At}
+use Rattle.round_trip.specs.Words.{Entity, key_of}
+use Rattle.host_links.specs.Grouped.{links_in}
+use Rattle.table_files.specs.declared.tables.TableRow.{TableRow}
+use Rattle.update_views.specs.Placed.{with_rows}
+use Rattle.update_views.specs.Views.{local_rows}
+use Rattle.update_views.proofs.Added.{next_lists, rows_added}
+use Rattle.update_views.proofs.views.UpdateViews.add_entities.Goals as goal
+
+pub loop-entity-preserved : goal.loop-entity-preserved
+loop-entity-preserved c =
+    let i = c.loop-entity.entity-index in
+    let views = c.args.self.now in
+    let s = c.args.set in
+    let entities = c.args.entities.now in
+    let first = c.args.tables.now in
+    let before = c.loop-entity.tables in
+    let entity : Entity = c.entity-item.result in
+    let stands : At entities i entity = slice_get-get_or entities i entity c.loop-entity-test.true ∙ ap Some (sym c.entity-item.is) in
+    let f : Entity → List TableRow = λ one. local_rows views s one (links_in c.args.hosts.now s (key_of c.args.parts.now.model.now one)) in
+    let so_far = flat_map f (take i entities) in (
+      c.add_rows.ensures.kept ∙ c.loop-entity.invariant.0,
+      rows_added first before c.add_rows.new.tables so_far c.in_ok-rows.rows.items c.loop-entity.invariant.1 c.in_ok-add_rows.ensures.added
+          ∙ ap (with_rows first) (ap (λ more. so_far ++ more) c.in_ok-rows.ensures ∙ next_lists f entities i entity stands),
+    )

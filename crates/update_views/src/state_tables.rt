@@ -1,0 +1,190 @@
+ghost use Rattle.std.specs.Prelude.{◌≡◌, ◌<◌, All, IfOk, List, flat_map, length, map};
+ghost use Rattle.std.specs.List.{enumerate_from};
+ghost use Rattle.emc_base.specs.declared.ids.SetId.{SetId};
+ghost use Rattle.round_trip.specs.Words.{Hosted, IsLegal, TablesAre, Value, key_of};
+ghost use Rattle.round_trip.specs.TablesAre.{HasNoClash};
+ghost use Rattle.cells.specs.Parts.{AreParts, schema_in};
+ghost use Rattle.host_links.specs.Grouped.{links_in};
+ghost use Rattle.region_basis.specs.BasisOf.{basis_of};
+ghost use Rattle.region_laws.specs.Partners.{HasFewPartners};
+ghost use Rattle.filled_rows.specs.Gathered.{rows_of_links, rows_of_set};
+ghost use Rattle.update_views.specs.Placed.{with_rows};
+ghost use Rattle.update_views.specs.Views.{AreViewsOf, joined_row, local_rows};
+ghost use Rattle.view_rows.specs.Held.{row_by_link};
+
+use crate::views::UpdateViews;
+use cells::Parts;
+use edm_types::{Entity, Link};
+use emc_base::{AssocId, Memory, Seq, SetId};
+use entity_state::EntityState;
+use entity_values::key_of;
+use host_links::HostLinks;
+use std::alloc::Global;
+use table_files::{TableRow, Tables};
+use view_rows::LinkRow;
+
+impl UpdateViews {
+    /// The tables of a legal state in which no two demanded values clash: one pass over its entities and its links. The associations that are hosted may let
+    /// an entity have few partners alone. `Memory` comes where memory ran out.
+    pub fn tables_of(
+        &self,
+        alloc: Global,
+        parts: &Parts<'_>,
+        state: &EntityState,
+    ) -> Result<Tables, Memory>
+        requires parts { AreParts parts.now }
+        requires views { AreViewsOf (basis_of parts.now) self.now }
+        requires few { (s : SetId) → HasFewPartners (basis_of parts.now) s }
+        requires legal { IsLegal parts.now.model.now state.now }
+        requires clear { HasNoClash (schema_in parts.now) state.now }
+        ensures tables { IfOk result (TablesAre (schema_in parts.now) state.now) }
+    {
+        let hosts = HostLinks::of(alloc, parts.model, parts.cells, state)?;
+        let mut tables = Tables::empty(alloc, parts.store)?;
+        self.add_sets(alloc, parts, &hosts, state.entity_lists(), &mut tables)?;
+        self.add_links(alloc, parts, state.link_lists(), &mut tables)?;
+        Ok(tables)
+    }
+
+    // Adds the rows of the entities of each set.
+    fn add_sets(
+        &self,
+        alloc: Global,
+        parts: &Parts<'_>,
+        hosts: &HostLinks,
+        entities: &[Seq<Entity>],
+        tables: &mut Tables,
+    ) -> Result<(), Memory>
+        requires parts { AreParts parts.now }
+        requires views { AreViewsOf (basis_of parts.now) self.now }
+        requires each { length tables.old ≡ length parts.now.store.now.tables }
+        ensures kept { length tables.new ≡ length tables.old }
+        ensures added { IfOk result (λ _. tables.new ≡ with_rows tables.old
+            (flat_map (rows_of_set parts.now.model.now (local_rows self.now) (joined_row self.now) (links_in hosts.now)) (enumerate_from 0 entities.now))) }
+    {
+        for (index, of_set) in entities.iter().enumerate() {
+            let Ok(number) = u32::try_from(index) else {
+                return Err(Memory);
+            };
+            let set = SetId { index: number };
+            self.add_entities(alloc, parts, hosts, set, of_set.as_slice(), tables)?;
+        }
+        Ok(())
+    }
+
+    // Adds the rows of the entities of a set.
+    fn add_entities(
+        &self,
+        alloc: Global,
+        parts: &Parts<'_>,
+        hosts: &HostLinks,
+        set: SetId,
+        entities: &[Entity],
+        tables: &mut Tables,
+    ) -> Result<(), Memory>
+        requires parts { AreParts parts.now }
+        requires views { AreViewsOf (basis_of parts.now) self.now }
+        requires each { length tables.old ≡ length parts.now.store.now.tables }
+        ensures kept { length tables.new ≡ length tables.old }
+        ensures added { IfOk result (λ _. tables.new ≡ with_rows tables.old
+            (rows_of_set parts.now.model.now (local_rows self.now) (joined_row self.now) (links_in hosts.now) (set.index, entities.now))) }
+    {
+        for entity in entities {
+            let rows = self.rows_with_links(alloc, parts, hosts, set, entity)?;
+            add_rows(rows, tables)?;
+        }
+        Ok(())
+    }
+
+    // The rows of an entity with the links that it hosts.
+    fn rows_with_links(
+        &self,
+        alloc: Global,
+        parts: &Parts<'_>,
+        hosts: &HostLinks,
+        set: SetId,
+        entity: &Entity,
+    ) -> Result<Vec<TableRow>, Memory>
+        ensures { IfOk result (λ rows. rows.items ≡ local_rows self.now set entity.now (links_in hosts.now set (key_of parts.now.model.now entity.now))) }
+    {
+        let key = key_of(alloc, parts.model, entity)?;
+        self.rows_of(alloc, set, entity, hosts.at(set, &key))
+    }
+
+    // Adds the rows of the links of each association set, where they have rows of their own.
+    fn add_links(
+        &self,
+        alloc: Global,
+        parts: &Parts<'_>,
+        links: &[Seq<Link>],
+        tables: &mut Tables,
+    ) -> Result<(), Memory>
+        requires parts { AreParts parts.now }
+        requires views { AreViewsOf (basis_of parts.now) self.now }
+        requires each { length tables.old ≡ length parts.now.store.now.tables }
+        ensures kept { length tables.new ≡ length tables.old }
+        ensures added { (hosted : SetId → List Value → List Hosted) → IfOk result (λ _. tables.new ≡ with_rows tables.old
+            (flat_map (rows_of_links parts.now.model.now (local_rows self.now) (joined_row self.now) hosted) (enumerate_from 0 links.now))) }
+    {
+        for (index, of_assoc) in links.iter().enumerate() {
+            let Ok(number) = u32::try_from(index) else {
+                return Err(Memory);
+            };
+            let assoc = AssocId { index: number };
+            self.add_links_of(alloc, parts, assoc, of_assoc.as_slice(), tables)?;
+        }
+        Ok(())
+    }
+
+    // Adds the rows of the links of an association set, where they have rows of their own.
+    fn add_links_of(
+        &self,
+        alloc: Global,
+        parts: &Parts<'_>,
+        assoc: AssocId,
+        links: &[Link],
+        tables: &mut Tables,
+    ) -> Result<(), Memory>
+        requires parts { AreParts parts.now }
+        requires views { AreViewsOf (basis_of parts.now) self.now }
+        requires each { length tables.old ≡ length parts.now.store.now.tables }
+        ensures kept { length tables.new ≡ length tables.old }
+        ensures added { (hosted : SetId → List Value → List Hosted) → IfOk result (λ _. tables.new ≡ with_rows tables.old
+            (rows_of_links parts.now.model.now (local_rows self.now) (joined_row self.now) hosted (assoc.index, links.now))) }
+    {
+        match self.joined_at(assoc) {
+            Some(row) => add_link_rows(alloc, row, links, tables),
+            None => Ok(()),
+        }
+    }
+}
+
+// Adds the row of each link.
+fn add_link_rows(
+    alloc: Global,
+    row: &LinkRow,
+    links: &[Link],
+    tables: &mut Tables,
+) -> Result<(), Memory>
+    requires { row.now.table.index < length tables.old }
+    ensures kept { length tables.new ≡ length tables.old }
+    ensures added { IfOk result (λ _. tables.new ≡ with_rows tables.old (map (row_by_link row.now) links.now)) }
+{
+    for link in links {
+        let placed = row.filled(alloc, link)?;
+        tables.insert(placed.table, placed.row)?;
+    }
+    Ok(())
+}
+
+// Adds rows, each behind those of its table.
+fn add_rows(rows: Vec<TableRow>, tables: &mut Tables) -> Result<(), Memory>
+    requires { All (λ placed. placed.table.index < length tables.old) rows.items }
+    ensures kept { length tables.new ≡ length tables.old }
+    ensures added { IfOk result (λ _. tables.new ≡ with_rows tables.old rows.items) }
+{
+    for placed in rows {
+        tables.insert(placed.table, placed.row)?;
+    }
+    Ok(())
+}
