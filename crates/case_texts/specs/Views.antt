@@ -1,13 +1,13 @@
 -- The text of query views: a line for each entity set, and then one for each joined association.
 -- Source: this project's view documents.
-use Rattle.std.specs.Prelude.{ℕ, List, [], ◌∷◌, ◌++◌, map, flat_map, zip, slice_get, unwrap_or, codes}
+use Rattle.std.specs.Prelude.{ℕ, Bool, List, [], ◌∷◌, ◌++◌, map, flat_map, zip, slice_get, unwrap_or, codes}
 use Rattle.std.specs.List.{enumerate_from}
 use Rattle.std.specs.Option.{option_map_or}
 use Rattle.serde_json.specs.Data.{Data, string}
 use Rattle.json_form.specs.Documents.{printed}
 use Rattle.json_form.specs.Trees.{array_of, object_of}
 use Rattle.entity_state.specs.StateTree.{name_of}
-use Rattle.round_trip.specs.Words.{AssocId, EntityModel, EntitySet, Assoc, StoreModel, Column}
+use Rattle.round_trip.specs.Words.{AssocId, PropId, EntityModel, EntitySet, Assoc, StoreModel, Column}
 use Rattle.table_owners.specs.declared.places.LinkPlace.{LinkPlace}
 use Rattle.table_owners.specs.declared.places.LinkPlace.TheVariants as place
 use Rattle.cells.specs.declared.parts.Parts.{Parts}
@@ -21,10 +21,14 @@ use Rattle.region_cases.specs.Links.{link_case_of}
 use Rattle.case_texts.specs.CaseTree.{case_tree, free_tree, is_tree}
 use Rattle.case_texts.specs.Names.{assoc_name, columns_of, role_name, table_name}
 
+-- a part of the key at an end
+abbrev pub part_tree : EntityModel → AssocId → Bool → PropId → Data
+part_tree model a first p = object_of ((codes "property", string (name_of model p)) ∷ (codes "role", string (role_name model a first)) ∷ [])
+
 -- what a cell of a link's row holds: a value, a part of the key at the end of a role, or anything
 abbrev pub end_tree : EntityModel → AssocId → LinkCaseCell → Data
 end_tree model a (cell.Const value) = is_tree value
-end_tree model a (cell.End first p) = object_of ((codes "property", string (name_of model p)) ∷ (codes "role", string (role_name model a first)) ∷ [])
+end_tree model a (cell.End first p) = part_tree model a first p
 end_tree model a cell.Free = free_tree
 
 -- a column's name and what its cell holds

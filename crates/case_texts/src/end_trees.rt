@@ -1,10 +1,7 @@
-ghost use Rattle.std.specs.Prelude.{◌≡◌, ◌∷◌, [], IfOk, codes, map, zip};
-ghost use Rattle.serde_json.specs.Data.{string};
+ghost use Rattle.std.specs.Prelude.{◌≡◌, IfOk, map, zip};
 ghost use Rattle.serde_json.specs.View.{view};
 ghost use Rattle.json_form.specs.Trees.{object_of};
-ghost use Rattle.entity_state.specs.StateTree.{name_of};
-ghost use Rattle.case_texts.specs.Names.{role_name};
-ghost use Rattle.case_texts.specs.Views.{end_member, end_tree, joined_tree};
+ghost use Rattle.case_texts.specs.Views.{end_member, end_tree, joined_tree, part_tree};
 
 use crate::cell_trees::{free_tree, is_tree};
 use crate::names::{assoc_name, columns_of, name_of, role_name, table_name};
@@ -77,7 +74,7 @@ fn part_tree(
     first: bool,
     prop: PropId,
 ) -> Result<Tree, Memory>
-    ensures { IfOk result (λ tree. view tree ≡ object_of ((codes "property", string (name_of model.now prop)) ∷ (codes "role", string (role_name model.now assoc first)) ∷ [])) }
+    ensures { IfOk result (λ tree. view tree ≡ part_tree model.now assoc first prop) }
 {
     let mut members = Map::new(alloc);
     let name = text_tree(alloc, name_of(model, prop))?;

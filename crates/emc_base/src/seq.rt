@@ -53,6 +53,13 @@ impl<T> Seq<T> {
         Ok(Seq { items })
     }
 
+    /// The items, as a vector, which is moved and not copied.
+    pub fn into_vec(self) -> Vec<T>
+        ensures { result.items ≡ self }
+    {
+        self.items
+    }
+
     /// Adds an item at the end. A full list counts as want of memory; the item is dropped then.
     pub fn push(&mut self, item: T) -> Result<(), Memory>
     where

@@ -1,51 +1,39 @@
 -- What the words of a command give, by what was read.
-use Rattle.std.proofs.Common.{◌≡◌, ◌≤◌, ℕ, List, [], ◌∷◌, length, ◌==◌, ◌&&◌, Bool, true, false, Option, Some, None, Result, Ok, Err, IfOk, MatchOption, if◌then◌else◌, codes, inl, inr, refl, sym, subst, ◌∙◌, arith}
-use Rattle.std.specs.Str.{bytes_eq}
-use Rattle.std.proofs.lemmas.Bool.{and_parts}
+use Rattle.std.proofs.Common.{◌≡◌, ◌≤◌, ℕ, List, [], ◌∷◌, length, ◌==◌, Bool, true, false, Option, Some, None, option_and_then, Result, Ok, Err, IfOk, MatchOption, if◌then◌else◌, inl, inr, refl, sym, subst, ◌∙◌, arith}
 use Rattle.std.proofs.lemmas.Option.{none-some, same_Some}
 use Rattle.std.proofs.lemmas.Bool.Decides.{nat_tests}
 use Rattle.emc_base.specs.declared.memory.Memory.{Memory}
 use Rattle.emc_files.specs.Files.{FileMap}
-use Rattle.mapping_cli.specs.declared.answer.Answer.{Answer}
-use Rattle.mapping_cli.specs.declared.status.Status.{Status}
-use Rattle.mapping_cli.specs.declared.status.Status.TheVariants.{Usage}
-use Rattle.mapping_cli.specs.declared.words.Command.{Command}
-use Rattle.mapping_cli.specs.declared.words.Command.TheVariants.{Check, Store}
-use Rattle.mapping_cli.specs.Commands.{command_of, input_count, inputs_of}
+use Rattle.command_answers.specs.declared.answer.Answer.{Answer}
+use Rattle.command_answers.specs.declared.status.Status.{Status}
+use Rattle.command_answers.specs.declared.status.Status.TheVariants.{Usage}
+use Rattle.command_answers.specs.declared.command.Command.{Command}
+use Rattle.command_answers.specs.Commands.{input_count}
+use Rattle.mapping_cli.specs.Commands.{command_named, command_of, inputs_of, with_names}
 use Rattle.mapping_cli.specs.Inputs.{AreInputs}
-use Rattle.mapping_cli.specs.Gives.{GivesInputs, GivesOn, Says}
-use Rattle.mapping_cli.specs.RunSteps.{AnswersOn, EndsWith}
+use Rattle.command_answers.specs.Gives.{GivesOn, Says}
+use Rattle.mapping_cli.specs.Gives.{GivesInputs}
+use Rattle.command_answers.specs.Answers.{AnswersOn}
+use Rattle.mapping_cli.specs.RunSteps.{EndsWith}
 use Rattle.mapping_cli.specs.Runs.{Ends}
-use Rattle.mapping_cli.specs.Texts.{usage_text}
+use Rattle.command_texts.specs.Texts.{usage_text}
 use Rattle.mapping_cli.proofs.FilesRead.{as_many}
 
-module _ (word : List ℕ) (names : List (List ℕ)) where
-  -- a command of this many names
-  by_command : (one command : Command) → length names ≡ input_count one → one ≡ command → length (inputs_of command (word ∷ names)) ≡ input_count command
-  by_command one command many same = let P : Command → Type 0 = λ c. length names ≡ input_count c in names_of command (subst P same many)
-    where
-      names_of : (c : Command) → length names ≡ input_count c → length (inputs_of c (word ∷ names)) ≡ input_count c
-      names_of Check many = many
-      names_of Store many = many
-
-  -- the names that a command has
-  by_words : (is_check : Bool) → (bytes_eq word (codes "check") && length names == 3) ≡ is_check
-      → (is_store : Bool) → (bytes_eq word (codes "store") && length names == 4) ≡ is_store
-      → (command : Command) → (if is_check then Some Check else (if is_store then Some Store else None)) ≡ Some command
-      → length (inputs_of command (word ∷ names)) ≡ input_count command
-  by_words true holds is_store _ command some =
-      let parts = and_parts (bytes_eq word (codes "check")) (length names == 3) holds in
-      let many : length names ≡ 3 = grind (arith, nat_tests) in by_command Check command many (same_Some Check command some)
-  by_words false _ true holds command some =
-      let parts = and_parts (bytes_eq word (codes "store")) (length names == 4) holds in
-      let many : length names ≡ 4 = grind (arith, nat_tests) in by_command Store command many (same_Some Store command some)
-  by_words false _ false _ command some = absurd (none-some command some)
+-- a command with its names has as many as it counts
+counted : (count : ℕ) (named : Option Command) (command : Command) → option_and_then (with_names count) named ≡ Some command → count ≡ input_count command
+counted count None command is = absurd (none-some command is)
+counted count (Some one) command is = by (count == input_count one) refl is
+  where
+    by : (many : Bool) → (count == input_count one) ≡ many → (if many then Some one else None) ≡ Some command → count ≡ input_count command
+    by true holds some =
+        let same : count ≡ input_count one = grind (arith, nat_tests) in
+        let Counts : Command → Type 0 = λ c. count ≡ input_count c in subst Counts (same_Some one command some) same
+    by false _ some = absurd (none-some command some)
 
 -- a command has as many input files as it counts
 counted_inputs : (words : List (List ℕ)) (command : Command) → command_of words ≡ Some command → length (inputs_of command words) ≡ input_count command
 counted_inputs [] command is = absurd (none-some command is)
-counted_inputs (word ∷ names) command is =
-    by_words word names (bytes_eq word (codes "check") && length names == 3) refl (bytes_eq word (codes "store") && length names == 4) refl command is
+counted_inputs (word ∷ names) command is = counted (length names) (command_named word) command is
 
 -- and so many contents
 pub counted_contents : (held : Option FileMap) (words contents : List (List ℕ)) (command : Command) → command_of words ≡ Some command

@@ -4,16 +4,17 @@ use Rattle.std.proofs.lemmas.Bool.Decides.{nat_tests}
 use Rattle.std.specs.Bool.{⊤}
 use Rattle.std.proofs.lemmas.List.{append-nil}
 use Rattle.emc_files.specs.Files.{FileMap}
-use Rattle.mapping_core.specs.Words.{Schema, State}
-use Rattle.mapping_cli.specs.declared.status.Status.{Status}
-use Rattle.mapping_cli.specs.declared.status.Status.TheVariants.{Done, MappingRefused, DocumentRefused, Usage, FileFault, SinkFault, Memory}
-use Rattle.mapping_cli.specs.declared.words.Command.{Command}
-use Rattle.mapping_cli.specs.declared.words.Command.TheVariants.{Check, Store}
+use Rattle.mapping_core.specs.Words.{Schema, State, Tables}
+use Rattle.command_answers.specs.declared.status.Status.{Status}
+use Rattle.command_answers.specs.declared.status.Status.TheVariants.{Done, MappingRefused, DocumentRefused, Usage, FileFault, SinkFault, Memory}
+use Rattle.command_answers.specs.declared.command.Command.{Command}
+use Rattle.command_answers.specs.declared.command.Command.TheVariants.{Check, Views, Store, Load}
 use Rattle.mapping_cli.specs.Commands.{command_of, inputs_of}
-use Rattle.mapping_cli.specs.Gives.{GivesCheck, GivesInputs, GivesOn, GivesStored, GivesTables, RefusesMapping, RefusesSchema, Says}
+use Rattle.command_answers.specs.Gives.{GivesBy, GivesLoaded, GivesOn, GivesState, GivesStored, GivesTables, RefusesMapping, RefusesSchema, Says}
+use Rattle.mapping_cli.specs.Gives.{GivesInputs}
 use Rattle.mapping_cli.specs.Inputs.{FailsToRead}
 use Rattle.mapping_cli.specs.Runs.{Ends, Finishes, Runs}
-use Rattle.mapping_cli.specs.Texts.{accepted_text, usage_text}
+use Rattle.command_texts.specs.Texts.{usage_text}
 use Rattle.mapping_cli.specs.World.{World}
 
 -- a status of a whole text
@@ -38,10 +39,6 @@ module _ (held : Option FileMap) (text : List ℕ) (status : Status) (left : Opt
   of_mapping csdl ssdl msl (inl told) = subst IsOfText (sym told.2.1) cc
   of_mapping csdl ssdl msl (inr meant) = of_schema meant.0 meant.2
 
-  of_check : (Next : Schema → Type 0) → ((schema : Schema) → Next schema → IsOfText status) → (contents : List (List ℕ)) → GivesCheck held text status left Next contents → IsOfText status
-  of_check Next next contents (csdl, ssdl, msl, at_csdl, at_ssdl, at_msl, inl refuses) = of_mapping csdl ssdl msl refuses
-  of_check Next next contents (csdl, ssdl, msl, at_csdl, at_ssdl, at_msl, inr accepted) = next accepted.0 accepted.2
-
   of_tables : (schema : Schema) (state : State) → GivesTables held text status left schema state → IsOfText status
   of_tables schema state (inl breach) = subst IsOfText (sym breach.2.1) cc
   of_tables schema state (inr stored) = subst IsOfText (sym stored.1.2.1) cc
@@ -50,9 +47,24 @@ module _ (held : Option FileMap) (text : List ℕ) (status : Status) (left : Opt
   of_stored entities schema (inl shape) = subst IsOfText (sym shape.2.1) cc
   of_stored entities schema (inr told) = of_tables schema told.0 told.2
 
+  of_state : (schema : Schema) (tables : Tables) → GivesState held text status left schema tables → IsOfText status
+  of_state schema tables (inl breach) = subst IsOfText (sym breach.2.1) cc
+  of_state schema tables (inr (legal, inl refused)) = subst IsOfText (sym refused.2.2.1) cc
+  of_state schema tables (inr (legal, inr told)) = subst IsOfText (sym told.2.2.1) cc
+
+  of_loaded : (document : List ℕ) (schema : Schema) → GivesLoaded held text status left document schema → IsOfText status
+  of_loaded document schema (inl shape) = subst IsOfText (sym shape.2.1) cc
+  of_loaded document schema (inr told) = of_state schema told.0 told.2
+
+  of_accepted : (command : Command) (contents : List (List ℕ)) (schema : Schema) → GivesBy held text status left command contents schema → IsOfText status
+  of_accepted Check contents schema gives = subst IsOfText (sym gives.1) cc
+  of_accepted Views contents schema gives = subst IsOfText (sym gives.2.1) cc
+  of_accepted Store contents schema gives = of_stored gives.0 schema gives.2
+  of_accepted Load contents schema gives = of_loaded gives.0 schema gives.2
+
   of_command : (command : Command) (contents : List (List ℕ)) → GivesOn held text status left command contents → IsOfText status
-  of_command Check contents gives = of_check (λ schema. Says held text status left accepted_text Done) (λ schema says. subst IsOfText (sym says.1) cc) contents gives
-  of_command Store contents gives = of_check (GivesStored held text status left gives.0) (of_stored gives.0) contents gives.2
+  of_command command contents (csdl, ssdl, msl, at_csdl, at_ssdl, at_msl, inl refuses) = of_mapping csdl ssdl msl refuses
+  of_command command contents (csdl, ssdl, msl, at_csdl, at_ssdl, at_msl, inr accepted) = of_accepted command contents accepted.0 accepted.2
 
   of_inputs : (command : Command) (names : List (List ℕ)) → GivesInputs held text status left command names → IsOfText status
   of_inputs command names (inl lacking) = subst IsOfText (sym lacking.2.1) cc

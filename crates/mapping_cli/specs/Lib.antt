@@ -1,5 +1,3 @@
-pub mod Statuses
-pub mod Texts
 pub mod Commands
 pub mod Inputs
 pub mod Gives

@@ -1,21 +1,17 @@
-ghost use Rattle.std.specs.Prelude.{◌≡◌, IfOk, length};
+ghost use Rattle.std.specs.Prelude.{◌≡◌, IfOk};
 ghost use Rattle.emc_files.specs.contracts.files.Files as F;
 ghost use Rattle.emc_files.specs.contracts.sink.Sink as W;
-ghost use Rattle.mapping_cli.specs.declared.status.Status.TheVariants.{Usage};
-ghost use Rattle.mapping_cli.specs.Commands.{input_count};
+ghost use Rattle.command_answers.specs.declared.status.Status.TheVariants.{Usage};
+ghost use Rattle.command_texts.specs.Texts.{usage_text};
 ghost use Rattle.mapping_cli.specs.Runs.{Runs};
-ghost use Rattle.mapping_cli.specs.RunSteps.{AnswersOn, EndsWith};
-ghost use Rattle.mapping_cli.specs.Texts.{usage_text};
+ghost use Rattle.mapping_cli.specs.RunSteps.{EndsWith};
 ghost use Rattle.mapping_cli.specs.World.{world};
 
-use crate::answer::{Answer, Halt};
-use crate::check::check;
 use crate::inputs::read_inputs;
-use crate::status::Status;
-use crate::store::store;
-use crate::texts::usage_text;
-use crate::words::{Command, command_of, inputs_of};
-use emc_base::{Bin, Memory, Seq, Txt};
+use crate::words::{command_of, inputs_of};
+use command_answers::{Answer, Halt, Status, answer_on};
+use command_texts::usage_text;
+use emc_base::{Memory, Txt};
 use emc_files::{Files, Sink, SinkFault};
 use std::alloc::Global;
 
@@ -54,17 +50,7 @@ fn answer_of<F: Files>(alloc: Global, words: &[Txt], files: &mut F) -> Result<An
     }
 }
 
-// What a command answers on the contents of its input files.
-fn answer_on(alloc: Global, command: Command, contents: &Seq<Bin>) -> Result<Answer, Memory>
-    requires { length contents.now ≡ input_count command }
-    ensures { IfOk result (AnswersOn command contents.now) }
-{
-    match command {
-        Command::Check => check(alloc, contents),
-        Command::Store => store(alloc, contents),
-    }
-}
-
+// The line that lists the commands.
 fn usage(alloc: Global) -> Result<Answer, Memory>
     ensures { IfOk result (λ answer. (answer.text ≡ usage_text) × (answer.status ≡ Usage)) }
 {

@@ -1,11 +1,10 @@
 ghost use Rattle.std.specs.Prelude.{◌≡◌};
 ghost use Rattle.emc_files.specs.contracts.files.Files as F;
 ghost use Rattle.mapping_cli.specs.RunSteps.{IsTold, ReadsInput, ReadsInputs, TellsReadFault};
-ghost use Rattle.mapping_cli.specs.Texts.{file_text};
+ghost use Rattle.command_texts.specs.Texts.{file_text};
 
-use crate::answer::{Answer, Halt};
-use crate::status::Status;
-use crate::texts::file_text;
+use command_answers::{Answer, Halt, Status};
+use command_texts::file_text;
 use emc_base::{Bin, Memory, Seq, Txt};
 use emc_files::{Files, ReadFault};
 use std::alloc::Global;

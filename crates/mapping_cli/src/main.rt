@@ -1,24 +1,17 @@
 //! The command line of the mapping compiler.
 #![tactic(auto)]
 
-mod accepting;
-mod answer;
-mod check;
 mod commands;
 mod inputs;
-mod status;
-mod store;
-mod texts;
 mod words;
 
+use command_answers::Status;
 pub use commands::run;
 use emc_base::Txt;
 use emc_files::{DiskFiles, OutSink};
-pub use status::Status;
 use std::process::ExitCode;
 use std::rt::HostRuntime;
 use std::{env, io};
-pub use words::Command;
 use words::after_first;
 
 fn main(rt: HostRuntime) -> ExitCode {

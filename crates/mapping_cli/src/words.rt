@@ -1,16 +1,8 @@
 ghost use Rattle.std.specs.Prelude.{◌≡◌, drop};
-ghost use Rattle.mapping_cli.specs.Commands.{command_of, inputs_of};
+ghost use Rattle.mapping_cli.specs.Commands.{command_named, command_of, inputs_of};
 
+use command_answers::{Command, input_count};
 use emc_base::Txt;
-
-/// The commands that are built.
-#[derive(Clone, Copy, Debug, PartialEq, Eq)]
-pub enum Command {
-    /// `check M S P`: the verdict on the documents of three files.
-    Check,
-    /// `store M S P ENTITIES`: the tables of an entity document, by the mapping of three files.
-    Store,
-}
 
 // The command that these words are; `None` where they are none.
 pub(crate) fn command_of(words: &[Txt]) -> Option<Command>
@@ -19,12 +11,24 @@ pub(crate) fn command_of(words: &[Txt]) -> Option<Command>
     let [word, names @ ..] = words else {
         return None;
     };
-    if word.as_str() == "check" && names.len() == 3 {
-        Some(Command::Check)
-    } else if word.as_str() == "store" && names.len() == 4 {
-        Some(Command::Store)
+    let command = command_named(word.as_str())?;
+    if names.len() == input_count(command) {
+        Some(command)
     } else {
         None
+    }
+}
+
+// The command of a name; `None` where it is none.
+fn command_named(word: &str) -> Option<Command>
+    ensures { result ≡ command_named word.now }
+{
+    match word {
+        "check" => Some(Command::Check),
+        "views" => Some(Command::Views),
+        "store" => Some(Command::Store),
+        "load" => Some(Command::Load),
+        _ => None,
     }
 }
 
@@ -33,7 +37,7 @@ pub(crate) fn inputs_of(command: Command, words: &[Txt]) -> &[Txt]
     ensures { result.now ≡ inputs_of command words.now }
 {
     match command {
-        Command::Check | Command::Store => after_first(words),
+        Command::Check | Command::Views | Command::Store | Command::Load => after_first(words),
     }
 }
 

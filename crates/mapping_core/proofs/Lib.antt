@@ -2,3 +2,5 @@ pub mod Told
 pub mod OneRule
 pub mod MadeOf
 pub mod Stored
+pub mod Comparing
+pub mod Telling

@@ -1,19 +1,23 @@
 -- Parts of one schema with the same cells are told apart by nothing that regions depend on.
-use Rattle.std.proofs.Common.{List, [], false, subst}
+use Rattle.std.proofs.Common.{List, [], false, refl, subst}
 use Rattle.std.specs.Prelude.{unwrap_or, option_and_then}
 use Rattle.std.specs.Option.{option_map_or}
 use Rattle.round_trip.specs.Words.{Schema}
 use Rattle.member_groups.specs.MemberGroups.{constants_in, group_in, is_tested_in}
 use Rattle.sound_demand.specs.Deriving.{derives}
 use Rattle.cells.specs.declared.cells.Cells.{Cells}
+use Rattle.cells.specs.Cells.{is_free_in}
+use Rattle.cells.specs.Parts.{AreParts, schema_in}
+use Rattle.cells.specs.declared.parts.Parts.{Parts}
 use Rattle.regions.specs.declared.region.Region.{Region}
 use Rattle.regions.specs.Basis.{Basis}
 use Rattle.regions.specs.Fitting.{fits}
-use Rattle.region_basis.specs.BasisOf.{hosts_in}
+use Rattle.region_basis.specs.BasisOf.{basis_of, hosts_in}
 use Rattle.mapping_core.specs.Accepted.{AreMadeOf}
 use Rattle.set_regions.specs.Regions.{AreRegions}
-use Rattle.update_views.specs.declared.views.UpdateViews.{UpdateViews}
 use Rattle.update_views.specs.Views.{AreViewsOf}
+use Rattle.query_views.specs.Views.{AreQueryViewsOf}
+use Rattle.mapping_core.specs.declared.compiled.MappingViews.{MappingViews}
 
 -- the basis by a schema and its cells
 abbrev pub basis_by : Schema → Cells → Basis
@@ -27,11 +31,29 @@ basis_by schema cells = record {
   hosts = hosts_in schema.model cells.places;
 }
 
-module _ (schema : Schema) (cells : Cells) (regions : List (List Region)) (views : UpdateViews) (made : AreMadeOf schema cells regions views) where
+module _ (schema : Schema) (cells : Cells) (regions : List (List Region)) (views : MappingViews) (made : AreMadeOf schema cells regions views) where
   -- the regions of which an accepted mapping is made are those by this basis
   pub regions_stand : AreRegions (basis_by schema cells) regions
   regions_stand = subst (λ basis. AreRegions basis regions) (λ i. basis_by (made.of_schema i) (made.of_cells i)) made.are_regions
 
   -- and so are its update views
-  pub views_stand : AreViewsOf (basis_by schema cells) views
-  views_stand = subst (λ basis. AreViewsOf basis views) (λ i. basis_by (made.of_schema i) (made.of_cells i)) made.are_views
+  pub update_views_stand : AreViewsOf (basis_by schema cells) views.update
+  update_views_stand = subst (λ basis. AreViewsOf basis views.update) (λ i. basis_by (made.of_schema i) (made.of_cells i)) made.are_update_views
+
+  -- and its query views
+  pub query_views_stand : AreQueryViewsOf (basis_by schema cells) (is_free_in cells) views.query
+  query_views_stand = subst (λ (by : Basis × Cells). AreQueryViewsOf by.0 (is_free_in by.1) views.query)
+      (λ i. (basis_by (made.of_schema i) (made.of_cells i), made.of_cells i)) made.are_query_views
+
+-- what parts are told with makes their schema
+pub made_by : (parts : Parts) → AreParts parts → (regions : List (List Region)) → AreRegions (basis_of parts) regions → (views : MappingViews) → AreViewsOf (basis_of parts) views.update
+    → AreQueryViewsOf (basis_of parts) (is_free_in parts.cells.now) views.query → AreMadeOf (schema_in parts) parts.cells.now regions views
+made_by parts are regions are_regions views are_update_views are_query_views = record {
+  parts = parts;
+  of_schema = refl;
+  of_cells = refl;
+  are_parts = are;
+  are_regions = are_regions;
+  are_update_views = are_update_views;
+  are_query_views = are_query_views;
+}

@@ -5,14 +5,17 @@ use Rattle.round_trip.specs.Words.{Keeps, RoundTrips, Schema}
 use Rattle.soundness.specs.Mappings.{IsSoundSchema}
 use Rattle.cells.specs.declared.cells.Cells.{Cells}
 use Rattle.cells.specs.declared.parts.Parts.{Parts}
+use Rattle.cells.specs.Cells.{is_free_in}
 use Rattle.cells.specs.Parts.{AreParts, schema_in}
 use Rattle.regions.specs.declared.region.Region.{Region}
 use Rattle.region_basis.specs.BasisOf.{basis_of}
 use Rattle.region_states.specs.LoneStates.{HasNoAssociationSets}
 use Rattle.mapping_limits.specs.FirstLimit.{IsFirstLimit}
 use Rattle.set_regions.specs.Regions.{AreRegions}
-use Rattle.update_views.specs.declared.views.UpdateViews.{UpdateViews}
 use Rattle.update_views.specs.Views.{AreViewsOf}
+use Rattle.query_views.specs.declared.views.QueryViews.{QueryViews}
+use Rattle.query_views.specs.Views.{AreQueryViewsOf}
+use Rattle.mapping_core.specs.declared.compiled.MappingViews.{MappingViews}
 
 -- the form that is decided so far: no association set, and no foreign key
 pub record IsDecided (schema : Schema) : Type 0 where
@@ -31,11 +34,19 @@ pub record IsAccepted (schema : Schema) : Type 0 where
   pub round_trips : RoundTrips schema
   pub keeps : Keeps schema
 
--- these are the cells of the schema, the regions of each entity set, and the update views
-pub record AreMadeOf (schema : Schema) (cells : Cells) (regions : List (List Region)) (views : UpdateViews) : Type 0 where
+-- these are the cells of the schema, the regions of each entity set, and the views
+pub record AreMadeOf (schema : Schema) (cells : Cells) (regions : List (List Region)) (views : MappingViews) : Type 0 where
   pub parts : Parts
   pub of_schema : schema_in parts ≡ schema
   pub of_cells : parts.cells.now ≡ cells
   pub are_parts : AreParts parts
   pub are_regions : AreRegions (basis_of parts) regions
-  pub are_views : AreViewsOf (basis_of parts) views
+  pub are_update_views : AreViewsOf (basis_of parts) views.update
+  pub are_query_views : AreQueryViewsOf (basis_of parts) (is_free_in parts.cells.now) views.query
+
+-- these are the query views of the schema, by its cells
+pub record HasQueryViews (schema : Schema) (views : QueryViews) : Type 0 where
+  pub parts : Parts
+  pub of_schema : schema_in parts ≡ schema
+  pub are_parts : AreParts parts
+  pub are : AreQueryViewsOf (basis_of parts) (is_free_in parts.cells.now) views

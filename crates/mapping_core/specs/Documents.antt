@@ -1,13 +1,22 @@
--- What reading an entity document answers.
--- Source: RFC 8259; this project's entity documents.
+-- What reading a document of entities or of tables answers.
+-- Source: RFC 8259; this project's entity documents and table documents.
 use Rattle.std.specs.Prelude.{◌≡◌, ◌⊎◌, ℕ, List, [], Some, None, Result, Ok, Err, ⊤}
 use Rattle.serde_json.specs.Data.{Data}
+use Rattle.json_form.specs.declared.doc.Doc.{Doc}
+use Rattle.json_form.specs.Documents.{tree_of}
 use Rattle.json_form.specs.TreeParts.{tree_at}
 use Rattle.shape_faults.specs.declared.fault.ShapeFault.{ShapeFault}
 use Rattle.shape_faults.specs.declared.fault.ShapeFault.TheVariants.{Shape, Memory}
 use Rattle.entity_documents.specs.DocShapes.{IsDocFault}
 use Rattle.entity_documents.specs.Reading.{FailsFirstAt, MeansState, ReadAs}
-use Rattle.round_trip.specs.Words.{EntityModel, State}
+use Rattle.table_documents.specs.Reading as table
+use Rattle.round_trip.specs.Words.{EntityModel, State, StoreModel, Tables}
+
+-- the document that a file holds; or that it holds none, which is told at the root. Memory says nothing.
+abbrev pub ReadsDocument : List ℕ → Result Doc ShapeFault → Type 0
+ReadsDocument bytes (Ok doc) = tree_at bytes ≡ Some (tree_of doc)
+ReadsDocument bytes (Err (Shape pointer)) = (tree_at bytes ≡ None) × (pointer ≡ [])
+ReadsDocument bytes (Err Memory) = ⊤
 
 -- the file holds a document of the right shape, and this is the state that it tells
 abbrev pub HoldsState : EntityModel → List ℕ → State → Type 0
@@ -22,3 +31,17 @@ abbrev pub ReadsEntities : EntityModel → List ℕ → Result State ShapeFault 
 ReadsEntities model bytes (Ok state) = HoldsState model bytes state
 ReadsEntities model bytes (Err (Shape pointer)) = HoldsNoState model bytes pointer
 ReadsEntities model bytes (Err Memory) = ⊤
+
+-- the file holds a document of the right shape, and these are the tables that it tells
+abbrev pub HoldsTables : StoreModel → List ℕ → Tables → Type 0
+HoldsTables store bytes tables = (d : Data) × (tree_at bytes ≡ Some d) × table.ReadAs store d tables
+
+-- the file holds no document, which is told at the root; or one of another shape, and this is the first place where that is so
+abbrev pub HoldsNoTables : StoreModel → List ℕ → List ℕ → Type 0
+HoldsNoTables store bytes pointer = ((tree_at bytes ≡ None) × (pointer ≡ [])) ⊎ ((d : Data) × (tree_at bytes ≡ Some d) × table.FailsFirstAt store d pointer)
+
+-- the tables, or the first place of another shape. Memory says nothing.
+abbrev pub ReadsTables : StoreModel → List ℕ → Result Tables ShapeFault → Type 0
+ReadsTables store bytes (Ok tables) = HoldsTables store bytes tables
+ReadsTables store bytes (Err (Shape pointer)) = HoldsNoTables store bytes pointer
+ReadsTables store bytes (Err Memory) = ⊤

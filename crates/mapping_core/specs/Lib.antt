@@ -6,3 +6,5 @@ pub mod Reading
 pub mod Words
 pub mod Stores
 pub mod Documents
+pub mod Loads
+pub mod ViewsText

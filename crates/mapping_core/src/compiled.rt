@@ -2,13 +2,16 @@ ghost use Rattle.std.specs.Prelude.{◌≡◌};
 ghost use Rattle.cells.specs.Parts.{AreParts, schema_in};
 ghost use Rattle.region_basis.specs.BasisOf.{basis_of};
 ghost use Rattle.set_regions.specs.Regions.{AreRegions};
-ghost use Rattle.mapping_core.specs.Accepted.{AreMadeOf, IsAccepted};
+ghost use Rattle.mapping_core.specs.Accepted.{AreMadeOf, HasQueryViews, IsAccepted};
 ghost use Rattle.mapping_core.specs.Rules.{IsMeant};
+ghost use Rattle.cells.specs.Cells.{is_free_in};
+ghost use Rattle.query_views.specs.Views.{AreQueryViewsOf};
 ghost use Rattle.update_views.specs.Views.{AreViewsOf};
 
 use cells::{Cells, Parts};
 use edm_types::Schema;
 use emc_base::Seq;
+use query_views::QueryViews;
 use regions::Region;
 use std::marker::Model;
 use update_views::UpdateViews;
@@ -20,16 +23,24 @@ pub struct Compiled {
     schema: Schema,
     cells: Cells,
     regions: Seq<Seq<Region>>,
-    views: UpdateViews,
+    views: MappingViews,
+}
+
+/// The views of a mapping: from entities to tables, and from tables to entities.
+#[derive(Drop)]
+pub struct MappingViews {
+    pub update: UpdateViews,
+    pub query: QueryViews,
 }
 
 /// What an accepted mapping is made of: its model, store and mapping with their cells, the regions of each entity set, in the order of the model, and the
-/// update views.
+/// views.
 #[derive(Drop)]
 pub struct CompiledParts<'a> {
     pub parts: Parts<'a>,
     pub regions: &'a Seq<Seq<Region>>,
     pub update_views: &'a UpdateViews,
+    pub query_views: &'a QueryViews,
 }
 
 impl Model for Compiled {
@@ -54,7 +65,7 @@ impl Compiled {
         schema: Schema,
         cells: Cells,
         regions: Seq<Seq<Region>>,
-        views: UpdateViews,
+        views: MappingViews,
     ) -> Compiled
         requires meant { IsMeant schema }
         requires accepted { IsAccepted schema }
@@ -79,13 +90,14 @@ impl Compiled {
         &self.schema
     }
 
-    /// Lends the same with their cells, the regions of each entity set, and the update views.
+    /// Lends the same with their cells, the regions of each entity set, and the views.
     pub fn parts(&self) -> CompiledParts<'_>
         ensures lends { schema_in result.parts ≡ self.now }
         ensures accepted { IsAccepted self.now }
         ensures parts { AreParts result.parts }
         ensures regions { AreRegions (basis_of result.parts) result.regions.now }
         ensures update_views { AreViewsOf (basis_of result.parts) result.update_views.now }
+        ensures query_views { AreQueryViewsOf (basis_of result.parts) (is_free_in result.parts.cells.now) result.query_views.now }
     {
         CompiledParts {
             parts: Parts {
@@ -95,7 +107,15 @@ impl Compiled {
                 cells: &self.cells,
             },
             regions: &self.regions,
-            update_views: &self.views,
+            update_views: &self.views.update,
+            query_views: &self.views.query,
         }
+    }
+
+    /// Lends the query views.
+    pub fn query_views(&self) -> &QueryViews
+        ensures { HasQueryViews self.now result.now }
+    {
+        &self.views.query
     }
 }

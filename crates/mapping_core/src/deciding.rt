@@ -6,13 +6,14 @@ ghost use Rattle.mapping_core.specs.Accepted.{IsDecided};
 ghost use Rattle.mapping_core.specs.Compiles.{Decides, Judges};
 ghost use Rattle.mapping_core.specs.Rules.{IsMeant};
 
-use crate::compiled::Compiled;
+use crate::compiled::{Compiled, MappingViews};
 use crate::verdict::Refusal;
 use cells::{Cells, Parts};
 use edm_types::{LimitFault, Schema};
 use emc_base::{Memory, Seq};
 use mapping_limits::first_limit;
 use mapping_verdict::first_failure;
+use query_views::QueryViews;
 use regions::Region;
 use set_regions::regions_of_sets;
 use std::alloc::Global;
@@ -22,8 +23,8 @@ use witness_state::Failure;
 /// What is found of a schema.
 #[derive(Drop)]
 pub(crate) enum Judgement {
-    /// No limit is passed and no legal state fails; these are the regions of each entity set, and the update views.
-    Keeps(Seq<Seq<Region>>, UpdateViews),
+    /// No limit is passed and no legal state fails; these are the regions of each entity set, and the views.
+    Keeps(Seq<Seq<Region>>, MappingViews),
     /// A limit is passed.
     Limit(LimitFault),
     /// No limit is passed, and a legal state fails.
@@ -66,6 +67,9 @@ fn judge(alloc: Global, schema: &Schema, cells: &Cells) -> Result<Judgement, Mem
     if let Some(failure) = first_failure(alloc, &parts, &regions)? {
         return Ok(Judgement::Fails(failure));
     }
-    let views = UpdateViews::of(alloc, &parts, &regions)?;
+    let views = MappingViews {
+        update: UpdateViews::of(alloc, &parts, &regions)?,
+        query: QueryViews::of(alloc, &parts, &regions)?,
+    };
     Ok(Judgement::Keeps(regions, views))
 }

@@ -1,12 +1,14 @@
-ghost use Rattle.mapping_core.specs.Documents.{ReadsEntities};
+ghost use Rattle.mapping_core.specs.Documents.{ReadsDocument, ReadsEntities, ReadsTables};
 
-use edm_types::EntityModel;
+use edm_types::{EntityModel, StoreModel};
 use emc_base::{Bin, Txt};
 use entity_documents::state_of_doc;
 use entity_state::EntityState;
 use json_form::{Doc, DocFault};
 use shape_faults::ShapeFault;
 use std::alloc::Global;
+use table_documents::tables_of_doc;
+use table_files::Tables;
 
 /// The state of an entity document. `Shape` comes exactly where the document is of another shape than the model asks for, with the pointer of the first place
 /// where that is so; the empty one, where the bytes are no JSON. `Memory` comes where memory ran out.
@@ -17,8 +19,25 @@ pub fn read_entities(
 ) -> Result<EntityState, ShapeFault>
     ensures { ReadsEntities model.now bytes.now result }
 {
+    let doc = read_document(alloc, bytes)?;
+    state_of_doc(alloc, &doc, model)
+}
+
+/// The tables of a table document. `Shape` comes exactly where the document is of another shape than the store asks for, with the pointer of the first place
+/// where that is so; the empty one, where the bytes are no JSON. `Memory` comes where memory ran out.
+pub fn read_tables(alloc: Global, store: &StoreModel, bytes: &Bin) -> Result<Tables, ShapeFault>
+    ensures { ReadsTables store.now bytes.now result }
+{
+    let doc = read_document(alloc, bytes)?;
+    tables_of_doc(alloc, &doc, store)
+}
+
+// The document that a file holds.
+fn read_document(alloc: Global, bytes: &Bin) -> Result<Doc, ShapeFault>
+    ensures { ReadsDocument bytes.now result }
+{
     match Doc::of_bytes(alloc, bytes) {
-        Ok(doc) => state_of_doc(alloc, &doc, model),
+        Ok(doc) => Ok(doc),
         Err(DocFault::NotJson) => Err(ShapeFault::Shape(Txt::of(alloc, "")?)),
         Err(DocFault::Memory) => Err(ShapeFault::Memory),
     }

@@ -6,23 +6,27 @@ mod compiled;
 mod compiling;
 mod deciding;
 mod documents;
+mod loading;
 mod reading;
 mod storing;
 mod verdict;
+mod viewing;
 
-pub use compiled::{Compiled, CompiledParts};
+pub use compiled::{Compiled, CompiledParts, MappingViews};
 pub use compiling::compile;
 pub use deciding::decide;
-pub use documents::read_entities;
+pub use documents::{read_entities, read_tables};
 pub use edm_types::{
     Breach, EntityModel, LimitFault, LimitKind, RuleFault, Schema, VocabFault, VocabFile,
 };
 pub use entity_state::EntityState;
 pub use json_form::{Doc, DocFault, place_text, quoted};
+pub use loading::{LoadFault, load};
 pub use reading::{one_rule, read};
 pub use round_trip::FailKind;
 pub use shape_faults::ShapeFault;
 pub use storing::{StoreFault, store_all};
 pub use table_files::Tables;
 pub use verdict::{Refusal, Verdict};
+pub use viewing::views_all;
 pub use witness_state::Failure;

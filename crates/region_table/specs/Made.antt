@@ -35,6 +35,10 @@ module _ (basis : Basis) where
   abbrev pub value_test : List PropId → PropId → Test
   value_test properties p = test.Value (record { place = place_among properties p; constants = basis.constants (prop p); atoms = atoms_at basis p })
 
+  -- the tests of the tested ones among a type's properties
+  abbrev pub value_tests : List PropId → List Test
+  value_tests properties = map (value_test properties) (filter (λ p. basis.tested (prop p)) properties)
+
   -- the test of a hosted association, for entities of a type
   abbrev pub link_test : TypeId → Host → Test
   link_test t host = link_by host.assoc (option_map_or

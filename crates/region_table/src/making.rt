@@ -5,7 +5,7 @@ ghost use Rattle.cells.specs.Parts.{AreParts};
 ghost use Rattle.regions.specs.Basis.{host_end, partner_end};
 ghost use Rattle.sound_demand.specs.Deriving.{derives};
 ghost use Rattle.region_basis.specs.BasisOf.{basis_of};
-ghost use Rattle.region_table.specs.Made.{AreTypeTests, link_by, link_test, place_among, rule_of, tests_by, type_tests, value_test};
+ghost use Rattle.region_table.specs.Made.{AreTypeTests, link_by, link_test, place_among, rule_of, tests_by, type_tests, value_test, value_tests};
 
 use crate::counting::{MOST_COUNTED, capped};
 use crate::numbering::TypeTests;
@@ -90,7 +90,7 @@ fn add_values(
 ) -> Result<(), Memory>
     requires parts { AreParts parts.now }
     requires within { All (λ p. p.index < length parts.now.model.now.props) properties.now }
-    ensures { IfOk result (λ _. tests.new ≡ tests.old ++ map (value_test (basis_of parts.now) properties.now) (filter (λ p. (basis_of parts.now).tested (prop p)) properties.now)) }
+    ensures { IfOk result (λ _. tests.new ≡ tests.old ++ value_tests (basis_of parts.now) properties.now) }
 {
     for property in properties {
         if is_tested(parts, *property) {

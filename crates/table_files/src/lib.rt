@@ -10,3 +10,4 @@ mod tables_tree;
 pub use key_order::KeyOrder;
 pub use local_rows::LocalRows;
 pub use tables::{TableRow, Tables};
+pub use tables_tree::row_tree;

@@ -73,7 +73,8 @@ fn rows_tree(alloc: Global, table: &Table, rows: &[&Row]) -> Result<Tree, Memory
     Ok(array_tree(trees))
 }
 
-fn row_tree(alloc: Global, table: &Table, row: &Row) -> Result<Tree, Memory>
+/// A row of a table as a tree: an object with a member for each column. `Memory` comes where memory ran out.
+pub fn row_tree(alloc: Global, table: &Table, row: &Row) -> Result<Tree, Memory>
     ensures { IfOk result (λ tree. view tree ≡ row_tree table.now row.now) }
 {
     let columns = table.cols.as_slice();

@@ -1,9 +1,21 @@
 use Rattle.std.proofs.Common.{Option, subst}
 use Rattle.round_trip.specs.Words.{LimitFault}
 use Rattle.mapping_limits.specs.FirstLimit.{IsFirstLimit}
+use Rattle.mapping_core.proofs.MadeOf.{made_by}
 use Rattle.mapping_core.proofs.deciding.judge.Goals as goal
 
 pub returns-in-Some-2 : goal.returns-in-Some-2
 returns-in-Some-2 c =
     let First : Option LimitFault → Type 0 = λ told. IsFirstLimit c.args.schema.now told in
     (subst First c.in_default.is c.in_ok-fault.ensures.first, c.in_ok-failure.ensures.fails c.in-Some-2.failure c.in-Some-2.is)
+
+pub returns : goal.returns
+returns c =
+    let First : Option LimitFault → Type 0 = λ told. IsFirstLimit c.args.schema.now told in
+    let found = c.in_ok-failure.ensures in (
+      subst First c.in_default.is c.in_ok-fault.ensures.first,
+      found.round_trips c.in_default-2.is,
+      found.keeps c.in_default-2.is,
+      made_by _ (c.in_ok-fault.ensures.parts c.in_default.is) c.in_ok-regions.regions c.in_ok-regions.ensures (record { update = c.in_ok-of.field-0; query = c.in_ok-of-2.field-0 })
+          c.in_ok-of.ensures c.in_ok-of-2.ensures,
+    )

@@ -1,4 +1,4 @@
-use Rattle.std.proofs.Common.{◌≡◌, Option, None, sym, subst}
+use Rattle.std.proofs.Common.{Option, sym, subst}
 use Rattle.round_trip.specs.Words.{Breach, IsLegal, Schema}
 use Rattle.round_trip.specs.TablesAre.{HasNoClash}
 use Rattle.state_legality.specs.Tells.{TellsState}

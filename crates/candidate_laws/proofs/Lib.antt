@@ -1,0 +1,5 @@
+pub mod Zipped
+pub mod OwnView
+pub mod Candidate
+pub mod SameCandidate
+pub mod FreeCells

@@ -1,0 +1,5 @@
+mod Coding
+mod Finding
+mod Kept
+mod Unnumbered
+mod Listed

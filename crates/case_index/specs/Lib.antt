@@ -1,0 +1,4 @@
+pub mod Codes
+pub mod Told
+pub mod Telling
+pub mod Found

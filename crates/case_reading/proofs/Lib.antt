@@ -1,0 +1,5 @@
+mod Zips
+mod Turns
+mod CellByCell
+mod Telling
+mod Noting

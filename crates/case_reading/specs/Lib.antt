@@ -1,0 +1,4 @@
+pub mod Sources
+pub mod Shown
+pub mod Reading
+pub mod Noted

@@ -1,0 +1,2 @@
+pub mod RowTree
+pub mod Named

@@ -1,0 +1,26 @@
+-- The cases of all sets, by their regions.
+use Rattle.std.proofs.Common.{◌≡◌, ◌≤◌, ℕ, List, Bool, map, take, length, ap, sym, subst, ◌∙◌}
+use Rattle.std.proofs.lemmas.List.{length-map, take_all}
+use Rattle.round_trip.specs.Words.{ColId, TableId}
+use Rattle.table_owners.proofs.Items.{at_map}
+use Rattle.regions.specs.Basis.{Basis}
+use Rattle.regions.specs.declared.region.Region.{Region}
+use Rattle.region_cases.specs.Cases.{case_of}
+use Rattle.region_cases.specs.declared.case.Case.{Case}
+use Rattle.set_regions.specs.Regions.{AreRegions}
+use Rattle.query_views.specs.Views.{AreCases}
+
+module _ (basis : Basis) (is_free : TableId → ColId → Bool) where
+  by_regions : (regions : List (List Region)) → AreRegions basis regions → AreCases basis is_free (map (map (case_of is_free basis)) regions)
+  by_regions regions are = record {
+    count = length-map regions (map (case_of is_free basis)) ∙ are.count;
+    each = λ s of_set here.
+        (let found = at_map (map (case_of is_free basis)) regions s.index of_set here in
+        sym found.2 ∙ ap (map (case_of is_free basis)) (are.each s found.0 found.1));
+  }
+
+  -- a loop over the regions of all sets has made the cases of each
+  pub all_cases : (regions items : List (List Region)) (i : ℕ) (cases : List (List Case)) → AreRegions basis regions → items ≡ regions → length items ≤ i
+      → cases ≡ map (map (case_of is_free basis)) (take i items) → AreCases basis is_free cases
+  all_cases regions items i cases are same end is =
+      subst (AreCases basis is_free) (sym (is ∙ ap (map (map (case_of is_free basis))) (take_all i items end ∙ same))) (by_regions regions are)

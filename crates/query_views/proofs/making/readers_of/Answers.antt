@@ -1,0 +1,17 @@
+use Rattle.std.proofs.Common.{length, List, refl, subst}
+use Rattle.std.proofs.lemmas.Option.{slice_get_read}
+use Rattle.region_basis.specs.BasisOf.{basis_of}
+use Rattle.region_cases.specs.declared.case.Case.{Case}
+use Rattle.query_views.specs.Views.{IsReaderOf}
+use Rattle.query_views.proofs.Zips.{one_more_beside}
+use Rattle.query_views.proofs.making.readers_of.Goals as goal
+
+pub loop-of_set-preserved : goal.loop-of_set-preserved
+loop-of_set-preserved c =
+    let basis = basis_of c.args.parts.now in
+    let cases = c.args.cases.now in
+    let i = c.loop-of_set.of_set-index in
+    one_more_beside (IsReaderOf basis) cases i c.of_set-item.result c.loop-of_set.readers c.push.new.self c.in_ok-reader_of.field-0
+    (slice_get_read cases (length cases) i c.of_set-item.result refl c.loop-of_set-test.true c.of_set-item.is)
+    c.loop-of_set.invariant c.in_ok-push.ensures.ok
+    (subst (λ (list : List Case). IsReaderOf basis list c.in_ok-reader_of.field-0) c.as_slice.ensures.items c.in_ok-reader_of.ensures)

@@ -1,0 +1,8 @@
+use Rattle.std.proofs.Common.{take}
+use Rattle.std.specs.List.{AllZip}
+use Rattle.case_reading.specs.Reading.{IsReadingOf}
+use Rattle.query_views.proofs.making.readings_of.Given as goal
+
+-- the cases so far are read so
+abbrev pub invariant-loop-case : goal.invariant-loop-case
+invariant-loop-case l = AllZip (IsReadingOf l.parts.model.now) (take l.case-index l.cases) l.readings

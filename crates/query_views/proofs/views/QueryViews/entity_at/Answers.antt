@@ -1,0 +1,62 @@
+use Rattle.std.proofs.Common.{◌≢◌, ◌==◌, List, [], Option, None, length, true≢false, ap, sym, subst, ◌∙◌}
+use Rattle.cells.specs.Cells.{is_free_in}
+use Rattle.candidates.specs.Rows.{AreRowsAt, shown_row, shown_rows}
+use Rattle.candidates.specs.declared.placed.PlacedRow.{PlacedRow}
+use Rattle.region_basis.specs.BasisOf.{basis_of}
+use Rattle.candidates.specs.Viewed.{IsViewed}
+use Rattle.round_trip.specs.Words.{Entity}
+use Rattle.query_views.specs.First.{FindsFirst, cases_in, readings_in}
+use Rattle.query_views.specs.declared.views.Met.{Met}
+use Rattle.query_views.proofs.Viewed.{are_viewed, gives, has_rows, lacks_rows, none_by_length, some_shown}
+use Rattle.query_views.proofs.views.QueryViews.entity_at.Goals as goal
+
+pub returns-then-is_empty : goal.returns-then-is_empty
+returns-then-is_empty c = λ has.
+    (let parts = c.args.parts.now in
+    let empty = none_by_length c.as_slice-rows.result.now (sym c.if-is_empty.ensures) in
+    lacks_rows (basis_of parts) (is_free_in parts.cells.now) c.args.tables.now c.args.set c.args.key.now (shown_rows c.in_ok-rows.rows.items) c.in_ok-rows.ensures has
+    (ap shown_rows (sym c.as_slice-rows.ensures.value ∙ empty)))
+
+pub returns-in-Some : goal.returns-in-Some
+returns-in-Some c =
+    let parts = c.args.parts.now in
+    let basis = basis_of parts in
+    let is_free = is_free_in parts.cells.now in
+    let views = c.args.self.now in
+    let s = c.args.set in
+    let key = c.args.key.now in
+    let placed = c.as_slice-rows.result.now in
+    let rows = shown_rows placed in
+    let met = c.in-Some.met in
+    let is = c.parts_are_a_basis.ensures.basis parts c.requires.parts in
+    let Here : List PlacedRow → Type 0 = λ list. AreRowsAt basis.schema c.args.tables.now s key (shown_rows list) in
+    let here : Here placed = subst Here (sym c.as_slice-rows.ensures.value) c.in_ok-rows.ensures in
+    let Found : Option Met → Type 0 = λ found. FindsFirst basis rows (cases_in views s) (readings_in views s) found in
+    let some : placed ≢ [] = λ empty. true≢false (sym (ap (λ (list : List PlacedRow). length list == 0) empty) ∙ sym c.is_empty.ensures ∙ c.if-is_empty.false) in
+    let Given : Entity → Type 0 = IsViewed basis is_free c.args.tables.now s key in (
+      has_rows basis is_free c.args.tables.now s key rows here (some_shown shown_row placed some),
+      subst Given (sym c.in_ok-entity-in-Some.ensures) (are_viewed basis is_free views c.requires.views s c.requires.set c.args.tables.now key rows
+          (λ case listed reading read. c.met_cases_are_read.ensures.met basis is is_free s case listed c.args.tables.now key rows here reading read)
+          (λ case listed reading read. c.met_cases_are_read.ensures.told basis is is_free s case listed c.args.tables.now key rows here reading read)
+          met (subst Found c.in-Some.is c.in_ok-met.ensures)),
+    )
+
+pub returns : goal.returns
+returns c =
+    let parts = c.args.parts.now in
+    let basis = basis_of parts in
+    let is_free = is_free_in parts.cells.now in
+    let views = c.args.self.now in
+    let s = c.args.set in
+    let key = c.args.key.now in
+    let placed = c.as_slice-rows.result.now in
+    let rows = shown_rows placed in
+    let is = c.parts_are_a_basis.ensures.basis parts c.requires.parts in
+    let Here : List PlacedRow → Type 0 = λ list. AreRowsAt basis.schema c.args.tables.now s key (shown_rows list) in
+    let here : Here placed = subst Here (sym c.as_slice-rows.ensures.value) c.in_ok-rows.ensures in
+    let Found : Option Met → Type 0 = λ found. FindsFirst basis rows (cases_in views s) (readings_in views s) found in
+    let some : placed ≢ [] = λ empty. true≢false (sym (ap (λ (list : List PlacedRow). length list == 0) empty) ∙ sym c.is_empty.ensures ∙ c.if-is_empty.false) in
+    gives basis is_free views c.requires.views s c.requires.set c.args.tables.now key rows
+    (λ case listed reading read. c.met_cases_are_read.ensures.met basis is is_free s case listed c.args.tables.now key rows here reading read)
+    (λ case listed reading read. c.met_cases_are_read.ensures.told basis is is_free s case listed c.args.tables.now key rows here reading read)
+    here (some_shown shown_row placed some) None (subst Found c.in-None.is c.in_ok-met.ensures)

@@ -1,0 +1,4 @@
+pub mod Views
+pub mod First
+pub mod Lent
+pub mod Answers

@@ -1,0 +1,9 @@
+mod AllTables
+mod Apart
+mod Erased
+mod KeyedRows
+mod Law
+pub mod NoDifference
+pub mod OfState
+mod OneTable
+mod SidedGroups

@@ -1,0 +1,4 @@
+pub mod SameButFree
+pub mod Differences
+pub mod Sides
+pub mod InTable

@@ -1,0 +1,80 @@
+ghost use Rattle.std.specs.Prelude.{◌≡◌, ◌↔◌, ◌<◌, ◌++◌, All, IfOk, IsTrue, length, map};
+ghost use Rattle.std.specs.Option.{option_copied};
+ghost use Rattle.row_differences.specs.Sides.{AreRowGroups, IsRowOf, keyed_row, shown_sided};
+
+use edm_types::Row;
+use emc_base::{ColId, Memory, Value};
+use row_groups::{KeyGroup, key_groups, lent_cells};
+use std::alloc::Global;
+
+// Which tables a row is of: those that are held, or the fresh ones, which are demanded.
+#[derive(Clone, Copy)]
+pub(crate) enum Side {
+    Held,
+    Demanded,
+}
+
+// A lent row, and whose it is.
+#[derive(Clone, Copy)]
+pub(crate) struct SidedRow<'t> {
+    pub side: Side,
+    pub row: &'t Row,
+}
+
+// Whether two sides are one.
+fn is_same_side(one: Side, other: Side) -> bool
+    ensures { IsTrue result ↔ (one ≡ other) }
+{
+    match (one, other) {
+        (Side::Held, Side::Held) | (Side::Demanded, Side::Demanded) => true,
+        _ => false,
+    }
+}
+
+// The first row of a side.
+pub(crate) fn row_of<'t>(rows: &[SidedRow<'t>], side: Side) -> Option<&'t Row>
+    ensures { IsRowOf side rows.now (option_copied result) }
+{
+    for one in rows {
+        if is_same_side(one.side, side) {
+            return Some(one.row);
+        }
+    }
+    None
+}
+
+// The rows of both sides, grouped by their cells in some columns, in the order of these.
+pub(crate) fn row_groups<'t>(
+    alloc: Global,
+    cols: &[ColId],
+    held: &'t [Row],
+    demanded: &'t [Row],
+) -> Result<Vec<KeyGroup<'t, SidedRow<'t>>>, Memory>
+    requires within { All (λ row. All (λ col. col.index < length row.cells) cols.now) held.now }
+    requires demanded_within { All (λ row. All (λ col. col.index < length row.cells) cols.now) demanded.now }
+    ensures { IfOk result (λ groups. AreRowGroups cols.now held.now demanded.now groups.items) }
+{
+    let mut keyed = Vec::new(alloc);
+    add_rows(alloc, &mut keyed, Side::Held, cols, held)?;
+    add_rows(alloc, &mut keyed, Side::Demanded, cols, demanded)?;
+    let groups = key_groups(alloc, keyed)?;
+    Ok(groups)
+}
+
+// Adds the rows of a side behind the others, with their cells in some columns.
+fn add_rows<'t>(
+    alloc: Global,
+    keyed: &mut Vec<(Vec<&'t Value>, SidedRow<'t>)>,
+    side: Side,
+    cols: &[ColId],
+    rows: &'t [Row],
+) -> Result<(), Memory>
+    requires { All (λ row. All (λ col. col.index < length row.cells) cols.now) rows.now }
+    ensures { IfOk result (λ _. map shown_sided keyed.new.items ≡ map shown_sided keyed.old.items ++ map (keyed_row side cols.now) rows.now) }
+{
+    for row in rows {
+        let key = lent_cells(alloc, row, cols)?;
+        keyed.push((key, SidedRow { side, row }))?;
+    }
+    Ok(())
+}

@@ -1,0 +1,3 @@
+mod Grouped
+mod LentKeys
+pub mod WithKey

@@ -1,0 +1,19 @@
+-- Items with keys, grouped by their keys in the order of these.
+-- Source: this project's.
+use Rattle.std.specs.Prelude.{◌≡◌, ◌≢◌, List, [], map, All, AllPairs, Contains}
+use Rattle.std.specs.Cmp.Lexicographic.{slice_cmp}
+use Rattle.std.specs.declared.cmp.Ordering.TheVariants.{Less}
+use Rattle.emc_base.specs.Order.{value_cmp}
+use Rattle.edm_types.specs.Types.{Value}
+use Rattle.item_groups.specs.Groups.{items_of}
+
+-- the items of a key, in their order
+abbrev pub with_key : {X : Type 0} → List (List Value × X) → List Value → List X
+with_key keyed key = items_of (slice_cmp value_cmp) keyed key
+
+-- groups of items by their keys: the keys rise, each has all its items, and there is one for each key that an item has, and for no other
+pub record AreKeyGroups {X : Type 0} (keyed : List (List Value × X)) (groups : List (List Value × List X)) : Type 0 where
+  pub rising : AllPairs (λ one later. slice_cmp value_cmp one.0 later.0 ≡ Less) groups
+  pub items : All (λ group. group.1 ≡ with_key keyed group.0) groups
+  pub some : All (λ group. group.1 ≢ []) groups
+  pub all : All (λ one. Contains (map (λ group. group.0) groups) one.0) keyed

@@ -1,0 +1,2 @@
+pub mod KeyGroups
+pub mod Shown

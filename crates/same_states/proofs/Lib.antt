@@ -1,0 +1,3 @@
+pub mod Reordered
+pub mod SameState
+pub mod SameTables

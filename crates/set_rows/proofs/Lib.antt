@@ -1,0 +1,7 @@
+mod Zips
+pub mod Pairing
+pub mod Owners
+mod KeyOrder
+mod TableRows
+mod Groups
+mod AtKey

@@ -1,0 +1,4 @@
+pub mod SetRows
+pub mod Owning
+pub mod Keyed
+pub mod AtKey
