@@ -5,7 +5,7 @@ use Rattle.std.specs.Ordering.{is_eq}
 use Rattle.std.proofs.lemmas.List.Elements.{Contains-append_left, Contains-push, Contains-push_cases}
 use Rattle.emc_base.specs.Lists.{At}
 use Rattle.emc_base.proofs.Loops.{take_item}
-use Rattle.soundness.specs.Joined.{Member}
+use Rattle.round_trip.specs.soundness.Joined.{Member}
 use Rattle.joined_groups.specs.declared.groups.Groups.{Groups}
 use Rattle.barred_members.specs.Added.{Adds, Each}
 use Rattle.joined_groups.specs.Labels.{label_cmp, label_of}

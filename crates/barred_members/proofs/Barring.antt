@@ -7,7 +7,7 @@ use Rattle.emc_base.proofs.Mapped.{contains_map}
 use Rattle.emc_base.proofs.Numbered.{map_contains}
 use Rattle.round_trip.specs.Words.{ColId, LinkFragment, Pair, Schema, TableId}
 use Rattle.round_trip.specs.FailsAt.{IsHostedAt}
-use Rattle.soundness.specs.Joined.{Member, TellsOther, col, prop}
+use Rattle.round_trip.specs.soundness.Joined.{Member, TellsOther, col, prop}
 use Rattle.joined_groups.specs.declared.groups.Groups.{Groups}
 use Rattle.joined_groups.specs.Groups.{AreGroups}
 use Rattle.barred_members.specs.Added.{Adds, Constrains, Each, Hosts, HostsAt}

@@ -3,7 +3,7 @@ use Rattle.std.specs.Prelude.{◌≡◌, ◌⊎◌, ◌↔◌, List, Contains, I
 use Rattle.std.specs.BTreeSet.{contains}
 use Rattle.round_trip.specs.Words.{PropId, TableId, Assoc, Constraint, Pair, LinkFragment, Schema}
 use Rattle.round_trip.specs.FailsAt.{IsHostedAt}
-use Rattle.soundness.specs.Joined.{Member, prop, col}
+use Rattle.round_trip.specs.soundness.Joined.{Member, prop, col}
 use Rattle.joined_groups.specs.declared.groups.Groups.{Groups}
 use Rattle.joined_groups.specs.Labels.{label_cmp, label_of}
 use Rattle.barred_members.specs.declared.barred.Barred.{Barred}

@@ -3,7 +3,7 @@
 use Rattle.std.specs.Prelude.{◌↔◌, IsTrue, Bool}
 use Rattle.std.specs.BTreeSet.{contains}
 use Rattle.round_trip.specs.Words.{Schema}
-use Rattle.soundness.specs.Joined.{Member, IsBarred}
+use Rattle.round_trip.specs.soundness.Joined.{Member, IsBarred}
 use Rattle.joined_groups.specs.Labels.{label_cmp, label_of}
 use Rattle.barred_members.specs.declared.barred.Barred.{Barred}
 

@@ -1,6 +1,6 @@
 ghost use Rattle.std.specs.Prelude.{◌≡◌, IfOk};
 ghost use Rattle.round_trip.specs.Words.{EntityModel, Mapping};
-ghost use Rattle.soundness.specs.Joined.{Member, prop, col};
+ghost use Rattle.round_trip.specs.soundness.Joined.{Member, prop, col};
 ghost use Rattle.link_places.specs.Between.{schema_of};
 ghost use Rattle.barred_members.specs.Told.{TellsBarred, is_told};
 ghost use Rattle.barred_members.specs.Added.{Adds, Each, IsProp, IsColumn, Constrains, HostsAt, Hosts};

@@ -5,3 +5,4 @@ pub mod Turns
 pub mod SameValues
 pub mod Apart
 pub mod Finds
+mod Rising

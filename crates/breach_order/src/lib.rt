@@ -2,6 +2,7 @@
 #![tactic(auto)]
 
 mod found;
+mod in_order;
 mod repeats;
 
 pub use found::Found;

@@ -7,13 +7,13 @@ use Rattle.emc_base.proofs.Numbered.{map_contains}
 use Rattle.round_trip.specs.Words.{SetId, TableId, ColId, Entity, EntitySet, At, IsLegal, RoundTrips, State, Tables, Value, entities_in, key_of, key_props, value_of}
 use Rattle.cells.specs.Limits.{IsWithinLimits}
 use Rattle.state_demand.proofs.Lists.{none_in_nil}
-use Rattle.same_laws.proofs.Legal.{key_parts}
+use Rattle.conflict_laws.proofs.same.Legal.{key_parts}
 use Rattle.regions.specs.declared.region.Region.{Region}
 use Rattle.regions.specs.Basis.{Basis}
 use Rattle.regions.specs.Regions.{regions_of}
 use Rattle.region_laws.specs.IsBasis.{IsBasis}
-use Rattle.focus_laws.specs.Held.{IsOfRegion}
-use Rattle.focus_laws.proofs.Flags.{some_region}
+use Rattle.region_states.specs.focus.Held.{IsOfRegion}
+use Rattle.region_states.proofs.focus.Flags.{some_region}
 use Rattle.filled_rows.specs.Demanded.{IsHeldWith}
 use Rattle.region_states.specs.LoneStates.{HasNoAssociationSets}
 use Rattle.region_states.proofs.Legal.{no_host}

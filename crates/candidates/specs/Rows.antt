@@ -2,7 +2,7 @@
 -- Source: the query views of Melnik, Adya and Bernstein, SIGMOD 2007.
 use Rattle.std.specs.Prelude.{◌≡◌, ◌<◌, List, length, map, All, AllPairs, Contains}
 use Rattle.round_trip.specs.Words.{SetId, TableId, Value, Schema, Row, Tables}
-use Rattle.soundness.specs.Lookups.{set_key}
+use Rattle.round_trip.specs.soundness.Lookups.{set_key}
 use Rattle.region_cases.specs.Meets.{StandsAtKey}
 use Rattle.candidates.specs.declared.placed.PlacedRow.{PlacedRow}
 

@@ -14,7 +14,7 @@ use Rattle.regions.specs.declared.pattern.PatternRow.{PatternRow}
 use Rattle.regions.specs.declared.pattern.Symbol.{Symbol}
 use Rattle.regions.specs.Basis.{Basis}
 use Rattle.regions.specs.Patterns.{pattern_of}
-use Rattle.pattern_laws.specs.Listed.{HasCell as IsCellOf}
+use Rattle.region_laws.specs.pattern.Listed.{HasCell as IsCellOf}
 use Rattle.region_cases.specs.declared.case.CaseCell.{CaseCell}
 use Rattle.region_cases.specs.declared.case.CaseRow.{CaseRow}
 use Rattle.region_cases.specs.Cases.{case_cell, case_of, case_row}

@@ -6,7 +6,7 @@ use Rattle.emc_base.proofs.Numbered.{map_contains}
 use Rattle.round_trip.specs.Words.{SetId, TableId, ColId, AssocId, PropId, Assoc, End, LinkFragment, Pair, At, key_props}
 use Rattle.state_demand.specs.Owners.{props_in}
 use Rattle.state_demand.proofs.Lists.{contains_flat_map}
-use Rattle.soundness.specs.Mappings.{IsSoundLinkFragment}
+use Rattle.round_trip.specs.soundness.Mappings.{IsSoundLinkFragment}
 use Rattle.sound_demand.proofs.Fitting.{sound_link}
 use Rattle.regions.specs.declared.region.Region.{Region}
 use Rattle.regions.specs.declared.pattern.Focus.TheVariants as focus
@@ -18,13 +18,13 @@ use Rattle.regions.specs.Symbols.{SymbolWriting, conds_symbols, end_symbols, fra
 use Rattle.region_laws.specs.IsBasis.{IsBasis, IsHostOf}
 use Rattle.region_laws.proofs.Listed.{set_is}
 use Rattle.region_laws.proofs.Symbols.{Decides-assoc}
-use Rattle.pattern_laws.specs.Allowed.{end_at}
-use Rattle.pattern_laws.proofs.Hosting.{assoc_here, end_prop, the_assoc}
-use Rattle.pattern_laws.proofs.Laws.{listed_from}
-use Rattle.pattern_laws.proofs.Cells.{written_listed}
-use Rattle.pattern_laws.proofs.Origins.{linked_decided, side}
-use Rattle.pattern_laws.proofs.Standing.{IsEndOf, end_of}
-use Rattle.focus_laws.proofs.Listed.{lists_written}
+use Rattle.region_laws.specs.pattern.Allowed.{end_at}
+use Rattle.region_laws.proofs.pattern.Hosting.{assoc_here, end_prop, the_assoc}
+use Rattle.region_laws.proofs.pattern.Laws.{listed_from}
+use Rattle.region_laws.proofs.pattern.Cells.{written_listed}
+use Rattle.region_laws.proofs.pattern.Origins.{linked_decided, side}
+use Rattle.region_laws.proofs.pattern.Standing.{IsEndOf, end_of}
+use Rattle.region_states.proofs.focus.Listed.{lists_written}
 use Rattle.case_laws.proofs.Cases.{IsCell}
 
 -- where one end hosts, each pair of the other gives its column an end

@@ -14,13 +14,13 @@ use Rattle.regions.specs.Regions.{regions_of}
 use Rattle.region_laws.specs.IsBasis.{IsBasis}
 use Rattle.region_laws.proofs.Listed.{set_is}
 use Rattle.region_laws.proofs.Symbols.{Decides-assoc}
-use Rattle.pattern_laws.specs.Described.{value_in}
-use Rattle.focus_laws.specs.Held.{HasRow}
+use Rattle.region_laws.specs.pattern.Described.{value_in}
+use Rattle.region_states.specs.focus.Held.{HasRow}
 use Rattle.conflicts.specs.SameFacts.{are_rivals, match_all, same_region}
-use Rattle.rival_laws.specs.Alike.{AreComparable, AreWrittenAlike, PatternsMatch, patterns_match}
-use Rattle.rival_laws.proofs.Alike.{alike_match}
-use Rattle.rival_laws.proofs.Matching.{match_self}
-use Rattle.rival_laws.proofs.Told.{told_same}
+use Rattle.conflict_laws.specs.rival.Alike.{AreComparable, AreWrittenAlike, PatternsMatch, patterns_match}
+use Rattle.conflict_laws.proofs.rival.Alike.{alike_match}
+use Rattle.conflict_laws.proofs.rival.Matching.{match_self}
+use Rattle.conflict_laws.proofs.rival.Told.{told_same}
 use Rattle.region_states.specs.LoneStates.{HasNoAssociationSets}
 use Rattle.region_cases.specs.declared.case.CaseRow.{CaseRow}
 use Rattle.region_cases.specs.Cases.{case_of, case_row}

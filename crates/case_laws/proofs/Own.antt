@@ -20,19 +20,19 @@ use Rattle.regions.specs.Regions.{regions_of}
 use Rattle.region_laws.specs.IsBasis.{IsBasis}
 use Rattle.region_laws.specs.Partners.{HasFewPartners}
 use Rattle.region_laws.proofs.Listed.{set_is}
-use Rattle.pattern_laws.specs.Allowed.{IsAllowed}
-use Rattle.pattern_laws.specs.Described.{value_in}
-use Rattle.pattern_laws.proofs.Laws.{listed_from}
-use Rattle.pattern_laws.proofs.Regions.{lies_in}
-use Rattle.pattern_laws.proofs.Standing.{listed_prop}
-use Rattle.focus_laws.specs.Held.{HasRow, IsAtRow, IsHeldAt}
+use Rattle.region_laws.specs.pattern.Allowed.{IsAllowed}
+use Rattle.region_laws.specs.pattern.Described.{value_in}
+use Rattle.region_laws.proofs.pattern.Laws.{listed_from}
+use Rattle.region_laws.proofs.pattern.Regions.{lies_in}
+use Rattle.region_laws.proofs.pattern.Standing.{listed_prop}
+use Rattle.region_states.specs.focus.Held.{HasRow, IsAtRow, IsHeldAt}
 use Rattle.filled_rows.specs.Demanded.{IsHeldWith}
 use Rattle.filled_rows.proofs.Partners.{held_with_partners, parts}
-use Rattle.rival_laws.specs.Alike.{IsClear}
-use Rattle.rival_laws.proofs.Atoms.{open_atom}
-use Rattle.rival_laws.proofs.Clear.{known_value}
-use Rattle.same_laws.proofs.Cells.{cell_holds, held_allowed}
-use Rattle.same_laws.proofs.Rows.{HasRowAt, pattern_of_row, row_of_pattern}
+use Rattle.conflict_laws.specs.rival.Alike.{IsClear}
+use Rattle.conflict_laws.proofs.rival.Atoms.{open_atom}
+use Rattle.conflict_laws.proofs.rival.Clear.{known_value}
+use Rattle.conflict_laws.proofs.same.Cells.{cell_holds, held_allowed}
+use Rattle.conflict_laws.proofs.same.Rows.{HasRowAt, pattern_of_row, row_of_pattern}
 use Rattle.region_cases.specs.declared.case.Case.{Case}
 use Rattle.region_cases.specs.declared.case.CaseCell.TheVariants as cell
 use Rattle.region_cases.specs.declared.case.CaseRow.{CaseRow}

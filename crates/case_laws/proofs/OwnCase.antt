@@ -3,8 +3,8 @@ use Rattle.std.proofs.Common.{◌≡◌, ◌↔◌, List, length, Bool, Contains
 use Rattle.std.proofs.lemmas.List.{length-map}
 use Rattle.round_trip.specs.Words.{SetId, TableId, ColId, Entity, Hosted, IsLegal, RoundTrips, Row, State, Tables, entities_in, key_of, key_props, value_of}
 use Rattle.cells.specs.Limits.{IsWithinLimits}
-use Rattle.soundness.specs.Lookups.{set_key}
-use Rattle.same_laws.proofs.Legal.{key_parts}
+use Rattle.round_trip.specs.soundness.Lookups.{set_key}
+use Rattle.conflict_laws.proofs.same.Legal.{key_parts}
 use Rattle.regions.specs.declared.region.Region.{Region}
 use Rattle.regions.specs.declared.pattern.Focus.TheVariants as focus
 use Rattle.regions.specs.Basis.{Basis}
@@ -12,8 +12,8 @@ use Rattle.regions.specs.Patterns.{pattern_of}
 use Rattle.regions.specs.Regions.{regions_of}
 use Rattle.region_laws.specs.IsBasis.{IsBasis}
 use Rattle.region_laws.proofs.Listed.{set_is}
-use Rattle.focus_laws.proofs.Flags.{some_region}
-use Rattle.pattern_laws.proofs.Regions.{parts_of}
+use Rattle.region_states.proofs.focus.Flags.{some_region}
+use Rattle.region_laws.proofs.pattern.Regions.{parts_of}
 use Rattle.filled_rows.specs.Demanded.{IsHeldWith}
 use Rattle.region_states.specs.LoneStates.{HasNoAssociationSets}
 use Rattle.region_cases.specs.Cases.{case_of}

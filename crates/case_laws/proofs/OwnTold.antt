@@ -9,7 +9,7 @@ use Rattle.round_trip.specs.Words.{SetId, TableId, ColId, PropId, Assoc, Entity,
 use Rattle.condition_logic.specs.declared.atoms.Atom.{Atom}
 use Rattle.condition_logic.specs.declared.atoms.Atom.TheVariants as atom
 use Rattle.condition_logic.specs.declared.atoms.AtomOf.{AtomOf}
-use Rattle.soundness.specs.Joined.{prop}
+use Rattle.round_trip.specs.soundness.Joined.{prop}
 use Rattle.state_demand.specs.Selecting.{same_key}
 use Rattle.state_demand.proofs.Lists.{any_of, head_stands}
 use Rattle.state_demand.proofs.Selecting.{Decides-key}
@@ -25,7 +25,7 @@ use Rattle.region_laws.specs.Partners.{HasFewPartners}
 use Rattle.region_laws.specs.RegionAt.{links_at}
 use Rattle.region_laws.proofs.Listed.{set_is}
 use Rattle.filled_rows.specs.Demanded.{IsHeldWith}
-use Rattle.rival_laws.specs.Alike.{IsClear}
+use Rattle.conflict_laws.specs.rival.Alike.{IsClear}
 use Rattle.region_cases.specs.declared.case.Case.{Case}
 use Rattle.region_cases.specs.Cases.{case_of}
 use Rattle.region_cases.specs.Meets.{AreLinksOf, IsEntityOf, IsLinkOf, ShowsPart}

@@ -13,8 +13,8 @@ use Rattle.regions.specs.Settled.{multi, possible}
 use Rattle.region_laws.specs.IsBasis.{IsBasis, IsHostOf}
 use Rattle.region_laws.proofs.Listed.{set_is}
 use Rattle.region_laws.proofs.Symbols.{Decides-assoc}
-use Rattle.pattern_laws.specs.Allowed.{end_at, partner_parts}
-use Rattle.pattern_laws.proofs.Choices.{found_passes, none_passes}
+use Rattle.region_laws.specs.pattern.Allowed.{end_at, partner_parts}
+use Rattle.region_laws.proofs.pattern.Choices.{found_passes, none_passes}
 use Rattle.region_cases.specs.declared.case.Case.{Case}
 use Rattle.region_cases.specs.Cases.{case_of}
 use Rattle.region_cases.specs.Meets.{AreLinksOf, IsLinkOf, ShowsPart}

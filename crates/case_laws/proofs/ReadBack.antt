@@ -4,7 +4,7 @@ use Rattle.std.specs.Option.{option_map_or}
 use Rattle.emc_base.proofs.Lists.{all_from_members}
 use Rattle.emc_base.specs.Lists.{AreApart}
 use Rattle.round_trip.specs.Words.{SetId, TableId, ColId, AssocId, PropId, TypeId, Entity, EntityType, Hosted, IsEntity, Row, Tables, Value, At, cell_of, key_of, key_props, props_of, row_key, rows_in, value_beside, value_of}
-use Rattle.soundness.specs.Lookups.{set_key}
+use Rattle.round_trip.specs.soundness.Lookups.{set_key}
 use Rattle.state_demand.proofs.Lists.{any_of, head_stands, of_any, same_by_key}
 use Rattle.state_demand.proofs.Places.{map_agree}
 use Rattle.sound_demand.proofs.Keys.{keys_apart}
@@ -20,10 +20,10 @@ use Rattle.regions.specs.Settled.{Settled, free, known, settle}
 use Rattle.region_laws.specs.IsBasis.{IsBasis}
 use Rattle.region_laws.proofs.Listed.{set_is}
 use Rattle.region_laws.proofs.Possible.{type_fits}
-use Rattle.pattern_laws.specs.Described.{value_in}
-use Rattle.pattern_laws.proofs.Regions.{key_is, parts_of}
+use Rattle.region_laws.specs.pattern.Described.{value_in}
+use Rattle.region_laws.proofs.pattern.Regions.{key_is, parts_of}
 use Rattle.filled_rows.proofs.Filled.{cell_is, cell_there, has_cell}
-use Rattle.rival_laws.proofs.Clear.{known_value}
+use Rattle.conflict_laws.proofs.rival.Clear.{known_value}
 use Rattle.region_cases.specs.declared.case.Case.{Case}
 use Rattle.region_cases.specs.declared.case.CaseCell.TheVariants as cell
 use Rattle.region_cases.specs.Cases.{by_settled, case_of}

@@ -6,8 +6,8 @@ use Rattle.std.proofs.lemmas.List.Elements.{All-contains}
 use Rattle.emc_base.proofs.Mapped.{contains_at, contains_map}
 use Rattle.emc_base.proofs.Numbered.{map_contains}
 use Rattle.round_trip.specs.Words.{SetId, TableId, ColId, PropId, Pair, Row, Table, Tables, Value, At, cell_of, key_props, props_of, value_beside}
-use Rattle.soundness.specs.Lookups.{set_key}
-use Rattle.soundness.specs.Stores.{IsKeyColumn, IsSoundTable}
+use Rattle.round_trip.specs.soundness.Lookups.{set_key}
+use Rattle.round_trip.specs.soundness.Stores.{IsKeyColumn, IsSoundTable}
 use Rattle.state_demand.specs.Owners.{props_in}
 use Rattle.state_demand.specs.WellWritten.{cols_of}
 use Rattle.state_demand.proofs.Fitting.{key_is}
@@ -22,12 +22,12 @@ use Rattle.regions.specs.Patterns.{cell_symbols, pattern_of, writings_of}
 use Rattle.regions.specs.Settled.{Possible, multi, possible, single}
 use Rattle.region_laws.specs.IsBasis.{IsBasis}
 use Rattle.region_laws.proofs.Listed.{set_is}
-use Rattle.pattern_laws.proofs.Keys.{key_cell}
-use Rattle.pattern_laws.proofs.Regions.{key_is as type_key_is}
+use Rattle.region_laws.proofs.pattern.Keys.{key_cell}
+use Rattle.region_laws.proofs.pattern.Regions.{key_is as type_key_is}
 use Rattle.filled_rows.proofs.Filled.{has_cell}
-use Rattle.default_values.proofs.Defaults.{Decides-among}
+use Rattle.region_states.proofs.defaults.Defaults.{Decides-among}
 use Rattle.conflicts.specs.SameFacts.{is_lost, is_multi, is_one_of, lists_anywhere}
-use Rattle.rival_laws.proofs.Reading.{somewhere}
+use Rattle.conflict_laws.proofs.rival.Reading.{somewhere}
 use Rattle.region_cases.specs.Meets.{StandsAtKey}
 use Rattle.case_laws.specs.Reading.{DecidesFree}
 use Rattle.case_laws.specs.Told.{IsMet, IsReadable}

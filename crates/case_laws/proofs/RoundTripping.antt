@@ -18,7 +18,7 @@ use Rattle.conflicts.specs.declared.conflict.Conflict.TheVariants as conflict
 use Rattle.region_states.specs.LoneStates.{HasNoAssociationSets, lone_focus}
 use Rattle.region_states.proofs.Alike.{lone_hosts}
 use Rattle.region_states.proofs.Legal.{no_host}
-use Rattle.clash_laws.proofs.Clear.{row_clear}
+use Rattle.conflict_laws.proofs.clash.Clear.{row_clear}
 use Rattle.conflict_laws.proofs.Exact.{exact}
 use Rattle.case_laws.specs.Told.{IsReadable}
 

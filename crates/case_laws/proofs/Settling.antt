@@ -17,13 +17,13 @@ use Rattle.regions.specs.Basis.{Basis}
 use Rattle.regions.specs.Patterns.{writings_of}
 use Rattle.regions.specs.Settled.{Possible, Settled, known, free, multi, possible, settle, settled_by, single}
 use Rattle.region_laws.specs.IsBasis.{IsBasis}
-use Rattle.pattern_laws.proofs.Cells.{cell_apart, cell_of as made_cell}
-use Rattle.pattern_laws.proofs.Laws.{listed_from}
-use Rattle.pattern_laws.proofs.Hosting.{side_among}
-use Rattle.pattern_laws.proofs.Origins.{From, by_cond, by_end, by_host, by_pair, side}
-use Rattle.pattern_laws.proofs.Settled.{free_is}
-use Rattle.rival_laws.specs.Alike.{IsClear}
-use Rattle.rival_laws.proofs.Clear.{clear_cell}
+use Rattle.region_laws.proofs.pattern.Cells.{cell_apart, cell_of as made_cell}
+use Rattle.region_laws.proofs.pattern.Laws.{listed_from}
+use Rattle.region_laws.proofs.pattern.Hosting.{side_among}
+use Rattle.region_laws.proofs.pattern.Origins.{From, by_cond, by_end, by_host, by_pair, side}
+use Rattle.region_laws.proofs.pattern.Settled.{free_is}
+use Rattle.conflict_laws.specs.rival.Alike.{IsClear}
+use Rattle.conflict_laws.proofs.rival.Clear.{clear_cell}
 use Rattle.region_cases.specs.declared.case.CaseCell.{CaseCell}
 use Rattle.region_cases.specs.declared.case.CaseCell.TheVariants as cell
 use Rattle.region_cases.specs.Cases.{by_settled}

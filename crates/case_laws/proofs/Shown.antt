@@ -13,10 +13,10 @@ use Rattle.regions.specs.Basis.{Basis, Host, partner_end}
 use Rattle.regions.specs.Regions.{regions_of}
 use Rattle.regions.specs.Settled.{free, multi, possible, settle}
 use Rattle.region_laws.specs.IsBasis.{IsBasis}
-use Rattle.pattern_laws.proofs.Hosting.{one_host}
-use Rattle.pattern_laws.proofs.Laws.{end_once}
-use Rattle.rival_laws.specs.Alike.{IsClear}
-use Rattle.rival_laws.proofs.Clear.{listed_free}
+use Rattle.region_laws.proofs.pattern.Hosting.{one_host}
+use Rattle.region_laws.proofs.pattern.Laws.{end_once}
+use Rattle.conflict_laws.specs.rival.Alike.{IsClear}
+use Rattle.conflict_laws.proofs.rival.Clear.{listed_free}
 use Rattle.region_cases.specs.declared.case.Case.{Case}
 use Rattle.region_cases.specs.declared.case.CaseCell.TheVariants as cell
 use Rattle.region_cases.specs.Cases.{by_settled, case_of}

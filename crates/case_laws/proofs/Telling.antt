@@ -16,9 +16,9 @@ use Rattle.regions.specs.Settled.{is_nullable, multi, of_atom, possible, single}
 use Rattle.region_laws.specs.IsBasis.{IsBasis}
 use Rattle.region_laws.proofs.Listed.{set_is}
 use Rattle.region_laws.proofs.Possible.{linked_hosts}
-use Rattle.pattern_laws.proofs.Laws.{listed_from}
-use Rattle.pattern_laws.proofs.Standing.{listed_prop}
-use Rattle.default_values.proofs.Listed.{told_found, told_is}
+use Rattle.region_laws.proofs.pattern.Laws.{listed_from}
+use Rattle.region_laws.proofs.pattern.Standing.{listed_prop}
+use Rattle.region_states.proofs.defaults.Listed.{told_found, told_is}
 use Rattle.region_cases.specs.declared.case.Case.{Case}
 use Rattle.region_cases.specs.Cases.{case_of}
 use Rattle.region_cases.specs.Meets.{AreLinksOf, IsEntityOf, IsLinkOf, ShowsValue}

@@ -7,7 +7,7 @@ use Rattle.round_trip.specs.Words.{SetId, TableId, ColId, PropId, Entity, Hosted
 use Rattle.condition_logic.specs.declared.atoms.Atom.{Atom}
 use Rattle.condition_logic.specs.declared.atoms.Atom.TheVariants as atom
 use Rattle.condition_logic.specs.declared.atoms.AtomOf.{AtomOf}
-use Rattle.soundness.specs.Joined.{prop}
+use Rattle.round_trip.specs.soundness.Joined.{prop}
 use Rattle.regions.specs.declared.region.Region.{Region}
 use Rattle.regions.specs.declared.pattern.Symbol.TheVariants as symbol
 use Rattle.regions.specs.Atoms.{Allows, LiesIn, atom_at}
@@ -15,10 +15,10 @@ use Rattle.regions.specs.Basis.{Basis}
 use Rattle.regions.specs.Patterns.{Valuation, by_entity}
 use Rattle.regions.specs.Settled.{is_nullable, multi, of_atom, possible, single}
 use Rattle.region_laws.specs.IsBasis.{IsBasis}
-use Rattle.pattern_laws.specs.Allowed.{IsAllowed, partner_parts}
-use Rattle.pattern_laws.proofs.Regions.{atom_found}
-use Rattle.default_values.proofs.Listed.{IsTold, found_told, told_found, told_is}
-use Rattle.default_values.proofs.Valued.{Tells, atom_tells}
+use Rattle.region_laws.specs.pattern.Allowed.{IsAllowed, partner_parts}
+use Rattle.region_laws.proofs.pattern.Regions.{atom_found}
+use Rattle.region_states.proofs.defaults.Listed.{IsTold, found_told, told_found, told_is}
+use Rattle.region_states.proofs.defaults.Valued.{Tells, atom_tells}
 use Rattle.region_cases.specs.declared.case.Case.{Case}
 use Rattle.region_cases.specs.Cases.{case_of}
 use Rattle.region_cases.specs.Meets.{MayBe}

@@ -6,14 +6,14 @@ use Rattle.emc_base.proofs.Lists.{item_at}
 use Rattle.emc_base.proofs.Numbered.{map_contains}
 use Rattle.emc_base.specs.Lists.{AreApart}
 use Rattle.round_trip.specs.Words.{SetId, TableId, ColId, PropId, TypeId, Entity, EntitySet, Hosted, IsLegal, Pair, Row, State, Tables, Value, At, entities_in, key_of, key_props, props_of, row_key, value_beside, value_of}
-use Rattle.soundness.specs.Lookups.{set_key}
+use Rattle.round_trip.specs.soundness.Lookups.{set_key}
 use Rattle.state_demand.specs.Owners.{StandsAt, props_in}
 use Rattle.state_demand.proofs.Lists.{none_in_nil}
 use Rattle.state_demand.proofs.Places.{agree_by_map, map_agree}
 use Rattle.sound_demand.proofs.Keys.{keys_apart}
 use Rattle.sound_demand.proofs.ReadBack.{rows_of}
 use Rattle.sound_types.proofs.Once.{props_once}
-use Rattle.same_laws.proofs.Legal.{key_parts}
+use Rattle.conflict_laws.proofs.same.Legal.{key_parts}
 use Rattle.regions.specs.declared.region.Region.{Region}
 use Rattle.regions.specs.Basis.{Basis}
 use Rattle.region_laws.specs.IsBasis.{IsBasis}

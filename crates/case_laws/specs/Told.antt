@@ -2,7 +2,7 @@
 -- Source: the query views of Melnik, Adya and Bernstein, SIGMOD 2007.
 use Rattle.std.specs.Prelude.{◌≡◌, List, length, All, Contains, Bool, false}
 use Rattle.round_trip.specs.Words.{SetId, TableId, ColId, PropId, Value, Prop, Table, Column, Entity, Hosted, Row, Tables, At, IsEntity, IsFree, cell_of, key_of, props_of, value_of}
-use Rattle.soundness.specs.Lookups.{set_key}
+use Rattle.round_trip.specs.soundness.Lookups.{set_key}
 use Rattle.regions.specs.declared.region.Region.{Region}
 use Rattle.regions.specs.declared.pattern.PatternRow.{PatternRow}
 use Rattle.regions.specs.declared.pattern.Focus.TheVariants as focus
@@ -10,10 +10,10 @@ use Rattle.regions.specs.Atoms.{Allows}
 use Rattle.regions.specs.Basis.{Basis}
 use Rattle.regions.specs.Patterns.{Valuation, by_entity, pattern_of}
 use Rattle.regions.specs.Regions.{Holds, regions_of}
-use Rattle.pattern_laws.specs.Allowed.{partner_parts}
-use Rattle.pattern_laws.specs.Described.{row_for}
+use Rattle.region_laws.specs.pattern.Allowed.{partner_parts}
+use Rattle.region_laws.specs.pattern.Described.{row_for}
 use Rattle.conflicts.specs.SameFacts.{is_absent, is_lost}
-use Rattle.rival_laws.specs.Alike.{IsClear}
+use Rattle.conflict_laws.specs.rival.Alike.{IsClear}
 use Rattle.region_cases.specs.Cases.{case_of}
 use Rattle.region_cases.specs.Meets.{AreLinksOf, IsEntityOf, MeetsCase, StandsAtKey}
 

@@ -3,7 +3,7 @@
 
 ghost use Rattle.std.specs.Prelude.{◌≡◌, ◌↔◌, Bool, Contains, List, length};
 ghost use Rattle.round_trip.specs.Words.{ColId, Entity, Hosted, IsLegal, RoundTrips, Row, SetId, State, TableId, Tables, Value, entities_in, key_of};
-ghost use Rattle.soundness.specs.Lookups.{set_key};
+ghost use Rattle.round_trip.specs.soundness.Lookups.{set_key};
 ghost use Rattle.cells.specs.Limits.{IsWithinLimits};
 ghost use Rattle.regions.specs.declared.region.Region.{Region};
 ghost use Rattle.regions.specs.Basis.{Basis};
@@ -11,7 +11,7 @@ ghost use Rattle.regions.specs.Regions.{regions_of};
 ghost use Rattle.region_laws.specs.IsBasis.{IsBasis};
 ghost use Rattle.region_laws.specs.Partners.{HasFewPartners};
 ghost use Rattle.filled_rows.specs.Demanded.{IsHeldWith};
-ghost use Rattle.rival_laws.specs.Alike.{IsClear};
+ghost use Rattle.conflict_laws.specs.rival.Alike.{IsClear};
 ghost use Rattle.region_states.specs.LoneStates.{HasNoAssociationSets};
 ghost use Rattle.region_cases.specs.Cases.{case_of};
 ghost use Rattle.region_cases.specs.Meets.{AreLinksOf, IsEntityOf, MeetsCase, StandsAtKey};

@@ -18,9 +18,9 @@ use Rattle.regions.specs.Basis.{Basis}
 use Rattle.regions.specs.Regions.{regions_of}
 use Rattle.regions.specs.Settled.{Possible, free, is_nullable, multi, of_atom, possible, settle, settled_by, single}
 use Rattle.region_laws.specs.IsBasis.{IsBasis}
-use Rattle.pattern_laws.proofs.Laws.{listed_from}
-use Rattle.pattern_laws.proofs.Standing.{listed_prop}
-use Rattle.default_values.proofs.Listed.{IsTold, told_found, told_is}
+use Rattle.region_laws.proofs.pattern.Laws.{listed_from}
+use Rattle.region_laws.proofs.pattern.Standing.{listed_prop}
+use Rattle.region_states.proofs.defaults.Listed.{IsTold, told_found, told_is}
 use Rattle.region_cases.specs.declared.case.CaseCell.TheVariants as cell
 use Rattle.region_cases.specs.Meets.{IsEntityOf, MeetsCase}
 use Rattle.candidates.specs.Rows.{AreRowsAt}

@@ -10,9 +10,9 @@ use Rattle.emc_base.specs.Order.{value_cmp}
 use Rattle.emc_base.specs.OrderLaws.{value_cmp_total}
 use Rattle.emc_base.proofs.Lists.{all_from_members}
 use Rattle.round_trip.specs.Words.{PropId, Schema, Value}
-use Rattle.soundness.specs.Joined.{Member}
+use Rattle.round_trip.specs.soundness.Joined.{Member}
 use Rattle.member_groups.specs.Tested.{IsConstant}
-use Rattle.group_constants.specs.Constants.{ListsJust}
+use Rattle.member_groups.specs.MemberGroups.{ListsJust}
 use Rattle.state_demand.proofs.Selecting.{Decides-value}
 use Rattle.cells.specs.Limits.{HasFewConstants, most_constants}
 

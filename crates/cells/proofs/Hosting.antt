@@ -13,7 +13,7 @@ use Rattle.emc_base.proofs.Mapped.{contains_enumerated, contains_filter, contain
 use Rattle.emc_base.proofs.Numbered.{enumerated_at, filter_contains, map_contains}
 use Rattle.round_trip.specs.Words.{Assoc, AssocId, Hosted, LinkFragment, Link, Schema, SetId, State, Value, links_in}
 use Rattle.round_trip.specs.FailsAt.{IsHostedAt}
-use Rattle.soundness.specs.Mappings.{IsSoundSchema}
+use Rattle.round_trip.specs.soundness.Mappings.{IsSoundSchema}
 use Rattle.table_owners.specs.declared.places.LinkPlace.{LinkPlace}
 use Rattle.table_owners.specs.declared.places.LinkPlace.TheVariants as place
 use Rattle.table_owners.specs.Places.{AreHosted, AreToldHosted}

@@ -2,7 +2,7 @@
 #![tactic(auto)]
 
 ghost use Rattle.link_places.specs.Between.{schema_of};
-ghost use Rattle.soundness.specs.Mappings.{IsSoundSchema};
+ghost use Rattle.round_trip.specs.soundness.Mappings.{IsSoundSchema};
 
 #[cfg(test)]
 mod tests;

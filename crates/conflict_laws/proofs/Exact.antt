@@ -15,15 +15,15 @@ use Rattle.region_states.specs.Hosting.{HostsFocuses}
 use Rattle.region_states.specs.LoneStates.{HasNoAssociationSets, empty_state, lone_focus}
 use Rattle.region_states.proofs.Alike.{lone_hosts, lone_leaves, lone_rivals}
 use Rattle.region_states.proofs.Legal.{no_host}
-use Rattle.clash_laws.proofs.Fails.{fails_there}
-use Rattle.clash_laws.proofs.Told.{clash_told}
-use Rattle.null_laws.proofs.Failing.{null_there}
-use Rattle.null_laws.proofs.Telling.{null_told}
-use Rattle.disagreement_laws.proofs.Failing.{there}
-use Rattle.disagreement_laws.proofs.Told.{told}
-use Rattle.same_laws.specs.States.{HasStates}
-use Rattle.same_laws.proofs.There.{same_there}
-use Rattle.same_laws.proofs.ToldThere.{same_told}
+use Rattle.conflict_laws.proofs.clash.Fails.{fails_there}
+use Rattle.conflict_laws.proofs.clash.Told.{clash_told}
+use Rattle.conflict_laws.proofs.null.Failing.{null_there}
+use Rattle.conflict_laws.proofs.null.Telling.{null_told}
+use Rattle.conflict_laws.proofs.disagreement.Failing.{there}
+use Rattle.conflict_laws.proofs.disagreement.Told.{told}
+use Rattle.conflict_laws.specs.same.States.{HasStates}
+use Rattle.conflict_laws.proofs.same.There.{same_there}
+use Rattle.conflict_laws.proofs.same.ToldThere.{same_told}
 
 module _ (basis : Basis) (is : IsBasis basis) (limits : IsWithinLimits basis.schema) (none : HasNoAssociationSets basis.schema.model) where
   -- nothing is hosted, so partners are few

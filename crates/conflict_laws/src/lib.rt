@@ -1,5 +1,12 @@
-//! Conflicts are exact: where no association set is declared, there is one of a kind at a set exactly where some legal state fails by it there.
+//! Conflicts are exact, kind by kind: where no association set is declared, there is one of a kind at a set exactly where some legal state fails by it
+//! there.
 #![tactic(auto)]
+
+mod clash_laws;
+mod disagreement_laws;
+mod null_laws;
+mod rival_laws;
+mod same_laws;
 
 ghost use Rattle.std.specs.Prelude.{◌↔◌};
 ghost use Rattle.round_trip.specs.Words.{SetId};
@@ -11,6 +18,14 @@ ghost use Rattle.conflicts.specs.Conflicts.{IsConflictAt};
 ghost use Rattle.conflicts.specs.There.{FailsThere, NoneFailsBefore};
 ghost use Rattle.conflicts.specs.declared.conflict.Conflict.{Conflict};
 ghost use Rattle.region_states.specs.LoneStates.{HasNoAssociationSets};
+
+pub use clash_laws::{
+    a_clash_fails, a_clash_is_told, patterns_are_clear, symbols_that_clash_differ,
+};
+pub use disagreement_laws::{a_disagreement_fails, a_disagreement_is_told};
+pub use null_laws::{a_null_fails, a_null_is_told};
+pub use rival_laws::{alike_patterns_match, matching_patterns_are_alike, regions_are_told_apart};
+pub use same_laws::{absent_entities_fail, lost_values_fail, rivals_fail, same_tables_are_told};
 
 /// Where no association set is declared and no legal state fails by a kind that is told before this one, there is a conflict of the kind at a set exactly
 /// where some legal state fails by it there.

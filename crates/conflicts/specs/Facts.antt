@@ -17,7 +17,7 @@ use Rattle.regions.specs.Patterns.{pattern_of}
 use Rattle.regions.specs.Settled.{Possible, single, multi, possible, clashes}
 use Rattle.regions.specs.Shown.{cell_in, shows_row, shows_link_row}
 use Rattle.regions.specs.Symbols.{is_linked, same_symbol, selects_region}
-use Rattle.pattern_laws.specs.Allowed.{told_of}
+use Rattle.region_laws.specs.pattern.Allowed.{told_of}
 
 -- whether a symbol is listed
 abbrev pub lists : List Symbol → Symbol → Bool

@@ -10,7 +10,7 @@ use Rattle.state_demand.proofs.Lists.{any_of}
 use Rattle.regions.specs.Basis.{Basis}
 use Rattle.regions.specs.declared.pattern.Focus.TheVariants as focus
 use Rattle.regions.specs.declared.region.Region.{Region}
-use Rattle.pattern_laws.proofs.Choices.{found_passes, none_passes}
+use Rattle.region_laws.proofs.pattern.Choices.{found_passes, none_passes}
 use Rattle.conflicts.specs.Facts.{differs_at, differs_at_links, disagrees_at}
 
 -- an item that is found, by its place, and that there is none at any place where none is found

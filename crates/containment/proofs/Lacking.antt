@@ -13,10 +13,10 @@ use Rattle.regions.specs.declared.pattern.Focus.TheVariants as focus
 use Rattle.regions.specs.declared.pattern.PatternRow.{PatternRow}
 use Rattle.regions.specs.declared.pattern.Symbol.{Symbol}
 use Rattle.regions.specs.declared.region.Region.{Region}
-use Rattle.pattern_laws.proofs.Choices.{found_passes, none_passes}
+use Rattle.region_laws.proofs.pattern.Choices.{found_passes, none_passes}
 use Rattle.conflicts.specs.Facts.{can_be_null, has_row, is_null_in, is_required, listed_in, lists, stands_for_null}
-use Rattle.clash_laws.proofs.Listed.{Decides-lists}
-use Rattle.null_laws.proofs.Listed.{Decides-row}
+use Rattle.conflict_laws.proofs.clash.Listed.{Decides-lists}
+use Rattle.conflict_laws.proofs.null.Listed.{Decides-row}
 use Rattle.containment.specs.Cells.{HasNoGap, lacks}
 use Rattle.containment.proofs.Listed.{listed_row}
 

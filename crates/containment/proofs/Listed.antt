@@ -9,9 +9,9 @@ use Rattle.regions.specs.declared.pattern.Focus.{Focus}
 use Rattle.regions.specs.declared.pattern.PatternRow.{PatternRow}
 use Rattle.regions.specs.declared.pattern.Symbol.{Symbol}
 use Rattle.region_laws.proofs.Cells.{Decides-table}
-use Rattle.pattern_laws.proofs.Choices.{found_passes}
+use Rattle.region_laws.proofs.pattern.Choices.{found_passes}
 use Rattle.conflicts.specs.Facts.{listed_in}
-use Rattle.clash_laws.proofs.Listed.{found_row}
+use Rattle.conflict_laws.proofs.clash.Listed.{found_row}
 
 module _ (basis : Basis) (of : Focus) where
   abbrev rows : List PatternRow

@@ -7,8 +7,8 @@ use Rattle.emc_base.specs.Lists.{At}
 use Rattle.emc_base.proofs.Lists.{item_at}
 use Rattle.round_trip.specs.Words.{EntityType, TypeId, TypeNode}
 use Rattle.edm_types.specs.Forest.{HoldsEachType, IsForest, IsNodeOf, IsTypeNode, node_type, type_numbered, types_based_on}
-use Rattle.soundness.specs.Inheritance.{HasNoCircle}
-use Rattle.soundness.specs.ModelIds.{IsTypeId}
+use Rattle.round_trip.specs.soundness.Inheritance.{HasNoCircle}
+use Rattle.round_trip.specs.soundness.ModelIds.{IsTypeId}
 use Rattle.sound_forests.proofs.Whole.{holds_each}
 use Rattle.base_chains.proofs.Depths.{HasDepth, depth_never}
 use Rattle.csdl_lists.specs.declared.raw.RawModel.{RawModel}

@@ -5,7 +5,7 @@ use Rattle.std.specs.List.{flat_map, range_with_len}
 use Rattle.emc_base.specs.Lists.{At}
 use Rattle.round_trip.specs.Words.{EntityType, PropId}
 use Rattle.edm_types.specs.Forest.{type_numbered}
-use Rattle.soundness.specs.Inheritance.{prop_numbered}
+use Rattle.round_trip.specs.soundness.Inheritance.{prop_numbered}
 use Rattle.base_chains.specs.Chains.{chain}
 use Rattle.csdl_lists.specs.declared.raw.RawModel.{RawModel}
 use Rattle.csdl_lists.specs.declared.raw.RawType.{RawType}

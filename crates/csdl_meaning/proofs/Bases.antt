@@ -9,8 +9,8 @@ use Rattle.emc_base.specs.Lists.{At}
 use Rattle.edm_types.specs.IsA.{same, base, chain}
 use Rattle.round_trip.specs.Words.{EntityModel, EntityType, TypeId, HasBase, IsA}
 use Rattle.edm_types.specs.Forest.{type_numbered}
-use Rattle.soundness.specs.Inheritance.{HasNoCircle}
-use Rattle.soundness.specs.Lookups.{IsAncestor as IsAbove}
+use Rattle.round_trip.specs.soundness.Inheritance.{HasNoCircle}
+use Rattle.round_trip.specs.soundness.Lookups.{IsAncestor as IsAbove}
 use Rattle.base_chains.specs.Chains.{IsAncestor, direct, further, StaysWithin}
 use Rattle.base_chains.proofs.Chains.{Ends, above_above, chain_root, chain_step, ends}
 use Rattle.name_places.specs.GivenNames.{first_place}

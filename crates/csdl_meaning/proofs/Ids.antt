@@ -9,8 +9,8 @@ use Rattle.emc_base.specs.Lists.{At}
 use Rattle.emc_base.proofs.Lists.{all_from_members, item_at}
 use Rattle.round_trip.specs.Words.{EntityModel, EntityType, PropId}
 use Rattle.edm_types.specs.Forest.{type_numbered}
-use Rattle.soundness.specs.Inheritance.{prop_numbered}
-use Rattle.soundness.specs.ModelIds.{IsPropId, IsTypeId}
+use Rattle.round_trip.specs.soundness.Inheritance.{prop_numbered}
+use Rattle.round_trip.specs.soundness.ModelIds.{IsPropId, IsTypeId}
 use Rattle.base_chains.proofs.Members.{in_map}
 use Rattle.csdl_lists.specs.declared.raw.RawModel.{RawModel}
 use Rattle.csdl_lists.specs.declared.raw.RawType.{RawType}

@@ -10,7 +10,7 @@ use Rattle.json_form.specs.declared.pointer.Step.TheVariants.{Item, Member}
 use Rattle.layouts.specs.declared.fault.Fault.{Fault}
 use Rattle.layouts.specs.declared.rule.Rule.TheVariants.{Ancestors, Bound, InheritedName, KeyProperty, PropertyType, TypeKey}
 use Rattle.rule_places.specs.Places.{InList}
-use Rattle.soundness.specs.Kinds.{IsKeyKind, IsSoundKind}
+use Rattle.round_trip.specs.soundness.Kinds.{IsKeyKind, IsSoundKind}
 use Rattle.base_chains.specs.Chains.{IsAncestor}
 use Rattle.base_chains.proofs.Members.{contains_nil, in_map}
 use Rattle.base_chains.proofs.Orders.{place_of_member}

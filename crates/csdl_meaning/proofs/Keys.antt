@@ -8,9 +8,9 @@ use Rattle.emc_base.specs.Lists.{At, AreApart}
 use Rattle.emc_base.proofs.Lists.{all_from_members}
 use Rattle.emc_base.proofs.Mapped.{contains_at}
 use Rattle.round_trip.specs.Words.{EntityModel, EntityType, PropId, TypeId, key_props}
-use Rattle.soundness.specs.Kinds.{IsKeyKind}
+use Rattle.round_trip.specs.soundness.Kinds.{IsKeyKind}
 use Rattle.edm_types.specs.Forest.{type_numbered}
-use Rattle.soundness.specs.Inheritance.{HasInheritedKey, IsKeyProp, IsRootKey, declared_props, prop_numbered}
+use Rattle.round_trip.specs.soundness.Inheritance.{HasInheritedKey, IsKeyProp, IsRootKey, declared_props, prop_numbered}
 use Rattle.base_chains.specs.Chains.{IsAncestor}
 use Rattle.base_chains.proofs.Members.{contains_nil}
 use Rattle.base_chains.proofs.Orders.{place_of_member}

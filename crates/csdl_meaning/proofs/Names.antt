@@ -8,7 +8,7 @@ use Rattle.emc_base.specs.Lists.{At, AreApart}
 use Rattle.emc_base.proofs.Lists.{all_from_members}
 use Rattle.emc_base.proofs.Mapped.{map-enumerated}
 use Rattle.round_trip.specs.Words.{EntityModel, EntityType, Prop, TypeId}
-use Rattle.soundness.specs.ModelNames.{HasDistinctMembers, own_names}
+use Rattle.round_trip.specs.soundness.ModelNames.{HasDistinctMembers, own_names}
 use Rattle.base_chains.specs.Chains.{IsAncestor}
 use Rattle.name_places.specs.GivenNames.{IsGivenBefore}
 use Rattle.name_places.proofs.FirstPlaces.{names_apart}

@@ -13,7 +13,7 @@ use Rattle.emc_base.proofs.Lists.{at_once, passes_at}
 use Rattle.layouts.specs.declared.fault.Fault.{Fault}
 use Rattle.layouts.specs.declared.rule.Rule.{Rule}
 use Rattle.layouts.specs.declared.rule.Rule.TheVariants.{KeyProperty}
-use Rattle.soundness.specs.Kinds.{largest_bound}
+use Rattle.round_trip.specs.soundness.Kinds.{largest_bound}
 use Rattle.base_chains.specs.Chains.{IsAncestor}
 use Rattle.csdl_lists.specs.declared.raw.RawBound.{RawBound}
 use Rattle.csdl_lists.specs.declared.raw.RawBound.TheVariants.{Absent, Max, Number}

@@ -3,7 +3,7 @@ use Rattle.std.proofs.Common.{◌≡◌, ◌≢◌, ℕ, zero, suc, List, [], �
 use Rattle.std.specs.Option.{option_and_then, option_map_or, option_or}
 use Rattle.emc_base.specs.declared.value.Kind.{Kind}
 use Rattle.emc_base.specs.declared.value.Kind.TheVariants as kind
-use Rattle.soundness.specs.Kinds.{without_bound}
+use Rattle.round_trip.specs.soundness.Kinds.{without_bound}
 use Rattle.csdl_lists.specs.declared.raw.RawBound.{RawBound}
 use Rattle.csdl_lists.specs.declared.raw.RawBound.TheVariants.{Absent}
 use Rattle.csdl_lists.specs.declared.raw.RawEnum.{RawEnum}

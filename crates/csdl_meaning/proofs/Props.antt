@@ -10,7 +10,7 @@ use Rattle.emc_base.proofs.Lists.{all_from_members, item_at}
 use Rattle.emc_base.proofs.Mapped.{map-enumerated, map-filter_enumerated}
 use Rattle.round_trip.specs.Words.{EntityModel, EntityType, Prop, TypeId, props_of}
 use Rattle.edm_types.specs.Forest.{type_numbered}
-use Rattle.soundness.specs.Inheritance.{HasInheritedProps, declared_props, prop_numbered}
+use Rattle.round_trip.specs.soundness.Inheritance.{HasInheritedProps, declared_props, prop_numbered}
 use Rattle.base_chains.specs.Chains.{IsAncestor}
 use Rattle.base_chains.proofs.Members.{in_map}
 use Rattle.csdl_lists.specs.declared.raw.RawModel.{RawModel}

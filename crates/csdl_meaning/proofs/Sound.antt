@@ -4,8 +4,8 @@ use Rattle.std.specs.List.{filter_map}
 use Rattle.std.specs.Option.{option_and_then, unwrap_or}
 use Rattle.emc_base.specs.Lists.{At}
 use Rattle.round_trip.specs.Words.{EntityModel, TypeId}
-use Rattle.soundness.specs.Inheritance.{IsRootKey}
-use Rattle.soundness.specs.Kinds.{IsSoundKind}
+use Rattle.round_trip.specs.soundness.Inheritance.{IsRootKey}
+use Rattle.round_trip.specs.soundness.Kinds.{IsSoundKind}
 use Rattle.csdl_lists.specs.declared.raw.RawModel.{RawModel}
 use Rattle.csdl_lists.specs.declared.raw.RawType.{RawType}
 use Rattle.csdl_lists.specs.References.{names_in}

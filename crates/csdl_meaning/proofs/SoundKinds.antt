@@ -11,7 +11,7 @@ use Rattle.emc_base.specs.declared.value.Under.{Under}
 use Rattle.emc_base.specs.declared.value.Under.TheVariants as under
 use Rattle.emc_base.specs.declared.value.Value.TheVariants.{Whole}
 use Rattle.emc_base.specs.declared.value.Kind.TheVariants as kind
-use Rattle.soundness.specs.Kinds.{IsEnum, IsKeyKind, IsSoundBound, IsSoundKind, largest_bound, under_kind}
+use Rattle.round_trip.specs.soundness.Kinds.{IsEnum, IsKeyKind, IsSoundBound, IsSoundKind, largest_bound, under_kind}
 use Rattle.csdl_lists.specs.declared.raw.RawBound.{RawBound}
 use Rattle.csdl_lists.specs.declared.raw.RawBound.TheVariants.{Absent, Max, Number}
 use Rattle.csdl_lists.specs.declared.raw.RawEnum.{RawEnum}

@@ -6,7 +6,7 @@ use Rattle.std.specs.Option.{option_and_then, option_map_or}
 use Rattle.round_trip.specs.Words.{EntityModel, EntityType, Nav, Prop, PropId, TypeNode}
 use Rattle.edm_types.specs.declared.model.TypeNode.{roll-TypeNode}
 use Rattle.edm_types.specs.Forest.{type_numbered}
-use Rattle.soundness.specs.Inheritance.{prop_numbered}
+use Rattle.round_trip.specs.soundness.Inheritance.{prop_numbered}
 use Rattle.base_chains.specs.Chains.{chain}
 use Rattle.name_places.specs.GivenNames.{first_place}
 use Rattle.csdl_lists.specs.declared.raw.RawModel.{RawModel}

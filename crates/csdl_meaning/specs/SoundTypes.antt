@@ -2,12 +2,12 @@
 use Rattle.std.specs.Prelude.{map, All, MatchOption, ⊤}
 use Rattle.layouts.specs.declared.fault.Fault.{Fault}
 use Rattle.round_trip.specs.Words.{EntityModel, EntityType, TypeId, At}
-use Rattle.soundness.specs.Inheritance.{HasNoCircle}
-use Rattle.soundness.specs.Kinds.{IsSoundKind}
+use Rattle.round_trip.specs.soundness.Inheritance.{HasNoCircle}
+use Rattle.round_trip.specs.soundness.Kinds.{IsSoundKind}
 use Rattle.emc_base.specs.Lists.{AreApart}
-use Rattle.soundness.specs.ModelIds.{IsPropId, IsTypeId}
-use Rattle.soundness.specs.ModelNames.{HasDistinctMembers}
-use Rattle.soundness.specs.Models.{IsSoundType}
+use Rattle.round_trip.specs.soundness.ModelIds.{IsPropId, IsTypeId}
+use Rattle.round_trip.specs.soundness.ModelNames.{HasDistinctMembers}
+use Rattle.round_trip.specs.soundness.Models.{IsSoundType}
 use Rattle.csdl_lists.specs.declared.raw.RawModel.{RawModel}
 use Rattle.csdl_names.specs.Repeated.{IsRepeated}
 use Rattle.csdl_names.specs.Unresolved.{IsUnresolved}

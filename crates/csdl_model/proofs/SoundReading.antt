@@ -4,7 +4,7 @@ use Rattle.serde_json.specs.Data.{Data}
 use Rattle.least_fault.specs.Least.{IsLeast}
 use Rattle.layouts.specs.Faults.{fault_cmp}
 use Rattle.round_trip.specs.Words.{EntityModel}
-use Rattle.soundness.specs.Models.{IsSoundModel}
+use Rattle.round_trip.specs.soundness.Models.{IsSoundModel}
 use Rattle.csdl_lists.specs.declared.raw.RawModel.{RawModel}
 use Rattle.csdl_lists.specs.Raw.{raw_model}
 use Rattle.csdl_meaning.specs.ModelMeaning.{meaning}

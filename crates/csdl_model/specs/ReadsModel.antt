@@ -6,7 +6,7 @@ use Rattle.told_rules.specs.Reads.{Answers}
 use Rattle.edm_types.specs.declared.faults.VocabFault.{VocabFault}
 use Rattle.edm_types.specs.declared.faults.VocabFile.TheVariants.{Csdl}
 use Rattle.round_trip.specs.Words.{EntityModel}
-use Rattle.soundness.specs.Models.{IsSoundModel}
+use Rattle.round_trip.specs.soundness.Models.{IsSoundModel}
 use Rattle.csdl_lists.specs.Raw.{raw_model}
 use Rattle.csdl_meaning.specs.ModelMeaning.{meaning}
 use Rattle.csdl_model.specs.ModelFaults.{IsModelFault}

@@ -10,7 +10,7 @@ use Rattle.base_chains.specs.Chains.{IsAncestor}
 use Rattle.base_chains.proofs.Orders.{place_of_member}
 use Rattle.edm_types.specs.Forest.{type_numbered}
 use Rattle.round_trip.specs.Words.{PropId, key_props}
-use Rattle.soundness.specs.Inheritance.{IsRootKey, prop_numbered}
+use Rattle.round_trip.specs.soundness.Inheritance.{IsRootKey, prop_numbered}
 use Rattle.name_places.specs.GivenNames.{first_place}
 use Rattle.name_places.proofs.FirstPlaces.{first_upto}
 use Rattle.csdl_lists.specs.declared.raw.RawModel.{RawModel}

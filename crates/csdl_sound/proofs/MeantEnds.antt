@@ -8,9 +8,9 @@ use Rattle.emc_base.proofs.Lists.{item_at}
 use Rattle.emc_base.proofs.Mapped.{contains_at, contains_map}
 use Rattle.edm_types.specs.Forest.{type_numbered}
 use Rattle.round_trip.specs.Words.{Assoc, IsA, SetId, TypeId}
-use Rattle.soundness.specs.Constraints.{IsSoundEnd}
-use Rattle.soundness.specs.Lookups.{HasConcrete, IsElement, IsUnderElement}
-use Rattle.soundness.specs.ModelIds.{IsSetId, IsTypeId}
+use Rattle.round_trip.specs.soundness.Constraints.{IsSoundEnd}
+use Rattle.round_trip.specs.soundness.Lookups.{HasConcrete, IsElement, IsUnderElement}
+use Rattle.round_trip.specs.soundness.ModelIds.{IsSetId, IsTypeId}
 use Rattle.name_places.specs.GivenNames.{first_place}
 use Rattle.name_places.proofs.FirstPlaces.{first_has}
 use Rattle.base_chains.specs.Chains.{IsUpFrom}

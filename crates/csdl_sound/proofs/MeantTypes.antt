@@ -7,7 +7,7 @@ use Rattle.emc_base.proofs.Lists.{at_once, item_at}
 use Rattle.edm_types.specs.IsA.{same, base, chain}
 use Rattle.edm_types.specs.Forest.{type_numbered}
 use Rattle.round_trip.specs.Words.{HasBase, IsA, IsConcrete}
-use Rattle.soundness.specs.Lookups.{HasConcrete}
+use Rattle.round_trip.specs.soundness.Lookups.{HasConcrete}
 use Rattle.base_chains.specs.Chains.{IsAncestor, IsUpFrom, direct, further}
 use Rattle.csdl_lists.specs.declared.raw.RawModel.{RawModel}
 use Rattle.csdl_lists.specs.declared.raw.RawType.{RawType}

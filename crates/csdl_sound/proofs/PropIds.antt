@@ -6,7 +6,7 @@ use Rattle.std.proofs.lemmas.Option.{none-some, slice_get-get_or}
 use Rattle.emc_base.specs.Lists.{At}
 use Rattle.emc_base.proofs.Lists.{at_once, item_at}
 use Rattle.round_trip.specs.Words.{Prop, PropId}
-use Rattle.soundness.specs.Inheritance.{prop_numbered}
+use Rattle.round_trip.specs.soundness.Inheritance.{prop_numbered}
 use Rattle.base_chains.specs.Chains.{IsAncestor, IsUpFrom, direct, further}
 use Rattle.base_chains.proofs.Chains.{Ends, ends}
 use Rattle.name_places.specs.GivenNames.{first_place}

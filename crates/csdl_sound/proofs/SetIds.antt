@@ -9,8 +9,8 @@ use Rattle.base_chains.proofs.Members.{in_map}
 use Rattle.base_chains.proofs.Orders.{place_of_member}
 use Rattle.edm_types.specs.Forest.{type_numbered}
 use Rattle.round_trip.specs.Words.{Assoc, Constraint, End, EntitySet, PropId, SetId, TypeId}
-use Rattle.soundness.specs.Lookups.{HasConcrete}
-use Rattle.soundness.specs.ModelIds.{HasEndIds, IsPropId, IsSetId, IsTypeId}
+use Rattle.round_trip.specs.soundness.Lookups.{HasConcrete}
+use Rattle.round_trip.specs.soundness.ModelIds.{HasEndIds, IsPropId, IsSetId, IsTypeId}
 use Rattle.csdl_lists.specs.declared.raw.RawEnd.{RawEnd}
 use Rattle.csdl_lists.specs.declared.raw.RawModel.{RawModel}
 use Rattle.csdl_lists.specs.declared.raw.RawSet.{RawSet}

@@ -8,7 +8,7 @@ use Rattle.emc_base.proofs.Mapped.{contains_at, contains_map}
 use Rattle.base_chains.proofs.Members.{in_map}
 use Rattle.base_chains.proofs.Orders.{place_of_member}
 use Rattle.round_trip.specs.Words.{Assoc, EntitySet, EntityType}
-use Rattle.soundness.specs.ModelNames.{HasDistinctNames, IsOneAssociation}
+use Rattle.round_trip.specs.soundness.ModelNames.{HasDistinctNames, IsOneAssociation}
 use Rattle.csdl_lists.specs.declared.raw.RawAssociation.{RawAssociation}
 use Rattle.csdl_lists.specs.declared.raw.RawAssociationSet.{RawAssociationSet}
 use Rattle.csdl_lists.specs.declared.raw.RawEnd.{RawEnd}

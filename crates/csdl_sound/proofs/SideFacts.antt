@@ -6,8 +6,8 @@ use Rattle.std.proofs.lemmas.Option.{same_Some}
 use Rattle.std.proofs.lemmas.Simd.{map-map}
 use Rattle.edm_types.specs.Forest.{type_numbered}
 use Rattle.round_trip.specs.Words.{End, PropId, SetId, TypeId}
-use Rattle.soundness.specs.Kinds.{without_bound}
-use Rattle.soundness.specs.Lookups.{IsElement, prop_kind}
+use Rattle.round_trip.specs.soundness.Kinds.{without_bound}
+use Rattle.round_trip.specs.soundness.Lookups.{IsElement, prop_kind}
 use Rattle.csdl_lists.specs.declared.raw.RawAssociation.{RawAssociation}
 use Rattle.csdl_lists.specs.declared.raw.RawAssociationSet.{RawAssociationSet}
 use Rattle.csdl_lists.specs.declared.raw.RawEnd.{RawEnd}

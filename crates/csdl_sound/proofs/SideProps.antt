@@ -10,10 +10,10 @@ use Rattle.base_chains.specs.Chains.{IsAncestor}
 use Rattle.base_chains.proofs.Chains.{ancestor_in, ends, itself_in}
 use Rattle.edm_types.specs.Forest.{type_numbered}
 use Rattle.round_trip.specs.Words.{Prop, PropId, props_of}
-use Rattle.soundness.specs.Inheritance.{prop_numbered}
-use Rattle.soundness.specs.Kinds.{without_bound}
-use Rattle.soundness.specs.Lookups.{IsNeeded, prop_kind}
-use Rattle.soundness.specs.ModelIds.{IsPropId}
+use Rattle.round_trip.specs.soundness.Inheritance.{prop_numbered}
+use Rattle.round_trip.specs.soundness.Kinds.{without_bound}
+use Rattle.round_trip.specs.soundness.Lookups.{IsNeeded, prop_kind}
+use Rattle.round_trip.specs.soundness.ModelIds.{IsPropId}
 use Rattle.csdl_lists.specs.declared.raw.RawModel.{RawModel}
 use Rattle.csdl_lists.specs.declared.raw.RawProp.{RawProp}
 use Rattle.csdl_lists.specs.References.{names_in}

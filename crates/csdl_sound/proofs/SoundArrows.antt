@@ -4,8 +4,8 @@ use Rattle.std.specs.Option.{MatchOption}
 use Rattle.emc_base.specs.Lists.{At}
 use Rattle.emc_base.proofs.Mapped.{contains_at}
 use Rattle.round_trip.specs.Words.{End, PropId, SetId}
-use Rattle.soundness.specs.Constraints.{HasArrow, HasNoCircleOfArrows, Leads, arrow, further}
-use Rattle.soundness.specs.Lookups.{IsNeeded}
+use Rattle.round_trip.specs.soundness.Constraints.{HasArrow, HasNoCircleOfArrows, Leads, arrow, further}
+use Rattle.round_trip.specs.soundness.Lookups.{IsNeeded}
 use Rattle.arrow_cycles.specs.Arrows.{Leads as RawLeads, arrow as raw_arrow, further as raw_further}
 use Rattle.csdl_lists.specs.declared.raw.RawAssociation.{RawAssociation}
 use Rattle.csdl_lists.specs.declared.raw.RawAssociationSet.{RawAssociationSet}

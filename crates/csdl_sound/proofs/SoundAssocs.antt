@@ -3,7 +3,7 @@ use Rattle.std.proofs.Common.{◌≡◌, List, All, Option, Some, None, option_m
 use Rattle.std.specs.Option.{MatchOption}
 use Rattle.emc_base.proofs.Lists.{all_from_members}
 use Rattle.round_trip.specs.Words.{Assoc, Constraint, End}
-use Rattle.soundness.specs.Constraints.{HasIndependentMults, IsSoundAssoc, IsSoundConstraint, IsSoundEnd}
+use Rattle.round_trip.specs.soundness.Constraints.{HasIndependentMults, IsSoundAssoc, IsSoundConstraint, IsSoundEnd}
 use Rattle.csdl_lists.specs.declared.raw.RawEnd.{RawEnd}
 use Rattle.csdl_lists.specs.declared.raw.RawModel.{RawModel}
 use Rattle.csdl_constraints.specs.Multiplicities.{BreaksFreeMults}

@@ -6,8 +6,8 @@ use Rattle.emc_base.proofs.Mapped.{contains_at}
 use Rattle.base_chains.proofs.Orders.{place_of_member}
 use Rattle.edm_types.specs.Forest.{type_numbered}
 use Rattle.round_trip.specs.Words.{Assoc, Constraint, End, PropId, TypeId, dependent_end, key_props, principal_end, props_of}
-use Rattle.soundness.specs.Constraints.{DependsByKey, HasConstraintMults, HasMatchedLists, IsSoundConstraint}
-use Rattle.soundness.specs.Lookups.{IsNeeded}
+use Rattle.round_trip.specs.soundness.Constraints.{DependsByKey, HasConstraintMults, HasMatchedLists, IsSoundConstraint}
+use Rattle.round_trip.specs.soundness.Lookups.{IsNeeded}
 use Rattle.csdl_lists.specs.declared.raw.RawModel.{RawModel}
 use Rattle.csdl_lists.specs.declared.raw.RawRole.{RawRole}
 use Rattle.csdl_lists.specs.References.{names_in}

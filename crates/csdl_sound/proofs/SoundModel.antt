@@ -1,5 +1,5 @@
 -- What a document means is a sound model where it breaks no rule.
-use Rattle.soundness.specs.Models.{IsSoundModel}
+use Rattle.round_trip.specs.soundness.Models.{IsSoundModel}
 use Rattle.csdl_lists.specs.declared.raw.RawModel.{RawModel}
 use Rattle.csdl_meaning.specs.ModelMeaning.{meaning}
 use Rattle.csdl_meaning.proofs.Sound.{sound}

@@ -3,7 +3,7 @@
 
 ghost use Rattle.std.specs.Prelude.{◌≡◌};
 ghost use Rattle.csdl_lists.specs.declared.raw.RawModel.{RawModel};
-ghost use Rattle.soundness.specs.Models.{IsSoundModel};
+ghost use Rattle.round_trip.specs.soundness.Models.{IsSoundModel};
 ghost use Rattle.csdl_meaning.specs.ModelMeaning.{meaning};
 ghost use Rattle.csdl_sound.specs.Classes.{class_assocs, class_forest, class_sets, classes};
 ghost use Rattle.csdl_sound.specs.SoundMeaning.{KeepsRules};

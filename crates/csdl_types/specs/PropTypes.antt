@@ -8,7 +8,7 @@ use Rattle.json_form.specs.declared.pointer.Step.TheVariants.{Member}
 use Rattle.layouts.specs.declared.fault.Fault.{Fault}
 use Rattle.layouts.specs.declared.rule.Rule.TheVariants.{PropertyType, Bound}
 use Rattle.rule_places.specs.Places.{IsAt, InList}
-use Rattle.soundness.specs.Kinds.{largest_bound, under_kind}
+use Rattle.round_trip.specs.soundness.Kinds.{largest_bound, under_kind}
 use Rattle.csdl_lists.specs.declared.raw.RawBound.{RawBound}
 use Rattle.csdl_lists.specs.declared.raw.RawBound.TheVariants.{Absent, Max, Number}
 use Rattle.csdl_lists.specs.declared.raw.RawEnum.{RawEnum}

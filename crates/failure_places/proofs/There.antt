@@ -9,8 +9,8 @@ use Rattle.state_demand.proofs.Lists.{none_in_nil}
 use Rattle.sound_demand.proofs.Fitting.{sound_fragment}
 use Rattle.regions.specs.Basis.{Basis}
 use Rattle.region_laws.specs.IsBasis.{IsBasis}
-use Rattle.focus_laws.specs.Held.{IsRowOfOne}
-use Rattle.focus_laws.proofs.Demanded.{row_of_one}
+use Rattle.region_states.specs.focus.Held.{IsRowOfOne}
+use Rattle.region_states.proofs.focus.Demanded.{row_of_one}
 use Rattle.conflicts.specs.There.{FailsByThere, FailsThere, IsRowOf, NoneFailsBy}
 use Rattle.region_states.specs.LoneStates.{HasNoAssociationSets}
 use Rattle.region_states.proofs.Legal.{no_assoc, no_host}

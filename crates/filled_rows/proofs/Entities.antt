@@ -8,7 +8,7 @@ use Rattle.emc_base.proofs.Numbered.{map_contains}
 use Rattle.round_trip.specs.Words.{SetId, TableId, At, ColId, DemandsRow, Entity, Hosted, IsLegal, Pair, State, Table, Value, cell_of, row_key, value_of}
 use Rattle.round_trip.specs.TablesAre.{HasNoClash}
 use Rattle.table_files.specs.declared.tables.TableRow.{TableRow}
-use Rattle.soundness.specs.Stores.{IsKeyColumn, IsSoundTable}
+use Rattle.round_trip.specs.soundness.Stores.{IsKeyColumn, IsSoundTable}
 use Rattle.state_demand.specs.Owners.{IsOwned, StandsAt, paired_key}
 use Rattle.state_demand.specs.WellWritten.{cols_of}
 use Rattle.state_demand.proofs.Fitting.{key_is}
@@ -23,12 +23,12 @@ use Rattle.regions.specs.Basis.{Basis}
 use Rattle.regions.specs.Patterns.{Valuation, by_entity, cell_symbols, pattern_of, writings_of}
 use Rattle.region_laws.specs.IsBasis.{IsBasis}
 use Rattle.region_laws.specs.Partners.{HasFewPartners}
-use Rattle.pattern_laws.specs.Allowed.{partner_parts}
-use Rattle.pattern_laws.specs.Described.{row_for, value_in}
-use Rattle.pattern_laws.proofs.Keys.{key_cell}
-use Rattle.focus_laws.specs.Held.{IsAtRow, IsHeldAt}
-use Rattle.focus_laws.proofs.Demanded.{cells, rows}
-use Rattle.focus_laws.proofs.Listed.{row_owned}
+use Rattle.region_laws.specs.pattern.Allowed.{partner_parts}
+use Rattle.region_laws.specs.pattern.Described.{row_for, value_in}
+use Rattle.region_laws.proofs.pattern.Keys.{key_cell}
+use Rattle.region_states.specs.focus.Held.{IsAtRow, IsHeldAt}
+use Rattle.region_states.proofs.focus.Demanded.{cells, rows}
+use Rattle.region_states.proofs.focus.Listed.{row_owned}
 use Rattle.filled_rows.specs.Demanded.{AreAllDemanded, IsDemandedRow, IsHeldWith}
 use Rattle.filled_rows.specs.Filled.{entity_rows, table_row}
 use Rattle.filled_rows.proofs.Filled.{IsFilled, cell_is, cell_there, filled, has_cell}

@@ -19,9 +19,9 @@ use Rattle.regions.specs.Basis.{Basis}
 use Rattle.regions.specs.Patterns.{Valuation, cell_symbols, pattern_of, pattern_row, value_under, writings_of}
 use Rattle.region_laws.specs.IsBasis.{IsBasis}
 use Rattle.region_laws.proofs.Rows.{row_cells, rows_only, rows_order}
-use Rattle.pattern_laws.specs.Described.{row_for, value_in}
-use Rattle.pattern_laws.specs.Listed.{HasCell}
-use Rattle.focus_laws.specs.Held.{ListsValue}
+use Rattle.region_laws.specs.pattern.Described.{row_for, value_in}
+use Rattle.region_laws.specs.pattern.Listed.{HasCell}
+use Rattle.region_states.specs.focus.Held.{ListsValue}
 
 -- a row of a table that the state demands, with a cell for each column, and the values that are demanded there
 pub record IsFilled (basis : Basis) (state : State) (t : TableId) (table : Table) (row : Row) : Type 0 where

@@ -19,11 +19,11 @@ use Rattle.regions.specs.declared.pattern.PatternRow.{PatternRow}
 use Rattle.regions.specs.Basis.{Basis}
 use Rattle.regions.specs.Patterns.{Valuation, by_link, pattern_of}
 use Rattle.region_laws.specs.IsBasis.{IsBasis}
-use Rattle.pattern_laws.specs.Described.{row_for}
-use Rattle.pattern_laws.proofs.Hosting.{one_link}
-use Rattle.focus_laws.specs.Held.{IsAtLinkRow}
-use Rattle.focus_laws.proofs.Demanded.{link_cells, link_rows as link_row_there}
-use Rattle.focus_laws.proofs.Listed.{row_joined}
+use Rattle.region_laws.specs.pattern.Described.{row_for}
+use Rattle.region_laws.proofs.pattern.Hosting.{one_link}
+use Rattle.region_states.specs.focus.Held.{IsAtLinkRow}
+use Rattle.region_states.proofs.focus.Demanded.{link_cells, link_rows as link_row_there}
+use Rattle.region_states.proofs.focus.Listed.{row_joined}
 use Rattle.filled_rows.specs.Demanded.{IsDemandedLinkRow}
 use Rattle.filled_rows.specs.Filled.{link_rows, table_row}
 use Rattle.filled_rows.proofs.Filled.{IsFilled, filled, key_held}

@@ -19,7 +19,7 @@ use Rattle.regions.specs.Patterns.{Valuation, by_entity, pattern_of, writings_of
 use Rattle.region_laws.proofs.Apart.{numbers_rise}
 use Rattle.region_laws.proofs.Choices.{pairs_nil}
 use Rattle.region_laws.proofs.Rows.{rows_order}
-use Rattle.pattern_laws.specs.Allowed.{partner_parts}
+use Rattle.region_laws.specs.pattern.Allowed.{partner_parts}
 use Rattle.filled_rows.specs.Filled.{table_row}
 use Rattle.filled_rows.proofs.Entities.{IsEntityRow}
 use Rattle.filled_rows.proofs.Links.{IsLinkRow}

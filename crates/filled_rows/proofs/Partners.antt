@@ -14,11 +14,11 @@ use Rattle.regions.specs.Basis.{Basis, Host, IsHostedLink, host_key, partner_end
 use Rattle.region_laws.specs.IsBasis.{IsBasis}
 use Rattle.region_laws.specs.Partners.{HasFewPartners, TellsPartner}
 use Rattle.region_laws.specs.RegionAt.{links_at}
-use Rattle.pattern_laws.specs.Allowed.{end_at, partner_parts}
-use Rattle.pattern_laws.proofs.Choices.{found_passes, none_passes}
-use Rattle.pattern_laws.proofs.Hosting.{one_host}
-use Rattle.focus_laws.specs.Held.{IsHeldAt, IsOfRegion}
-use Rattle.focus_laws.proofs.Flags.{flagged_one, unflagged}
+use Rattle.region_laws.specs.pattern.Allowed.{end_at, partner_parts}
+use Rattle.region_laws.proofs.pattern.Choices.{found_passes, none_passes}
+use Rattle.region_laws.proofs.pattern.Hosting.{one_host}
+use Rattle.region_states.specs.focus.Held.{IsHeldAt, IsOfRegion}
+use Rattle.region_states.proofs.focus.Flags.{flagged_one, unflagged}
 use Rattle.filled_rows.specs.Demanded.{IsHeldWith}
 
 -- the end that doesn't host is the partner's

@@ -18,8 +18,8 @@ use Rattle.region_laws.specs.IsBasis.{AreHostedLinks, IsBasis}
 use Rattle.region_laws.specs.Partners.{HasFewPartners}
 use Rattle.region_laws.specs.RegionAt.{region_at}
 use Rattle.region_laws.proofs.Regions.{region_among, region_holds}
-use Rattle.focus_laws.specs.Held.{IsAtLinkRow, IsAtRow}
-use Rattle.focus_laws.proofs.Demanded.{row_of_one}
+use Rattle.region_states.specs.focus.Held.{IsAtLinkRow, IsAtRow}
+use Rattle.region_states.proofs.focus.Demanded.{row_of_one}
 use Rattle.filled_rows.specs.Demanded.{IsHeldWith}
 use Rattle.filled_rows.specs.Filled.{FillsRows, entity_rows, link_rows}
 use Rattle.filled_rows.specs.Gathered.{rows_of, rows_of_links, rows_of_set}

@@ -10,8 +10,8 @@ use Rattle.regions.specs.declared.pattern.PatternRow.{PatternRow}
 use Rattle.regions.specs.Basis.{Basis}
 use Rattle.regions.specs.Patterns.{Valuation, by_entity, by_link, pattern_of}
 use Rattle.regions.specs.Regions.{Holds, regions_of}
-use Rattle.pattern_laws.specs.Allowed.{partner_parts}
-use Rattle.pattern_laws.specs.Described.{row_for}
+use Rattle.region_laws.specs.pattern.Allowed.{partner_parts}
+use Rattle.region_laws.specs.pattern.Described.{row_for}
 
 -- a row of the pattern with these values: each cell holds the value of the first symbol that is listed there, and null where none is
 abbrev pub table_row : Valuation → PatternRow → TableRow

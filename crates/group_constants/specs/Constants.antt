@@ -5,7 +5,7 @@ use Rattle.std.specs.List.Sorted.{IsStrictlySortedBy}
 use Rattle.round_trip.specs.Words.{GroupId, Value, Whole, Kind, EntityModel, Prop, At}
 use Rattle.emc_base.specs.Order.{value_cmp}
 use Rattle.emc_base.specs.declared.value.Kind.TheVariants as kind
-use Rattle.soundness.specs.Joined.{prop}
+use Rattle.round_trip.specs.soundness.Joined.{prop}
 use Rattle.mapping_asks.specs.declared.asks.Ask.{Ask}
 use Rattle.group_numbers.specs.declared.numbered.Numbered.{Numbered}
 use Rattle.mapping_asks.specs.Adding.{Adds, Each, EachBelow, HasKey}

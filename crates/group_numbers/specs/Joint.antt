@@ -1,7 +1,7 @@
 -- The numbers of groups of what is no part of a key.
 use Rattle.std.specs.Prelude.{◌≡◌, ℕ, Option, Some, option_and_then}
 use Rattle.round_trip.specs.Words.{GroupId}
-use Rattle.soundness.specs.Joined.{Member}
+use Rattle.round_trip.specs.soundness.Joined.{Member}
 use Rattle.joined_groups.specs.Groups.{group_of}
 use Rattle.group_numbers.specs.declared.numbered.Numbered.{Numbered}
 use Rattle.group_numbers.specs.Numbers.{number_in}

@@ -2,7 +2,7 @@
 use Rattle.std.specs.Prelude.{◌≡◌, ℕ, List, length, slice_get, Option, option_and_then}
 use Rattle.std.specs.List.{IsDistinct}
 use Rattle.round_trip.specs.Words.{GroupId, EntityModel, StoreModel, Table, At}
-use Rattle.soundness.specs.Joined.{Member, prop, col}
+use Rattle.round_trip.specs.soundness.Joined.{Member, prop, col}
 use Rattle.joined_groups.specs.declared.groups.Groups.{Groups}
 use Rattle.joined_groups.specs.declared.labels.Label.{Label}
 use Rattle.joined_groups.specs.Labels.{label_eq, label_of}

@@ -4,8 +4,8 @@ use Rattle.std.specs.Prelude.{option_and_then}
 use Rattle.std.proofs.lemmas.Option.{same_Some}
 use Rattle.round_trip.specs.Words.{Fragment, Pair, Schema}
 use Rattle.emc_base.proofs.Lists.{item_at}
-use Rattle.soundness.specs.Joined.{IsNoKey, Joined, Member, col, prop}
-use Rattle.soundness.specs.Joined as joined
+use Rattle.round_trip.specs.soundness.Joined.{IsNoKey, Joined, Member, col, prop}
+use Rattle.round_trip.specs.soundness.Joined as joined
 use Rattle.linked_places.specs.declared.classes.Classes.{Classes}
 use Rattle.linked_places.specs.declared.classes.Link.{Link}
 use Rattle.linked_places.specs.Links.{IsClasses, IsLink, Linked}

@@ -9,7 +9,7 @@ use Rattle.std.proofs.lemmas.Bool.Decides.{Decides-and, Decides-eqb}
 use Rattle.std.proofs.lemmas.Cmp.{nat_cmp_total, tied_itself}
 use Rattle.std.proofs.lemmas.Map.Lookups.{exact_pairs, exact_unsigned}
 use Rattle.round_trip.specs.Words.{Schema}
-use Rattle.soundness.specs.Joined.{Joined, Member, col, prop}
+use Rattle.round_trip.specs.soundness.Joined.{Joined, Member, col, prop}
 use Rattle.joined_groups.specs.declared.groups.Groups.{Groups}
 use Rattle.joined_groups.specs.Groups.{AreGroups, group_of}
 use Rattle.joined_groups.proofs.Grouping.{joined_free}

@@ -5,8 +5,8 @@ use Rattle.std.specs.Prelude.{unwrap_or}
 use Rattle.std.proofs.lemmas.Option.{slice_get_cases, slice_get_within}
 use Rattle.round_trip.specs.Words.{ColId, Column, EntityModel, Mapping, Prop, PropId, Schema, StoreModel, Table, TableId, At, key_columns, key_props}
 use Rattle.emc_base.proofs.Lists.{at_once, item_at}
-use Rattle.soundness.specs.Lookups.{columns_of}
-use Rattle.soundness.specs.Joined.{IsNoKey, Member, col, prop}
+use Rattle.round_trip.specs.soundness.Lookups.{columns_of}
+use Rattle.round_trip.specs.soundness.Joined.{IsNoKey, Member, col, prop}
 use Rattle.joined_groups.specs.declared.places.Places.{Places}
 use Rattle.joined_groups.specs.Places.{ArePlaces, ArePlacesUpTo, IsColumnOfKey, IsPropOfKey, held_at, place_in, place_of, start_of}
 use Rattle.joined_groups.proofs.Placing.{held_only, held_some}

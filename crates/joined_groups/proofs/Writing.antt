@@ -4,7 +4,7 @@ use Rattle.std.specs.Prelude.{option_and_then, option_map}
 use Rattle.std.proofs.lemmas.List.Elements.{Contains-append_left, Contains-push, Contains-push_cases}
 use Rattle.std.proofs.lemmas.Option.{same_Some}
 use Rattle.round_trip.specs.Words.{Fragment, Pair, TableId}
-use Rattle.soundness.specs.Joined.{col, prop}
+use Rattle.round_trip.specs.soundness.Joined.{col, prop}
 use Rattle.linked_places.specs.declared.classes.Link.{Link}
 use Rattle.joined_groups.specs.declared.places.Places.{Places}
 use Rattle.joined_groups.specs.Places.{place_of}

@@ -2,7 +2,7 @@
 use Rattle.std.specs.Prelude.{Bool}
 use Rattle.std.specs.Option.{option_map_or}
 use Rattle.std.specs.declared.cmp.Ordering.{Ordering}
-use Rattle.soundness.specs.Joined.{Member, prop, col}
+use Rattle.round_trip.specs.soundness.Joined.{Member, prop, col}
 use Rattle.joined_groups.specs.declared.groups.Groups.{Groups}
 use Rattle.joined_groups.specs.Groups.{group_of}
 use Rattle.joined_groups.specs.contracts.labels.LabelOrd.TheImpl as label_ord

@@ -1,7 +1,7 @@
 -- The links between places that entity fragments give: from the property of each pair to its column.
 use Rattle.std.specs.Prelude.{◌≡◌, ◌⊎◌, ◌↔◌, List, Contains, Option, Some, option_and_then, option_map}
 use Rattle.round_trip.specs.Words.{TableId, Fragment, Pair}
-use Rattle.soundness.specs.Joined.{prop, col}
+use Rattle.round_trip.specs.soundness.Joined.{prop, col}
 use Rattle.linked_places.specs.declared.classes.Link.{Link}
 use Rattle.joined_groups.specs.declared.places.Places.{Places}
 use Rattle.joined_groups.specs.Places.{place_of}

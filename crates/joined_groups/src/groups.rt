@@ -1,5 +1,5 @@
 ghost use Rattle.std.specs.Prelude.{◌≡◌, IfOk};
-ghost use Rattle.soundness.specs.Joined.{prop, col};
+ghost use Rattle.round_trip.specs.soundness.Joined.{prop, col};
 ghost use Rattle.joined_groups.specs.Groups.{TellsGroups, group_of};
 
 use crate::links::links_of;

@@ -1,5 +1,5 @@
 ghost use Rattle.std.specs.Prelude.{◌≡◌};
-ghost use Rattle.soundness.specs.Joined.{prop, col};
+ghost use Rattle.round_trip.specs.soundness.Joined.{prop, col};
 ghost use Rattle.joined_groups.specs.Labels.{label_of};
 
 use crate::groups::Groups;

@@ -1,6 +1,6 @@
 ghost use Rattle.std.specs.Prelude.{◌≡◌, ◌+◌, ◌<◌, ◌^◌, ◌↔◌, length, Contains, IfOk, IsTrue};
 ghost use Rattle.round_trip.specs.Words.{key_props};
-ghost use Rattle.soundness.specs.Joined.{prop, col};
+ghost use Rattle.round_trip.specs.soundness.Joined.{prop, col};
 ghost use Rattle.joined_groups.specs.Places.{ArePlacesOf, HavePlaces, IsAdded, IsColumnOfKey, IsPropOfKey, place_of};
 
 use edm_types::{EntityModel, StoreModel, Table};

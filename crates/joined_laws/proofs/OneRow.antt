@@ -14,8 +14,8 @@ use Rattle.regions.specs.Symbols.{SymbolWriting, link_fragment_writing, link_fra
 use Rattle.region_laws.specs.IsBasis.{IsBasis}
 use Rattle.region_laws.proofs.Cells.{Decides-written}
 use Rattle.region_laws.proofs.Rows.{rows_order}
-use Rattle.focus_laws.specs.Held.{HasRow}
-use Rattle.focus_laws.proofs.Listed.{has_row, row_joined}
+use Rattle.region_states.specs.focus.Held.{HasRow}
+use Rattle.region_states.proofs.focus.Listed.{has_row, row_joined}
 
 -- rows of one table whose tables rise are one row
 one_of : (t : TableId) (rows : List PatternRow) → AllPairs (λ one next. one.table.index < next.table.index) rows

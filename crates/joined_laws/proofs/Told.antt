@@ -6,8 +6,8 @@ use Rattle.emc_base.proofs.Lists.{item_at}
 use Rattle.emc_base.proofs.Mapped.{contains_at}
 use Rattle.round_trip.specs.Words.{Assoc, AssocId, At, LinkFragId, LinkFragment, Pair, Schema, SetId, TableId}
 use Rattle.round_trip.specs.FailsAt.{IsHostedAt}
-use Rattle.soundness.specs.Mappings.{IsSoundSchema}
-use Rattle.soundness.specs.Owners.{LinkMaps, Owns}
+use Rattle.round_trip.specs.soundness.Mappings.{IsSoundSchema}
+use Rattle.round_trip.specs.soundness.Owners.{LinkMaps, Owns}
 use Rattle.state_demand.specs.Owners.{IsJoinedTo}
 use Rattle.state_demand.proofs.Lists.{same_by_key}
 use Rattle.state_demand.proofs.Owners.{pairs_from_map}

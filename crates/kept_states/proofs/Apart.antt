@@ -6,7 +6,7 @@ use Rattle.std.proofs.lemmas.List.Sorted.{IsPermutation-refl, IsPermutation-sym,
 use Rattle.emc_base.proofs.Lists.{item_at}
 use Rattle.round_trip.specs.Words.{AreSameTables, Assoc, AssocId, At, Entity, EntitySet, IsIndependent, IsLegal, IsLink, IsSameState, Keeps, RoundTrips, Schema, SetId, State, Tables, TablesAre, entities_in, key_of, links_in, place_at, rows_in}
 use Rattle.round_trip.specs.declared.FailKind.TheVariants as kind
-use Rattle.soundness.specs.Mappings.{IsSoundSchema}
+use Rattle.round_trip.specs.soundness.Mappings.{IsSoundSchema}
 use Rattle.sound_demand.proofs.Kept.{all_stored}
 use Rattle.state_demand.proofs.Permutations.{same_members_permute}
 use Rattle.kept_states.proofs.Entities.{apart_by_key, none_stands, past_none, stands_or_not}

@@ -3,7 +3,7 @@ use Rattle.std.proofs.Common.{◌≡◌, List, [], ◌∷◌, map, filter, flat_
 use Rattle.std.specs.Option.{option_map_or}
 use Rattle.std.proofs.lemmas.Option.{slice_get_within}
 use Rattle.round_trip.specs.Words.{EntitySet, Kind, Prop, PropId, Schema, SetId, TypeId, Value, props_of}
-use Rattle.soundness.specs.Joined.{prop}
+use Rattle.round_trip.specs.soundness.Joined.{prop}
 use Rattle.condition_logic.specs.declared.atoms.AtomOf.{AtomOf}
 use Rattle.state_demand.proofs.Lists.{head_stands, tail_stands}
 use Rattle.regions.specs.Atoms.{atoms_of}

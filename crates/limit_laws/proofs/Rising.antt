@@ -10,7 +10,7 @@ use Rattle.emc_base.specs.Order.{value_cmp}
 use Rattle.emc_base.specs.OrderLaws.{value_cmp_total}
 use Rattle.round_trip.specs.Words.{Value}
 use Rattle.state_demand.proofs.Lists.{head_stands, member_cases, none_in_nil, tail_stands}
-use Rattle.group_constants.specs.Constants.{ListsJust}
+use Rattle.member_groups.specs.MemberGroups.{ListsJust}
 use Rattle.region_laws.proofs.Choices.{pairs_head, pairs_nil, pairs_tail}
 
 module _ {X : Type 0} (R : X → X → Type 0) (never : (x y : X) → R x y → R y x → ⊥) where

@@ -4,8 +4,8 @@ use Rattle.emc_base.specs.Lists.{At}
 use Rattle.emc_base.proofs.Lists.{item_at}
 use Rattle.round_trip.specs.Words.{AssocId, EntityModel, EntitySet, Assoc, Constraint, dependent_end}
 use Rattle.breach_order.proofs.Turns.{all_here}
-use Rattle.soundness.specs.ModelIds.{HasEndIds, IsTypeId}
-use Rattle.soundness.specs.Models.{IsSoundModel}
+use Rattle.round_trip.specs.soundness.ModelIds.{HasEndIds, IsTypeId}
+use Rattle.round_trip.specs.soundness.Models.{IsSoundModel}
 use Rattle.link_legality.specs.declared.side.Side.{Side}
 use Rattle.link_legality.specs.declared.side.Side.TheVariants.{First, Second}
 use Rattle.link_legality.specs.Sides.{end_at}

@@ -3,7 +3,7 @@ use Rattle.std.proofs.Common.{◌≡◌, ◌≢◌, ⊎_elim, inl, inr, ℕ, Lis
 use Rattle.round_trip.specs.Words.{AssocId, EntityModel, Assoc, Constraint, End, Entity, Link, State, Value, Null, At, IsA, IsIndependent, place_at, HasEntityAt, HasCount, HasPrincipal, HavePrincipals, AreLegalLinks, entities_in, links_in, key_of, values_of, dependent_end, principal_end}
 use Rattle.breach_order.proofs.Apart.{apart_all}
 use Rattle.breach_order.specs.declared.found.Found.{Found}
-use Rattle.soundness.specs.Models.{IsSoundModel}
+use Rattle.round_trip.specs.soundness.Models.{IsSoundModel}
 use Rattle.sound_types.proofs.Deciding.{derived_or_not}
 use Rattle.link_legality.specs.Tells.{BreaksLinks, KeepsLinkRules}
 use Rattle.link_legality.proofs.Decided.{Decided, all_at, any_decided, both_decided, keys_decided, must_count}

@@ -2,8 +2,8 @@ ghost use Rattle.std.specs.Prelude.{◌≡◌, ◌++◌, IfOk};
 ghost use Rattle.least_fault.specs.Least.{Among, IsLeast};
 ghost use Rattle.breach_order.specs.Founds.{found_cmp};
 ghost use Rattle.round_trip.specs.Words.{key_of, place_at};
-ghost use Rattle.soundness.specs.ModelIds.{IsTypeId};
-ghost use Rattle.soundness.specs.Models.{IsSoundModel};
+ghost use Rattle.round_trip.specs.soundness.ModelIds.{IsTypeId};
+ghost use Rattle.round_trip.specs.soundness.Models.{IsSoundModel};
 ghost use Rattle.link_legality.specs.Sides.{end_at};
 ghost use Rattle.link_legality.specs.Ends.{HoldsJust, IsLoose, IsMarked, StandsAmong};
 

@@ -3,7 +3,7 @@ ghost use Rattle.least_fault.specs.Least.{IsLeast};
 ghost use Rattle.round_trip.specs.Words.{At, EntityModel, State};
 ghost use Rattle.breach_order.specs.Founds.{found_cmp};
 ghost use Rattle.breach_order.specs.declared.found.Found.{Found};
-ghost use Rattle.soundness.specs.Models.{IsSoundModel};
+ghost use Rattle.round_trip.specs.soundness.Models.{IsSoundModel};
 ghost use Rattle.link_legality.specs.Tells.{BreaksAssoc, BreaksAtSide, BreaksIndependent, BreaksLinks, KeepsLinkRules, state_of};
 
 use crate::counts::first_miscounted;

@@ -2,7 +2,7 @@ ghost use Rattle.std.specs.Prelude.{◌≡◌, ◌≢◌, ◌↔◌, ◌<◌, Li
 ghost use Rattle.emc_base.specs.Lists.{AtMostOne};
 ghost use Rattle.round_trip.specs.Words.{AreLegalLinks, HasCount, HavePrincipals, IsA, Link, Null, key_of, links_in, values_of};
 ghost use Rattle.breach_order.specs.Repeats.{IsRepeat};
-ghost use Rattle.soundness.specs.Models.{IsSoundModel};
+ghost use Rattle.round_trip.specs.soundness.Models.{IsSoundModel};
 ghost use Rattle.link_legality.specs.Sides.{end_at, key_at};
 ghost use Rattle.link_legality.specs.Ends.{StandsAmong};
 ghost use Rattle.link_legality.specs.Counts.{IsNext, KeepsCount};

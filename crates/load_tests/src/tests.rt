@@ -5,8 +5,8 @@ ghost use Rattle.link_places.specs.Between.{schema_of};
 ghost use Rattle.query_views.specs.Views.{AreQueryViewsOf};
 ghost use Rattle.region_basis.specs.BasisOf.{basis_of};
 ghost use Rattle.round_trip.specs.Words.{AreLegalTables};
-ghost use Rattle.soundness.specs.Lookups.{set_key};
-ghost use Rattle.soundness.specs.Mappings.{IsSoundSchema};
+ghost use Rattle.round_trip.specs.soundness.Lookups.{set_key};
+ghost use Rattle.round_trip.specs.soundness.Mappings.{IsSoundSchema};
 
 use cells::{Cells, Parts};
 use edm_types::EntityModel;
@@ -38,8 +38,8 @@ enum Asked {
 #[derive(Drop)]
 enum Told {
     Entity(Result<Found, EntityFault>),
-    /// How many people there are, and the name of the last.
-    All(usize, Option<Value>),
+    /// How many people there are, and of the last the number of its type, and its name.
+    All(usize, Option<(u32, Value)>),
     Cases(Vec<bool>),
     NoCase,
 }
@@ -137,14 +137,15 @@ fn cases_of(alloc: Global, views: &QueryViews) -> Result<Vec<bool>, Fail> {
     Ok(found)
 }
 
-// How many people are lent, and the name of the last.
+// How many people are lent, and of the last the number of its type, and its name.
 fn all_of(alloc: Global, loaded: &Loaded<'_>) -> Result<Told, Fail> {
     let count = loaded.len(PEOPLE);
     if count == 0 {
         return Ok(Told::All(count, None));
     }
+    let ty = loaded.type_of(PEOPLE, count - 1);
     let name = loaded.property(PEOPLE, count - 1, PropId { index: 1 });
-    Ok(Told::All(count, Some(name.copy(alloc)?)))
+    Ok(Told::All(count, Some((ty.index, name.copy(alloc)?))))
 }
 
 const STAFF: &str =
@@ -197,10 +198,11 @@ fn no_entity_is_found(rt: HostRuntime) -> Result<(), Fail> {
 #[test]
 fn all_entities_are_lent(rt: HostRuntime) -> Result<(), Fail> {
     let alloc = rt.alloc();
-    let Told::All(count, Some(name)) = answer(alloc, KIND, STAFF, Asked::All)? else {
+    let Told::All(count, Some((ty, name))) = answer(alloc, KIND, STAFF, Asked::All)? else {
         return Err(Fail::from("no entities"));
     };
     assert!(rt; count == 2);
+    assert!(rt; ty == 1);
     assert!(rt; name == Value::Text(Txt::of(alloc, "c")?));
     assert!(rt; matches!(answer(alloc, KIND, STRANGER, Asked::All)?, Told::NoCase));
     Ok(())

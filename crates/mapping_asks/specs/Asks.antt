@@ -3,7 +3,7 @@
 use Rattle.std.specs.Prelude.{◌≡◌, ◌⊎◌, Option, Some, None}
 use Rattle.round_trip.specs.Words.{TableId, Value, Mapping, Fragment, Pair, LinkFragment, Cond, Test}
 use Rattle.edm_types.specs.declared.mapping.Test.TheVariants as test
-use Rattle.soundness.specs.Joined.{Member, prop, col, member_of}
+use Rattle.round_trip.specs.soundness.Joined.{Member, prop, col, member_of}
 use Rattle.mapping_asks.specs.declared.asks.Ask.{Ask}
 use Rattle.mapping_asks.specs.declared.member.MemberId.{MemberId}
 use Rattle.mapping_asks.specs.declared.member.MemberId.TheVariants.{Prop, Column}

@@ -1,5 +1,5 @@
 ghost use Rattle.std.specs.Prelude.{◌≡◌};
-ghost use Rattle.soundness.specs.Joined.{member_of};
+ghost use Rattle.round_trip.specs.soundness.Joined.{member_of};
 ghost use Rattle.mapping_asks.specs.Asks.{id_of};
 
 use edm_types::CondOn;

@@ -4,3 +4,4 @@ pub mod MadeOf
 pub mod Stored
 pub mod Comparing
 pub mod Telling
+pub mod OwnTables

@@ -3,10 +3,10 @@ use Rattle.std.specs.Prelude.{◌≡◌, ℕ, List, Some, Result, Ok, Err, ⊤}
 use Rattle.edm_types.specs.declared.faults.VocabFault.{VocabFault}
 use Rattle.edm_types.specs.declared.faults.VocabFault.TheVariants as read
 use Rattle.round_trip.specs.Words.{Keeps, RoundTrips, Schema}
-use Rattle.soundness.specs.Mappings.{IsSoundSchema}
+use Rattle.round_trip.specs.soundness.Mappings.{IsSoundSchema}
 use Rattle.cells.specs.declared.cells.Cells.{Cells}
 use Rattle.mapping_limits.specs.FirstLimit.{IsFirstLimit}
-use Rattle.witness_state.specs.Failures.{IsFailureOf}
+use Rattle.mapping_verdict.specs.Words.{IsFailureOf}
 use Rattle.mapping_core.specs.declared.compiled.Compiled.{Compiled}
 use Rattle.mapping_core.specs.declared.deciding.Judgement.{Judgement}
 use Rattle.mapping_core.specs.declared.deciding.Judgement.TheVariants as judgement

@@ -8,3 +8,4 @@ pub mod Stores
 pub mod Documents
 pub mod Loads
 pub mod ViewsText
+pub mod GivesBack

@@ -5,10 +5,10 @@ pub use Rattle.edm_types.specs.declared.faults.Breach.{Breach}
 pub use Rattle.edm_types.specs.declared.schema.Schema.{Schema}
 pub use Rattle.round_trip.specs.Words.{State, Tables, AreLegalTables, AreTables, IsBreachOf, IsLegal, IsState, Keeps, RoundTrips}
 pub use Rattle.round_trip.specs.TableBreaches.{IsBreachOfTables}
-pub use Rattle.soundness.specs.Mappings.{IsSoundSchema}
+pub use Rattle.round_trip.specs.soundness.Mappings.{IsSoundSchema}
 pub use Rattle.mapping_limits.specs.FirstLimit.{IsFirstLimit}
-pub use Rattle.witness_state.specs.declared.failure.Failure.{Failure}
-pub use Rattle.witness_state.specs.Failures.{IsFailureOf}
+pub use Rattle.mapping_verdict.specs.Words.{Failure}
+pub use Rattle.mapping_verdict.specs.Words.{IsFailureOf}
 pub use Rattle.mapping_core.specs.declared.loading.LoadFault.{LoadFault}
 pub use Rattle.mapping_core.specs.Accepted.{IsDecided, PassesNoLimit}
 pub use Rattle.mapping_core.specs.Rules.{IsMeant, IsToldRule, Means}

@@ -1,6 +1,6 @@
 ghost use Rattle.std.specs.Prelude.{IfOk};
 ghost use Rattle.round_trip.specs.Words.{Schema};
-ghost use Rattle.soundness.specs.Mappings.{IsSoundSchema};
+ghost use Rattle.round_trip.specs.soundness.Mappings.{IsSoundSchema};
 ghost use Rattle.cells.specs.Cells.{TellsCells};
 ghost use Rattle.mapping_core.specs.Accepted.{IsDecided};
 ghost use Rattle.mapping_core.specs.Compiles.{Decides, Judges};
@@ -12,13 +12,12 @@ use cells::{Cells, Parts};
 use edm_types::{LimitFault, Schema};
 use emc_base::{Memory, Seq};
 use mapping_limits::first_limit;
-use mapping_verdict::first_failure;
+use mapping_verdict::{Failure, first_failure};
 use query_views::QueryViews;
 use regions::Region;
 use set_regions::regions_of_sets;
 use std::alloc::Global;
 use update_views::UpdateViews;
-use witness_state::Failure;
 
 /// What is found of a schema.
 #[derive(Drop)]

@@ -1,5 +1,5 @@
 use edm_types::{LimitFault, RuleFault, Schema, VocabFault};
-use witness_state::Failure;
+use mapping_verdict::Failure;
 
 /// Why a schema is not accepted. It is given back, so that what is told can be told by its names.
 #[derive(Drop)]

@@ -1,7 +1,7 @@
 ghost use Rattle.std.specs.Prelude.{◌≡◌, IfOk, None};
 ghost use Rattle.cells.specs.Cells.{TellsCells};
 ghost use Rattle.cells.specs.Parts.{AreParts, schema_in};
-ghost use Rattle.soundness.specs.Mappings.{IsSoundSchema};
+ghost use Rattle.round_trip.specs.soundness.Mappings.{IsSoundSchema};
 ghost use Rattle.region_basis.specs.BasisOf.{basis_of};
 ghost use Rattle.mapping_limits.specs.Checked.{TellsFirst};
 ghost use Rattle.mapping_limits.specs.FirstLimit.{HaveFewRegions, IsFirstLimit, limits_passed};

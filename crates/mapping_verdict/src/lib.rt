@@ -4,3 +4,4 @@
 mod failures;
 
 pub use failures::first_failure;
+pub use witness_state::Failure;

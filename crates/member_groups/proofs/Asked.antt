@@ -3,7 +3,7 @@ use Rattle.std.proofs.Common.{◌≡◌, ◌⊎◌, ◌↔◌, inl, inr, ℕ, �
 use Rattle.std.proofs.lemmas.List.Elements.{Contains-append_cases, Contains-append_left, Contains-append_right}
 use Rattle.round_trip.specs.Words.{PropId, TableId, Value, Pair, LinkFragment, Cond, Test, Schema}
 use Rattle.edm_types.specs.declared.mapping.Test.TheVariants.{Equals, IsNull}
-use Rattle.soundness.specs.Joined.{Member, col, prop, member_of}
+use Rattle.round_trip.specs.soundness.Joined.{Member, col, prop, member_of}
 use Rattle.mapping_asks.specs.declared.asks.Ask.{Ask}
 use Rattle.mapping_asks.specs.declared.member.MemberId.{MemberId}
 use Rattle.mapping_asks.specs.declared.member.MemberId.TheVariants.{Column, Prop}

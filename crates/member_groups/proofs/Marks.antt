@@ -8,7 +8,7 @@ use Rattle.std.proofs.lemmas.Bool.Decides.{Decides-eqb}
 use Rattle.emc_base.specs.declared.value.EnumKind.{EnumKind}
 use Rattle.emc_base.specs.declared.value.Kind.TheVariants.{Byte, Int16, Int32, Int64, Boolean, Text, Binary, Enum}
 use Rattle.round_trip.specs.Words.{GroupId, Kind, PropId}
-use Rattle.soundness.specs.Joined.{prop}
+use Rattle.round_trip.specs.soundness.Joined.{prop}
 use Rattle.group_numbers.specs.declared.numbered.Numbered.{Numbered}
 use Rattle.mapping_asks.specs.Adding.{HasKey}
 use Rattle.group_numbers.specs.Joint.{IsJointAt, joint_in}

@@ -9,9 +9,9 @@ use Rattle.std.proofs.lemmas.Map.Keys.{apart_from_distinct}
 use Rattle.std.proofs.lemmas.Option.{get_or_from_slice_get, same_Some, slice_get_within}
 use Rattle.emc_base.proofs.Lists.{at_once, item_at}
 use Rattle.round_trip.specs.Words.{GroupId, Schema, Table, TableId, At}
-use Rattle.soundness.specs.Joined.{IsNoKey, Joined, Member, col, prop}
-use Rattle.soundness.specs.Joined as joined
-use Rattle.soundness.specs.Lookups.{columns_of}
+use Rattle.round_trip.specs.soundness.Joined.{IsNoKey, Joined, Member, col, prop}
+use Rattle.round_trip.specs.soundness.Joined as joined
+use Rattle.round_trip.specs.soundness.Lookups.{columns_of}
 use Rattle.joined_groups.specs.Groups.{AreGroups, group_of}
 use Rattle.joined_groups.specs.Labels.{label_eq, label_of}
 use Rattle.joined_groups.specs.declared.labels.Label.{Label}

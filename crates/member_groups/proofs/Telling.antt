@@ -6,7 +6,7 @@ use Rattle.std.proofs.lemmas.Bool.{cases_eq}
 use Rattle.emc_base.specs.declared.value.EnumKind.{EnumKind}
 use Rattle.emc_base.proofs.Lists.{item_at}
 use Rattle.round_trip.specs.Words.{GroupId, Prop, PropId, Schema, Value, Whole, At}
-use Rattle.soundness.specs.Joined.{IsNoKey, Joined, Member, col, prop}
+use Rattle.round_trip.specs.soundness.Joined.{IsNoKey, Joined, Member, col, prop}
 use Rattle.joined_groups.specs.Groups.{AreGroups}
 use Rattle.mapping_asks.specs.declared.asks.Ask.{Ask}
 use Rattle.mapping_asks.specs.declared.member.MemberId.TheVariants as id

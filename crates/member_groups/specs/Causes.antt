@@ -5,7 +5,7 @@ use Rattle.std.specs.BTreeSet.{BTreeSet, contains}
 use Rattle.std.specs.Ordering.{nat_cmp}
 use Rattle.round_trip.specs.Words.{PropId, Kind, EntityModel, Prop, Mapping, At}
 use Rattle.emc_base.specs.declared.value.Kind.TheVariants as kind
-use Rattle.soundness.specs.Joined.{prop}
+use Rattle.round_trip.specs.soundness.Joined.{prop}
 use Rattle.mapping_asks.specs.declared.asks.Ask.{Ask}
 use Rattle.mapping_asks.specs.declared.member.MemberId.{MemberId}
 use Rattle.group_numbers.specs.declared.numbered.Numbered.{Numbered}

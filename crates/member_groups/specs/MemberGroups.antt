@@ -4,9 +4,9 @@ use Rattle.std.specs.Prelude.{◌≡◌, ◌↔◌, List, slice_get, Option, Som
 use Rattle.std.specs.BTreeSet.{contains}
 use Rattle.std.specs.Ordering.{nat_cmp}
 use Rattle.round_trip.specs.Words.{GroupId, Value, Schema}
-use Rattle.soundness.specs.Joined.{Member}
+use Rattle.round_trip.specs.soundness.Joined.{Member}
 use Rattle.member_groups.specs.declared.groups.MemberGroups.{MemberGroups}
-use Rattle.group_constants.specs.Constants.{ListsJust}
+pub use Rattle.group_constants.specs.Constants.{ListsJust}
 use Rattle.group_numbers.specs.Numbers.{number_in}
 use Rattle.member_groups.specs.Tested.{AreInOneGroup, IsConstant, IsMember, IsTested}
 

@@ -5,8 +5,8 @@ use Rattle.round_trip.specs.Words.{PropId, TableId, Value, Whole, Prop, Fragment
 use Rattle.emc_base.specs.declared.value.EnumKind.{EnumKind}
 use Rattle.emc_base.specs.declared.value.Kind.TheVariants as kind
 use Rattle.edm_types.specs.declared.mapping.Test.TheVariants.{Equals}
-use Rattle.soundness.specs.Lookups.{columns_of}
-use Rattle.soundness.specs.Joined.{Member, prop, col, Joined, member_of}
+use Rattle.round_trip.specs.soundness.Lookups.{columns_of}
+use Rattle.round_trip.specs.soundness.Joined.{Member, prop, col, Joined, member_of}
 
 -- a property of the model, or a column of the store
 abbrev pub IsMember : Schema → Member → Type 0

@@ -6,7 +6,7 @@ use Rattle.layouts.specs.declared.fault.Fault.{Fault}
 use Rattle.layouts.specs.declared.rule.Rule.TheVariants as rule
 use Rattle.rule_places.specs.Places.{IsAt, InList}
 use Rattle.round_trip.specs.Words.{PropId, Schema, key_columns}
-use Rattle.soundness.specs.Lookups.{set_key}
+use Rattle.round_trip.specs.soundness.Lookups.{set_key}
 use Rattle.key_matching.specs.Matchings.{Matches}
 use Rattle.msl_lists.specs.declared.raw.RawPair.{RawPair}
 use Rattle.msl_lists.specs.declared.raw.RawFragment.{RawFragment}

@@ -1,7 +1,7 @@
 ghost use Rattle.std.specs.Prelude.{◌≡◌, ◌↔◌, IfOk, IsTrue, option_map, slice_get};
 ghost use Rattle.std.specs.Option.{option_and_then};
 ghost use Rattle.edm_types.specs.Entities.{type_at};
-ghost use Rattle.soundness.specs.Lookups.{set_key};
+ghost use Rattle.round_trip.specs.soundness.Lookups.{set_key};
 ghost use Rattle.msl_rules.specs.Found.{set_numbered};
 ghost use Rattle.msl_written.specs.Within.{named_in, schema_in};
 ghost use Rattle.msl_fragment_rules.specs.FragmentFaults.{LeavesKey};

@@ -4,9 +4,9 @@ use Rattle.serde_json.specs.Data.{Data}
 use Rattle.least_fault.specs.Least.{IsLeast}
 use Rattle.layouts.specs.Faults.{fault_cmp}
 use Rattle.round_trip.specs.Words.{EntityModel, StoreModel, Mapping}
-use Rattle.soundness.specs.Mappings.{IsSoundSchema}
-use Rattle.soundness.specs.Models.{IsSoundModel}
-use Rattle.soundness.specs.Stores.{IsSoundStore}
+use Rattle.round_trip.specs.soundness.Mappings.{IsSoundSchema}
+use Rattle.round_trip.specs.soundness.Models.{IsSoundModel}
+use Rattle.round_trip.specs.soundness.Stores.{IsSoundStore}
 use Rattle.link_places.specs.Between.{schema_of}
 use Rattle.msl_lists.specs.declared.raw.RawMapping.{RawMapping}
 use Rattle.msl_lists.specs.Raw.{raw_mapping}

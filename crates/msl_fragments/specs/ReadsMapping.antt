@@ -6,7 +6,7 @@ use Rattle.told_rules.specs.Reads.{Answers}
 use Rattle.edm_types.specs.declared.faults.VocabFault.{VocabFault}
 use Rattle.edm_types.specs.declared.faults.VocabFile.TheVariants.{Msl}
 use Rattle.round_trip.specs.Words.{EntityModel, StoreModel, Mapping}
-use Rattle.soundness.specs.Mappings.{IsSoundSchema}
+use Rattle.round_trip.specs.soundness.Mappings.{IsSoundSchema}
 use Rattle.link_places.specs.Between.{schema_of}
 use Rattle.msl_lists.specs.Raw.{raw_mapping}
 use Rattle.msl_rules.specs.MappingMeaning.{mapping_in}

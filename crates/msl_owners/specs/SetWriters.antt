@@ -2,7 +2,7 @@
 -- Source: this project's choice of who may write a table, over MSL version 3, MappingFragment and AssociationSetMapping.
 use Rattle.std.specs.Prelude.{List}
 use Rattle.round_trip.specs.Words.{SetId, TableId, EntityModel, StoreModel, Pair, key_columns}
-use Rattle.soundness.specs.Lookups.{set_key}
+use Rattle.round_trip.specs.soundness.Lookups.{set_key}
 use Rattle.table_writers.specs.declared.writer.Owner.TheVariants as owner
 use Rattle.table_writers.specs.declared.writer.Writer.{Writer}
 use Rattle.msl_rules.specs.OwnerRules.{key_pairs}

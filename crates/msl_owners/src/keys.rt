@@ -1,6 +1,6 @@
 ghost use Rattle.std.specs.Prelude.{◌≡◌, IfOk};
 ghost use Rattle.std.specs.List.{list_any};
-ghost use Rattle.soundness.specs.Lookups.{set_key};
+ghost use Rattle.round_trip.specs.soundness.Lookups.{set_key};
 ghost use Rattle.round_trip.specs.Words.{key_columns};
 ghost use Rattle.msl_found.specs.NamedAt.{named_at};
 ghost use Rattle.msl_rules.specs.Found.{pair_in, pairs_in};

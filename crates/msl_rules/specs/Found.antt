@@ -8,7 +8,7 @@ use Rattle.round_trip.specs.Words.{SetId, AssocId, PropId, TableId, ColId, Kind,
 use Rattle.edm_types.specs.declared.mapping.CondOn.TheVariants as on
 use Rattle.edm_types.specs.declared.mapping.Test.TheVariants.{IsNull, Equals}
 use Rattle.edm_types.specs.Forest.{type_numbered}
-use Rattle.soundness.specs.Lookups.{prop_kind, column_kind}
+use Rattle.round_trip.specs.soundness.Lookups.{prop_kind, column_kind}
 use Rattle.schema_names.specs.SchemaNames.{type_named, prop_named, column_named, end_of_role}
 use Rattle.schema_names.specs.declared.ends.WhichEnd.{WhichEnd}
 use Rattle.schema_names.specs.declared.ends.WhichEnd.TheVariants.{First, Second}

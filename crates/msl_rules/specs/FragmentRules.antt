@@ -10,9 +10,9 @@ use Rattle.rule_places.specs.Places.{IsAt, InList}
 use Rattle.name_places.specs.GivenNames.{IsGivenBefore}
 use Rattle.round_trip.specs.Words.{PropId, Value, Kind, CondOn, Schema, key_columns}
 use Rattle.edm_types.specs.declared.mapping.CondOn.TheVariants as on
-use Rattle.soundness.specs.Lookups.{set_key}
-use Rattle.soundness.specs.Fragments.{WritesToFitting}
-use Rattle.soundness.specs.Joined.{ComparesNoBarred, WritesNoBarredEnum}
+use Rattle.round_trip.specs.soundness.Lookups.{set_key}
+use Rattle.round_trip.specs.soundness.Fragments.{WritesToFitting}
+use Rattle.round_trip.specs.soundness.Joined.{ComparesNoBarred, WritesNoBarredEnum}
 use Rattle.schema_names.specs.SchemaNames.{set_named, table_named}
 use Rattle.condition_values.specs.Spelled.{IsSpelled}
 use Rattle.key_matching.specs.Matchings.{Matches}

@@ -3,8 +3,8 @@
 use Rattle.std.specs.Prelude.{◌≡◌, ◌<◌, ◌^◌, List, length, All}
 use Rattle.layouts.specs.declared.fault.Fault.{Fault}
 use Rattle.round_trip.specs.Words.{EntityModel, StoreModel}
-use Rattle.soundness.specs.Models.{IsSoundModel}
-use Rattle.soundness.specs.Stores.{IsSoundStore}
+use Rattle.round_trip.specs.soundness.Models.{IsSoundModel}
+use Rattle.round_trip.specs.soundness.Stores.{IsSoundStore}
 use Rattle.msl_lists.specs.declared.raw.RawMapping.{RawMapping}
 use Rattle.msl_lists.specs.declared.raw.RawSetMapping.{RawSetMapping}
 use Rattle.msl_rules.specs.MappingFaults.{IsMappingListFault}

@@ -7,7 +7,7 @@ use Rattle.layouts.specs.declared.fault.Fault.{Fault}
 use Rattle.layouts.specs.declared.rule.Rule.TheVariants as rule
 use Rattle.rule_places.specs.Places.{IsAt, InList}
 use Rattle.round_trip.specs.Words.{PropId, Assoc, End, Pair, Schema, key_props}
-use Rattle.soundness.specs.Owners.{IsPlaced}
+use Rattle.round_trip.specs.soundness.Owners.{IsPlaced}
 use Rattle.schema_names.specs.SchemaNames.{association_set_named, table_named, prop_named}
 use Rattle.msl_lists.specs.declared.raw.RawPair.{RawPair}
 use Rattle.msl_lists.specs.declared.raw.RawCond.{RawCond}

@@ -12,7 +12,7 @@ use Rattle.rule_places.specs.Places.{IsAt}
 use Rattle.emc_base.specs.Lists.{At}
 use Rattle.round_trip.specs.Words.{PropId, ColId, EntityModel, StoreModel, Mult, Assoc, End, Pair, Fragment, LinkFragment, key_columns}
 use Rattle.edm_types.specs.declared.model.Mult.TheVariants.{One, ZeroOrOne, Many}
-use Rattle.soundness.specs.Lookups.{set_key}
+use Rattle.round_trip.specs.soundness.Lookups.{set_key}
 use Rattle.table_writers.specs.Writers.{PairsOtherwise, HasOtherOwner}
 use Rattle.table_writers.specs.declared.writer.Owner.TheVariants as owner
 use Rattle.table_writers.specs.declared.writer.Writer.{Writer}

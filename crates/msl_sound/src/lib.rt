@@ -3,7 +3,7 @@
 
 ghost use Rattle.edm_types.specs.declared.model.EntityModel.{EntityModel};
 ghost use Rattle.edm_types.specs.declared.store.StoreModel.{StoreModel};
-ghost use Rattle.soundness.specs.Mappings.{IsSoundSchema};
+ghost use Rattle.round_trip.specs.soundness.Mappings.{IsSoundSchema};
 ghost use Rattle.msl_lists.specs.declared.raw.RawMapping.{RawMapping};
 ghost use Rattle.msl_rules.specs.KeepsMapping.{KeepsMappingRules};
 ghost use Rattle.msl_rules.specs.MappingMeaning.{schema_in};

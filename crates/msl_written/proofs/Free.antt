@@ -8,7 +8,7 @@ use Rattle.std.specs.Option.{is_some, option_map}
 use Rattle.condition_values.specs.Spelled.{spelled}
 use Rattle.edm_types.specs.declared.mapping.Test.TheVariants.{Equals}
 use Rattle.round_trip.specs.Words.{CondOn, Kind, Schema, TableId, Test, Value}
-use Rattle.soundness.specs.Joined.{ComparesNoBarred, IsBarred, Member, member_of}
+use Rattle.round_trip.specs.soundness.Joined.{ComparesNoBarred, IsBarred, Member, member_of}
 use Rattle.barred_members.specs.declared.barred.Barred.{Barred}
 use Rattle.barred_members.specs.Told.{TellsBarred, is_told}
 use Rattle.msl_rules.specs.Found.{test_of}

@@ -3,7 +3,7 @@
 use Rattle.std.specs.Prelude.{◌≡◌, ℕ, List, MatchOption, Option, Some}
 use Rattle.round_trip.specs.Words.{PropId, TableId, ColId, Value, Kind, Pair, CondOn, Schema, key_columns}
 use Rattle.condition_values.specs.Spelled.{IsSpelled}
-use Rattle.soundness.specs.Joined.{ComparesNoBarred}
+use Rattle.round_trip.specs.soundness.Joined.{ComparesNoBarred}
 use Rattle.link_places.specs.Between.{schema_of}
 use Rattle.msl_lists.specs.declared.raw.RawPair.{RawPair}
 use Rattle.msl_lists.specs.declared.raw.RawCond.{RawCond}

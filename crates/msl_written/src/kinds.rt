@@ -1,6 +1,6 @@
 ghost use Rattle.std.specs.Prelude.{◌≡◌, ◌↔◌, IsTrue, option_map};
-ghost use Rattle.soundness.specs.Kinds.{Corresponds, IsEnum, IsNoSmaller, under_kind};
-ghost use Rattle.soundness.specs.Lookups.{column_kind, prop_kind};
+ghost use Rattle.round_trip.specs.soundness.Kinds.{Corresponds, IsEnum, IsNoSmaller, under_kind};
+ghost use Rattle.round_trip.specs.soundness.Lookups.{column_kind, prop_kind};
 ghost use Rattle.msl_rules.specs.Found.{table_numbered};
 
 use edm_types::{EntityModel, StoreModel};

@@ -4,8 +4,8 @@ ghost use Rattle.least_fault.specs.Least.{IsLeast};
 ghost use Rattle.layouts.specs.Faults.{fault_cmp};
 ghost use Rattle.layouts.specs.declared.rule.Rule.TheVariants.{WrittenOnce};
 ghost use Rattle.rule_places.specs.Places.{InList, IsAt};
-ghost use Rattle.soundness.specs.Fragments.{WritesToFitting};
-ghost use Rattle.soundness.specs.Joined.{WritesNoBarredEnum};
+ghost use Rattle.round_trip.specs.soundness.Fragments.{WritesToFitting};
+ghost use Rattle.round_trip.specs.soundness.Joined.{WritesNoBarredEnum};
 ghost use Rattle.msl_rules.specs.FragmentRules.{IsEnumFault, IsUnfitFault, IsWrittenBefore};
 ghost use Rattle.msl_written.specs.Within.{meant_in, named_in, schema_in, table_in};
 ghost use Rattle.msl_written.specs.MeantAt.{meant_at};
@@ -146,7 +146,7 @@ impl<'a> Finder<RawPair, Fault> for Unfit<'a> {
     ghost use Rattle.std.specs.Prelude.{[], MatchOption};
     ghost use Rattle.layouts.specs.declared.rule.Rule.TheVariants.{Corresponds};
     ghost use Rattle.rule_places.specs.Places.{IsAt};
-    ghost use Rattle.soundness.specs.Fragments.{WritesToFitting};
+    ghost use Rattle.round_trip.specs.soundness.Fragments.{WritesToFitting};
     ghost use Rattle.msl_written.specs.Within.{schema_in, table_in};
     ghost use Rattle.msl_written.specs.MeantAt.{meant_at};
 
@@ -183,7 +183,7 @@ impl<'a> Finder<RawPair, Fault> for ForeignEnums<'a> {
     ghost use Rattle.std.specs.Prelude.{[], MatchOption};
     ghost use Rattle.layouts.specs.declared.rule.Rule.TheVariants.{ForeignValue};
     ghost use Rattle.rule_places.specs.Places.{IsAt};
-    ghost use Rattle.soundness.specs.Joined.{WritesNoBarredEnum};
+    ghost use Rattle.round_trip.specs.soundness.Joined.{WritesNoBarredEnum};
     ghost use Rattle.msl_written.specs.Within.{schema_in};
     ghost use Rattle.msl_written.specs.MeantAt.{meant_at};
 

@@ -1,14 +1,15 @@
 -- The state of the entities of all sets, and the first key, by set and key, whose rows meet no case.
-use Rattle.std.proofs.Common.{◌≡◌, ◌<◌, inl, inr, ℕ, List, [], map, length, get_or, All, Contains, Bool, Option, Some, None, Err, slice_get, refl, sym, ap, subst, ◌∙◌, arith}
+use Rattle.std.proofs.Common.{◌≡◌, ◌<◌, inl, inr, ℕ, zero, suc, List, [], ◌∷◌, map, length, get_or, All, Contains, Bool, Option, Some, None, Err, slice_get, refl, sym, ap, subst, ◌∙◌, arith}
 use Rattle.std.specs.Global.{Vec}
 use Rattle.std.specs.Option.{option_map_or, unwrap_or}
 use Rattle.std.proofs.lemmas.List.{length-map}
+use Rattle.std.proofs.lemmas.List.Elements.{All-nil}
 use Rattle.std.proofs.lemmas.Option.{slice_get-get_or, slice_get_within}
 use Rattle.emc_base.proofs.Lists.{item_at}
 use Rattle.emc_base.proofs.Mapped.{contains_at}
 use Rattle.emc_base.proofs.Numbered.{map_contains}
 use Rattle.table_owners.proofs.Items.{at_map, member_place}
-use Rattle.round_trip.specs.Words.{At, ColId, Entity, EntityModel, EntityType, IsEntity, IsState, Place, SetId, State, TableId, Tables, TypeId, Value, entities_in}
+use Rattle.round_trip.specs.Words.{At, ColId, Entity, EntityModel, EntityType, IsEntity, IsLink, IsState, Place, SetId, State, TableId, Tables, TypeId, Value, entities_in}
 use Rattle.regions.specs.Basis.{Basis}
 use Rattle.regions.specs.Regions.{regions_of}
 use Rattle.region_laws.specs.IsBasis.{IsBasis}
@@ -16,7 +17,6 @@ use Rattle.region_laws.proofs.Listed.{is_listed}
 use Rattle.region_laws.proofs.Possible.{type_fits}
 use Rattle.region_cases.specs.Cases.{case_of, cases_of}
 use Rattle.region_cases.specs.declared.case.Case.{Case}
-use Rattle.region_states.specs.LoneStates.{HasNoAssociationSets}
 use Rattle.set_regions.proofs.Sets.{AreOfFirst}
 use Rattle.candidates.specs.Candidates.{AreViewed, IsBefore, IsCandidate, IsEarlier, IsFirstLack}
 use Rattle.candidates.specs.Viewed.{IsViewed, LacksCase}
@@ -28,6 +28,12 @@ use Rattle.query_views.specs.declared.lending.LentEntity.{LentEntity}
 use Rattle.query_views.specs.declared.loaded.Loaded.{Loaded}
 use Rattle.query_views.proofs.Viewed.{viewed_meets}
 use Rattle.query_views.proofs.Zips.{zip_before, zip_beside}
+
+-- of lists that are all empty each is
+none_linked : {X Y : Type 0} (xs : List X) (i : ℕ) → unwrap_or (slice_get (map {B = List Y} (λ _. []) xs) i) [] ≡ []
+none_linked [] i = refl
+none_linked (x ∷ xs) zero = refl
+none_linked (x ∷ xs) (suc i) = none_linked xs i
 
 module _ (basis : Basis) (is_free : TableId → ColId → Bool) (tables : Tables) where
   abbrev model : EntityModel
@@ -95,7 +101,7 @@ module _ (basis : Basis) (is_free : TableId → ColId → Bool) (tables : Tables
         let key = zip_before (IsViewed basis is_free tables s) viewed.keys entities k (get_or entities k d) viewed.each here in
         is_entity s key.0 (get_or entities k d) key.2
 
-    module _ (loaded : Loaded) (alone : HasNoAssociationSets model) (same : loaded.model.now ≡ model)
+    module _ (loaded : Loaded) (same : loaded.model.now ≡ model)
         (are : AreOfFirst AreLent (length model.sets) loaded.sets.items) where
       abbrev state : State
       state = lent_state loaded
@@ -120,11 +126,8 @@ module _ (basis : Basis) (is_free : TableId → ColId → Bool) (tables : Tables
         sets = length-map loaded.sets.items (λ (of_set : Vec LentEntity). map lent_entity of_set.items) ∙ are.0;
         assocs = length-map loaded.model.now.assocs (λ _. []) ∙ ap (λ (m : EntityModel). length m.assocs) same;
         entities = entities;
-        links = λ a assoc here. absurd (none a.index assoc (subst (λ list. At list a.index assoc) alone here));
+        links = λ a assoc here. subst (All (IsLink model assoc)) (sym (none_linked loaded.model.now.assocs a.index)) (All-nil (IsLink model assoc));
       }
-        where
-          none : {X : Type 0} (i : ℕ) (x : X) → At [] i x → ⊥
-          none i x here = cc
 
       -- the state of the lent entities of all sets is the candidate
       pub is_candidate : IsCandidate basis is_free tables state

@@ -3,7 +3,7 @@ ghost use Rattle.cells.specs.Cells.{is_free_in};
 ghost use Rattle.cells.specs.Parts.{AreParts};
 ghost use Rattle.region_basis.specs.BasisOf.{basis_of};
 ghost use Rattle.round_trip.specs.Words.{AreLegalTables};
-ghost use Rattle.soundness.specs.Lookups.{set_key};
+ghost use Rattle.round_trip.specs.soundness.Lookups.{set_key};
 ghost use Rattle.query_views.specs.Answers.{EntityAt};
 ghost use Rattle.query_views.specs.Views.{AreQueryViewsOf};
 

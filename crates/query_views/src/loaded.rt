@@ -4,7 +4,6 @@ ghost use Rattle.emc_base.specs.ValueRefs.{shown_value};
 ghost use Rattle.cells.specs.Cells.{is_free_in};
 ghost use Rattle.cells.specs.Parts.{AreParts};
 ghost use Rattle.region_basis.specs.BasisOf.{basis_of};
-ghost use Rattle.region_states.specs.LoneStates.{HasNoAssociationSets};
 ghost use Rattle.round_trip.specs.Words.{AreLegalTables, At, Entity, entities_in, value_of};
 ghost use Rattle.query_views.specs.Answers.{Lends};
 ghost use Rattle.query_views.specs.Lent.{lent_entity, lent_state};
@@ -30,8 +29,8 @@ pub struct Loaded<'t> {
 
 impl<'t> Loaded<'t> {
     /// The entities that legal tables tell by the query views of a mapping: for each key at which rows stand the entity that is told by the first case that they
-    /// meet. `NoCase` comes exactly where the rows at some key meet none, with the first, by set and key; and `Memory` where memory ran out. No association set is
-    /// declared yet. The rows are put in the order of keys once.
+    /// meet. `NoCase` comes exactly where the rows at some key meet none, with the first, by set and key; and `Memory` where memory ran out. No link is
+    /// told yet. The rows are put in the order of keys, table by table and then all together.
     pub fn of(
         alloc: Global,
         views: &'t QueryViews,
@@ -39,7 +38,6 @@ impl<'t> Loaded<'t> {
         tables: &'t Tables,
     ) -> Result<Loaded<'t>, StateFault>
         requires parts { AreParts parts.now }
-        requires alone { HasNoAssociationSets parts.now.model.now }
         requires views { AreQueryViewsOf (basis_of parts.now) (is_free_in parts.now.cells.now) views.now }
         requires legal { AreLegalTables parts.now.store.now tables.now }
         ensures { Lends (basis_of parts.now) (is_free_in parts.now.cells.now) tables.now result }

@@ -2,7 +2,6 @@ ghost use Rattle.std.specs.Prelude.{◌≡◌, [], IfOk, map};
 ghost use Rattle.cells.specs.Cells.{is_free_in};
 ghost use Rattle.cells.specs.Parts.{AreParts};
 ghost use Rattle.region_basis.specs.BasisOf.{basis_of};
-ghost use Rattle.region_states.specs.LoneStates.{HasNoAssociationSets};
 ghost use Rattle.round_trip.specs.Words.{AreLegalTables};
 ghost use Rattle.query_views.specs.Answers.{StateOf};
 ghost use Rattle.query_views.specs.Lent.{lent_entity, lent_state};
@@ -21,7 +20,7 @@ use table_files::Tables;
 
 impl QueryViews {
     /// The state of all entities that legal tables tell, those of each set in the order of their keys. `NoCase` comes exactly where the rows at some key meet no
-    /// case, with the first, by set and key; and `Memory` where memory ran out. No association set is declared yet. Each value is copied once.
+    /// case, with the first, by set and key; and `Memory` where memory ran out. No link is told yet. Each value is copied once.
     pub fn state_of(
         &self,
         alloc: Global,
@@ -29,7 +28,6 @@ impl QueryViews {
         tables: &Tables,
     ) -> Result<EntityState, StateFault>
         requires parts { AreParts parts.now }
-        requires alone { HasNoAssociationSets parts.now.model.now }
         requires views { AreQueryViewsOf (basis_of parts.now) (is_free_in parts.now.cells.now) self.now }
         requires legal { AreLegalTables parts.now.store.now tables.now }
         ensures { StateOf (basis_of parts.now) (is_free_in parts.now.cells.now) tables.now result }

@@ -1,5 +1,5 @@
 -- The answers by a mapping's cells are those of the definitions.
-use Rattle.soundness.specs.Mappings.{IsSoundSchema}
+use Rattle.round_trip.specs.soundness.Mappings.{IsSoundSchema}
 use Rattle.sound_demand.proofs.Deriving.{decides_types}
 use Rattle.region_laws.specs.IsBasis.{IsBasis}
 use Rattle.region_laws.proofs.Domains.{decides_domains}

@@ -9,7 +9,7 @@ use Rattle.emc_base.proofs.Lists.{item_at}
 use Rattle.emc_base.proofs.Mapped.{contains_enumerated}
 use Rattle.emc_base.proofs.Numbered.{enumerated_at}
 use Rattle.round_trip.specs.Words.{Assoc, AssocId, At, Schema, SetId}
-use Rattle.soundness.specs.Mappings.{IsSoundSchema}
+use Rattle.round_trip.specs.soundness.Mappings.{IsSoundSchema}
 use Rattle.table_owners.specs.declared.places.LinkPlace.{LinkPlace}
 use Rattle.table_owners.specs.declared.places.LinkPlace.TheVariants as place
 use Rattle.table_owners.specs.Places.{AreHosted, AreToldHosted, TellPlaces}

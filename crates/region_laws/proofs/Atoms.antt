@@ -17,7 +17,7 @@ use Rattle.emc_base.specs.declared.value.Kind.TheVariants as kind
 use Rattle.emc_base.proofs.Mapped.{contains_filter, contains_map}
 use Rattle.emc_base.proofs.Numbered.{filter_contains, map_contains}
 use Rattle.round_trip.specs.Words.{Value, Kind, Prop, InDomain, Null, Whole, Flag}
-use Rattle.soundness.specs.Kinds.{IsSoundKind}
+use Rattle.round_trip.specs.soundness.Kinds.{IsSoundKind}
 use Rattle.condition_logic.specs.declared.atoms.Atom.{Atom}
 use Rattle.condition_logic.specs.declared.atoms.Atom.TheVariants as atom
 use Rattle.state_demand.specs.Selecting.{same_value}

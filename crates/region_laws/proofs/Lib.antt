@@ -20,3 +20,4 @@ pub mod Partners
 pub mod Owned
 pub mod Rows
 pub mod Possible
+pub mod pattern

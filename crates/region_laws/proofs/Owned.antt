@@ -8,8 +8,8 @@ use Rattle.emc_base.proofs.Mapped.{contains_at, contains_map}
 use Rattle.emc_base.proofs.Numbered.{map_contains}
 use Rattle.round_trip.specs.Words.{SetId, TableId, ColId, AssocId, PropId, Value, Assoc, Table, LinkFragment, Pair, Entity, Hosted, Link, State, Writing, WritesRow, DemandsRow, DemandsCell, At, IsLegal, key_columns, key_of, links_in, written_key}
 use Rattle.round_trip.specs.FailsAt.{IsHostedAt}
-use Rattle.soundness.specs.Owners.{IsPlaced}
-use Rattle.soundness.specs.Stores.{IsSoundTable}
+use Rattle.round_trip.specs.soundness.Owners.{IsPlaced}
+use Rattle.round_trip.specs.soundness.Stores.{IsSoundTable}
 use Rattle.state_demand.specs.Owners.{IsHostAt, IsHosted, IsJoinedTo, IsLinkOf, IsOwned, IsWritingOf, StandsAt}
 use Rattle.state_demand.specs.WellWritten.{cols_of}
 use Rattle.state_demand.specs.Writings.{link_writing}

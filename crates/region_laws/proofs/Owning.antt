@@ -9,11 +9,10 @@ use Rattle.emc_base.specs.Lists.{places_of}
 use Rattle.emc_base.proofs.Numbered.{at_places, map_contains}
 use Rattle.round_trip.specs.Words.{TypeId, PropId, EntityModel, EntityType, Prop, At, HasBase, IsA, props_of}
 use Rattle.edm_types.specs.IsA.{same, base, chain}
-use Rattle.soundness.specs.Inheritance.{declared_props, prop_numbered}
-use Rattle.soundness.specs.Models.{IsSoundModel}
+use Rattle.round_trip.specs.soundness.Inheritance.{declared_props, prop_numbered}
+use Rattle.round_trip.specs.soundness.Models.{IsSoundModel}
 use Rattle.base_chains.proofs.Chains.{Ends}
-use Rattle.sound_forests.proofs.Whole.{base_place}
-use Rattle.sound_types.proofs.BasePlaces.{base_ends, base_here}
+use Rattle.sound_types.proofs.BasePlaces.{base_ends, base_here, base_place}
 use Rattle.state_demand.proofs.Lists.{none_in_nil}
 
 module _ (model : EntityModel) (sound : IsSoundModel model) where

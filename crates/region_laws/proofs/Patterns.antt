@@ -9,7 +9,7 @@ use Rattle.emc_base.proofs.Lists.{all_from_members, only_member, only_stands}
 use Rattle.emc_base.proofs.Mapped.{contains_filter, contains_map}
 use Rattle.emc_base.proofs.Numbered.{filter_contains, map_contains}
 use Rattle.round_trip.specs.Words.{SetId, TypeId, PropId, AssocId, Value, Assoc, Fragment, LinkFragment, Pair, Entity, Hosted, Link, Mult, State, Writing, Selects, At, IsA, entities_in, key_of, key_props, links_in, value_beside, value_of}
-use Rattle.soundness.specs.Fragments.{WritesEndKey}
+use Rattle.round_trip.specs.soundness.Fragments.{WritesEndKey}
 use Rattle.state_demand.specs.MadeTables.{given_cells}
 use Rattle.state_demand.specs.Selecting.{same_key}
 use Rattle.state_demand.specs.Writings.{entity_writing, link_writing}

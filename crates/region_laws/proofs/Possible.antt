@@ -8,7 +8,7 @@ use Rattle.emc_base.proofs.Lists.{at_once}
 use Rattle.emc_base.proofs.Numbered.{enumerated_at, filter_contains, map_contains}
 use Rattle.round_trip.specs.Words.{SetId, TypeId, PropId, AssocId, EntitySet, EntityType, Prop, Assoc, Mult, At, IsA, IsConcrete}
 use Rattle.edm_types.specs.declared.model.Mult.TheVariants.{One, ZeroOrOne, Many}
-use Rattle.soundness.specs.Joined.{prop}
+use Rattle.round_trip.specs.soundness.Joined.{prop}
 use Rattle.condition_logic.specs.declared.atoms.Atom.{Atom}
 use Rattle.condition_logic.specs.declared.atoms.AtomOf.{AtomOf}
 use Rattle.state_demand.proofs.Lists.{member_cases, none_in_nil}

@@ -10,8 +10,8 @@ use Rattle.emc_base.proofs.Mapped.{contains_at, contains_enumerated, contains_fi
 use Rattle.emc_base.proofs.Numbered.{filter_contains, map_contains}
 use Rattle.round_trip.specs.Words.{SetId, TypeId, PropId, AssocId, EntitySet, EntityType, Prop, Assoc, Mult, Entity, Hosted, Link, State, At, IsLegal, IsLegalSet, HasProp, HasFittingType, HasAllowedNulls, HasValuesInDomain, entities_in, key_of, props_of, value_of}
 use Rattle.edm_types.specs.declared.model.Mult.TheVariants.{Many}
-use Rattle.soundness.specs.Joined.{prop}
-use Rattle.soundness.specs.ModelIds.{IsPropId}
+use Rattle.round_trip.specs.soundness.Joined.{prop}
+use Rattle.round_trip.specs.soundness.ModelIds.{IsPropId}
 use Rattle.condition_logic.specs.declared.atoms.Atom.{Atom}
 use Rattle.condition_logic.specs.declared.atoms.Atom.TheVariants as atom
 use Rattle.condition_logic.specs.declared.atoms.AtomOf.{AtomOf}

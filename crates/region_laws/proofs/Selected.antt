@@ -11,9 +11,9 @@ use Rattle.emc_base.proofs.Numbered.{filter_contains}
 use Rattle.round_trip.specs.Words.{SetId, TypeId, PropId, Value, Null, Fragment, Pick, Cond, CondOn, Test, Entity, Hosted, IsA, IsPicked, MetByEntity, Passes, Selects, key_props, props_of, value_beside, value_of}
 use Rattle.edm_types.specs.declared.mapping.CondOn.TheVariants as on
 use Rattle.edm_types.specs.declared.mapping.Test.TheVariants.{IsNull, Equals}
-use Rattle.soundness.specs.Joined.{IsNoKey, member_of, prop, same}
-use Rattle.soundness.specs.Lookups.{IsUnderElement, set_key}
-use Rattle.soundness.specs.Mappings.{IsSoundFragment}
+use Rattle.round_trip.specs.soundness.Joined.{IsNoKey, member_of, prop, same}
+use Rattle.round_trip.specs.soundness.Lookups.{IsUnderElement, set_key}
+use Rattle.round_trip.specs.soundness.Mappings.{IsSoundFragment}
 use Rattle.member_groups.specs.Tested.{HasCondition}
 use Rattle.condition_logic.specs.declared.atoms.Atom.{Atom}
 use Rattle.condition_logic.specs.declared.atoms.Atom.TheVariants as atom

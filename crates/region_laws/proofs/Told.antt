@@ -5,8 +5,8 @@ use Rattle.std.proofs.lemmas.Option.{slice_get_within}
 use Rattle.emc_base.specs.Lists.{AreApart}
 use Rattle.emc_base.proofs.Mapped.{contains_at}
 use Rattle.round_trip.specs.Words.{PropId, Prop, Value, At}
-use Rattle.soundness.specs.Joined.{prop}
-use Rattle.soundness.specs.Kinds.{IsSoundKind}
+use Rattle.round_trip.specs.soundness.Joined.{prop}
+use Rattle.round_trip.specs.soundness.Kinds.{IsSoundKind}
 use Rattle.condition_logic.specs.declared.atoms.Atom.{Atom}
 use Rattle.regions.specs.Atoms.{Allows, LiesIn, atom_of, atoms_of}
 use Rattle.regions.specs.Basis.{Basis}

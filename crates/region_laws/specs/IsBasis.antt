@@ -3,9 +3,9 @@
 use Rattle.std.specs.Prelude.{◌≡◌, ◌↔◌, ◌<◌, List, AllPairs, Contains, IsTrue, if◌then◌else◌}
 use Rattle.round_trip.specs.Words.{SetId, Assoc, LinkFragment, Schema, Entity, Hosted, State, At, key_of}
 use Rattle.round_trip.specs.FailsAt.{IsHostedAt}
-use Rattle.soundness.specs.Joined.{Member}
-use Rattle.soundness.specs.Mappings.{IsSoundSchema}
-use Rattle.group_constants.specs.Constants.{ListsJust}
+use Rattle.round_trip.specs.soundness.Joined.{Member}
+use Rattle.round_trip.specs.soundness.Mappings.{IsSoundSchema}
+use Rattle.member_groups.specs.MemberGroups.{ListsJust}
 use Rattle.member_groups.specs.Tested.{AreInOneGroup, IsConstant, IsMember, IsTested}
 use Rattle.state_demand.specs.Selecting.{DecidesTypes}
 use Rattle.regions.specs.Fitting.{DecidesDomains}

@@ -3,3 +3,4 @@ pub mod RegionAt
 pub mod Counting
 pub mod Concrete
 pub mod Partners
+pub mod pattern

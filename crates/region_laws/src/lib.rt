@@ -1,5 +1,8 @@
-//! Regions of a sound schema: each entity of a legal state is held by one, and by this it is decided what fragments select and what is written.
+//! Regions of a sound schema: each entity of a legal state is held by one, and by this it is decided what fragments select and what is written; what the
+//! symbols of patterns can be, where they stand, and which rows a fragment shows.
 #![tactic(auto)]
+
+mod pattern_laws;
 
 ghost use Rattle.std.specs.Prelude.{◌<◌, ◌≡◌, ◌≢◌, ◌↔◌, ◌∷◌, AllPairs, Bool, Contains, IsTrue, List, [], false, length, min, true};
 ghost use Rattle.std.specs.List.{AllZip};
@@ -7,7 +10,7 @@ ghost use Rattle.emc_base.specs.Lists.{AreApart};
 ghost use Rattle.condition_logic.specs.declared.atoms.Atom.{Atom};
 ghost use Rattle.round_trip.specs.Words.{Assoc, AssocId, At, ColId, Column, DemandsCell, DemandsRow, Entity, EntityModel, EntitySet, Fragment, Hosted, IsA, IsConcrete, IsLegal, Link, LinkFragment, Pair, Prop, PropId, Selects, SetId, State, StoreModel, Table, TableId, Value, Writing, WritesRow, entities_in, key_of, links_in, written_key};
 ghost use Rattle.edm_types.specs.declared.model.Mult.TheVariants.{Many, ZeroOrOne};
-ghost use Rattle.soundness.specs.Joined.{prop};
+ghost use Rattle.round_trip.specs.soundness.Joined.{prop};
 ghost use Rattle.regions.specs.declared.pattern.Symbol.{Symbol};
 ghost use Rattle.state_demand.specs.MadeTables.{given_cells};
 ghost use Rattle.state_demand.specs.Owners.{IsJoinedTo, IsOwned, StandsAt};
@@ -25,6 +28,11 @@ ghost use Rattle.region_laws.specs.Counting.{counted};
 ghost use Rattle.region_laws.specs.IsBasis.{AreHostedLinks, IsBasis};
 ghost use Rattle.region_laws.specs.Partners.{HasFewPartners, HasPartners, part_by};
 ghost use Rattle.region_laws.specs.RegionAt.{IsAtomOf, hosted_links, links_at, region_at};
+
+pub use pattern_laws::{
+    a_clash_is_two_symbols, agreement_is_by_regions, cells_are_settled, cells_have_a_shape,
+    shown_is_decided, symbols_are_possible, values_are_allowed,
+};
 
 /// Whether a value is in the domain of a kind is computed.
 pub fn domains_are_decided()

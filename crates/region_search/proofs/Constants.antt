@@ -3,7 +3,7 @@ use Rattle.std.proofs.Common.{◌≡◌, ◌<◌, ◌≤◌, List, [], length, o
 use Rattle.std.specs.List.{list_any}
 use Rattle.std.proofs.lemmas.Bool.Decides.{Decides-like}
 use Rattle.round_trip.specs.Words.{GroupId, PropId, Value, Schema}
-use Rattle.soundness.specs.Joined.{prop}
+use Rattle.round_trip.specs.soundness.Joined.{prop}
 use Rattle.member_groups.specs.declared.groups.MemberGroups.{MemberGroups}
 use Rattle.member_groups.specs.MemberGroups.{TellsMemberGroups, constants_in, group_in}
 use Rattle.state_demand.specs.Selecting.{same_value}

@@ -9,7 +9,7 @@ use Rattle.std.proofs.lemmas.Slice.Zip.{AllZip-long}
 use Rattle.emc_base.specs.Lists.{AreApart}
 use Rattle.emc_base.proofs.Lists.{all_from_members, at_once}
 use Rattle.round_trip.specs.Words.{SetId, PropId, Value, EntityModel, Prop, Entity, State, At, InDomain, IsLegal, key_of, key_props, value_beside, value_of}
-use Rattle.soundness.specs.Joined.{prop}
+use Rattle.round_trip.specs.soundness.Joined.{prop}
 use Rattle.condition_logic.specs.declared.atoms.AtomOf.{AtomOf}
 use Rattle.state_demand.proofs.Joined.{same_values}
 use Rattle.state_demand.proofs.Lists.{member_cases, none_in_nil}
@@ -24,14 +24,14 @@ use Rattle.regions.specs.Patterns.{Valuation}
 use Rattle.regions.specs.Regions.{regions_of}
 use Rattle.region_laws.specs.IsBasis.{IsBasis}
 use Rattle.region_laws.proofs.Symbols.{Decides-prop}
-use Rattle.pattern_laws.specs.Allowed.{IsAllowed}
-use Rattle.pattern_laws.proofs.Types.{key_among}
-use Rattle.focus_laws.specs.Held.{IsHeldAt}
-use Rattle.focus_laws.proofs.Partners.{are_hosted, holds_hosted, links}
-use Rattle.default_values.specs.Admissible.{IsAdmissible}
-use Rattle.default_values.specs.Defaults.{default_valuation, is_among}
-use Rattle.default_values.proofs.Defaults.{Decides-among, default_admissible}
-use Rattle.default_values.proofs.Listed.{told_is, tested_no_key}
+use Rattle.region_laws.specs.pattern.Allowed.{IsAllowed}
+use Rattle.region_laws.proofs.pattern.Types.{key_among}
+use Rattle.region_states.specs.focus.Held.{IsHeldAt}
+use Rattle.region_states.proofs.focus.Partners.{are_hosted, holds_hosted, links}
+use Rattle.region_states.specs.defaults.Admissible.{IsAdmissible}
+use Rattle.region_states.specs.defaults.Defaults.{default_valuation, is_among}
+use Rattle.region_states.proofs.defaults.Defaults.{Decides-among, default_admissible}
+use Rattle.region_states.proofs.defaults.Listed.{told_is, tested_no_key}
 use Rattle.region_states.specs.BasePopulation.{FitsProp, IsBaseFor, IsKeyOf, base_state, keyed_values}
 use Rattle.region_states.specs.Entities.{focus_entity}
 use Rattle.region_states.specs.Hosting.{HoldsFocus}

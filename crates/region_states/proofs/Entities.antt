@@ -3,7 +3,7 @@ use Rattle.std.proofs.Common.{◌≡◌, ◌≢◌, All, Contains, refl, sym, su
 use Rattle.std.proofs.lemmas.List.Elements.{All-contains}
 use Rattle.emc_base.proofs.Lists.{all_from_members}
 use Rattle.round_trip.specs.Words.{SetId, PropId, TableId, ColId, Value, Null, Entity, props_of, value_of}
-use Rattle.soundness.specs.Joined.{prop}
+use Rattle.round_trip.specs.soundness.Joined.{prop}
 use Rattle.condition_logic.specs.declared.atoms.AtomOf.{AtomOf}
 use Rattle.state_demand.proofs.Owners.{beside_map}
 use Rattle.regions.specs.declared.region.Region.{Region}
@@ -15,14 +15,14 @@ use Rattle.regions.specs.Basis.{Basis}
 use Rattle.regions.specs.Patterns.{Valuation, by_entity, pattern_of, value_under}
 use Rattle.regions.specs.Regions.{regions_of}
 use Rattle.region_laws.specs.IsBasis.{IsBasis}
-use Rattle.pattern_laws.specs.Allowed.{IsAllowed}
-use Rattle.pattern_laws.specs.Listed.{Lists}
-use Rattle.pattern_laws.proofs.Laws.{listed_from}
-use Rattle.pattern_laws.proofs.Standing.{listed_prop}
-use Rattle.pattern_laws.proofs.Types.{key_among}
-use Rattle.default_values.specs.Admissible.{IsAdmissible}
-use Rattle.default_values.specs.Short.{IsShort}
-use Rattle.default_values.proofs.Listed.{told_is}
+use Rattle.region_laws.specs.pattern.Allowed.{IsAllowed}
+use Rattle.region_laws.specs.pattern.Listed.{Lists}
+use Rattle.region_laws.proofs.pattern.Laws.{listed_from}
+use Rattle.region_laws.proofs.pattern.Standing.{listed_prop}
+use Rattle.region_laws.proofs.pattern.Types.{key_among}
+use Rattle.region_states.specs.defaults.Admissible.{IsAdmissible}
+use Rattle.region_states.specs.defaults.Short.{IsShort}
+use Rattle.region_states.proofs.defaults.Listed.{told_is}
 use Rattle.region_states.specs.Entities.{focus_entity}
 
 module _ (basis : Basis) (region : Region) (values : Valuation) where

@@ -15,9 +15,9 @@ use Rattle.region_laws.specs.IsBasis.{IsBasis}
 use Rattle.region_laws.specs.Partners.{HasPartners}
 use Rattle.region_laws.specs.RegionAt.{links_at}
 use Rattle.region_laws.proofs.Listed.{set_is}
-use Rattle.pattern_laws.specs.Allowed.{IsAllowed}
-use Rattle.pattern_laws.proofs.Origins.{linked_decided}
-use Rattle.focus_laws.specs.Held.{IsHeldAt}
+use Rattle.region_laws.specs.pattern.Allowed.{IsAllowed}
+use Rattle.region_laws.proofs.pattern.Origins.{linked_decided}
+use Rattle.region_states.specs.focus.Held.{IsHeldAt}
 use Rattle.conflicts.specs.There.{HasFewLinks}
 use Rattle.region_states.specs.Entities.{focus_entity}
 use Rattle.region_states.specs.Hosting.{HoldsFocus}

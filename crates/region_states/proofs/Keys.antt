@@ -1,7 +1,7 @@
 -- The key of an entity of admissible values: numbered, and the same for each region of a set.
 use Rattle.std.proofs.Common.{◌≡◌, List, map, Contains, sym, ap, ◌∙◌}
 use Rattle.round_trip.specs.Words.{SetId, PropId, Value, EntityModel, key_of, key_props, value_of}
-use Rattle.soundness.specs.Lookups.{set_key}
+use Rattle.round_trip.specs.soundness.Lookups.{set_key}
 use Rattle.state_demand.proofs.Places.{map_agree}
 use Rattle.regions.specs.declared.region.Region.{Region}
 use Rattle.regions.specs.Basis.{Basis}
@@ -9,11 +9,11 @@ use Rattle.regions.specs.Patterns.{Valuation}
 use Rattle.regions.specs.Regions.{regions_of}
 use Rattle.region_laws.specs.IsBasis.{IsBasis}
 use Rattle.region_laws.proofs.Listed.{set_is}
-use Rattle.pattern_laws.proofs.Regions.{key_is}
-use Rattle.pattern_laws.proofs.Types.{key_among}
-use Rattle.default_values.specs.Admissible.{IsAdmissible}
-use Rattle.default_values.specs.Defaults.{fresh_at, place_in}
-use Rattle.default_values.specs.Fresh.{focus_key}
+use Rattle.region_laws.proofs.pattern.Regions.{key_is}
+use Rattle.region_laws.proofs.pattern.Types.{key_among}
+use Rattle.region_states.specs.defaults.Admissible.{IsAdmissible}
+use Rattle.region_states.specs.defaults.Defaults.{fresh_at, place_in}
+use Rattle.region_states.specs.defaults.Fresh.{focus_key}
 use Rattle.region_states.specs.Entities.{focus_entity}
 use Rattle.region_states.proofs.Entities.{has_value}
 

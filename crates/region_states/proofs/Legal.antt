@@ -14,8 +14,8 @@ use Rattle.regions.specs.Regions.{regions_of}
 use Rattle.region_laws.specs.IsBasis.{IsBasis, IsHostOf}
 use Rattle.region_laws.proofs.Listed.{is_listed, set_is}
 use Rattle.region_laws.proofs.Possible.{type_fits}
-use Rattle.pattern_laws.specs.Allowed.{IsAllowed}
-use Rattle.pattern_laws.proofs.Allowed.{domain_not_null}
+use Rattle.region_laws.specs.pattern.Allowed.{IsAllowed}
+use Rattle.region_laws.proofs.pattern.Allowed.{domain_not_null}
 use Rattle.region_states.specs.Entities.{focus_entity}
 use Rattle.region_states.specs.LoneStates.{HasNoAssociationSets, empty_state, lone_focus, lone_state}
 use Rattle.region_states.specs.Hosting.{HoldsFocus}

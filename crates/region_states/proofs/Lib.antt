@@ -5,3 +5,5 @@ pub mod Legal
 pub mod Keys
 pub mod Alike
 pub mod Base
+pub mod focus
+pub mod defaults

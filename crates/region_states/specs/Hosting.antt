@@ -12,7 +12,7 @@ use Rattle.regions.specs.Regions.{regions_of}
 use Rattle.regions.specs.Settled.{possible, single}
 use Rattle.region_laws.specs.Partners.{HasFewPartners, HasPartners}
 use Rattle.region_laws.specs.RegionAt.{links_at}
-use Rattle.default_values.specs.Admissible.{IsAdmissible}
+use Rattle.region_states.specs.defaults.Admissible.{IsAdmissible}
 use Rattle.region_states.specs.Entities.{focus_entity}
 
 -- the state is legal and holds an entity of the region that has these values; it hosts just one link for each flag of the region, to the key that is told

@@ -2,3 +2,5 @@ pub mod Entities
 pub mod LoneStates
 pub mod Hosting
 pub mod BasePopulation
+pub mod focus
+pub mod defaults

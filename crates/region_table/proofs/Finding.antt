@@ -10,7 +10,7 @@ use Rattle.emc_base.proofs.Lists.{all_from_members}
 use Rattle.emc_base.proofs.Numbered.{enumerated_at, filter_contains, map_contains}
 use Rattle.std.proofs.lemmas.List.Elements.{All-contains}
 use Rattle.round_trip.specs.Words.{SetId, TypeId, PropId, AssocId, EntityType, EntitySet, Entity, Hosted, props_of}
-use Rattle.soundness.specs.Joined.{prop}
+use Rattle.round_trip.specs.soundness.Joined.{prop}
 use Rattle.condition_logic.specs.declared.atoms.AtomOf.{AtomOf}
 use Rattle.state_demand.proofs.Lists.{member_cases, none_in_nil}
 use Rattle.regions.specs.declared.region.Region.{Region}

@@ -4,7 +4,7 @@ use Rattle.std.proofs.lemmas.List.{drop_all}
 use Rattle.emc_base.specs.Lists.{At}
 use Rattle.emc_base.specs.declared.value.Kind.TheVariants as kind
 use Rattle.round_trip.specs.Words.{Value, Null, Kind}
-use Rattle.default_values.specs.Candidates.{candidates, free_values}
+use Rattle.region_states.specs.defaults.Candidates.{candidates, free_values}
 use Rattle.region_values.specs.Free.{is_left}
 use Rattle.region_values.proofs.Dropped.{item_kept, item_left}
 

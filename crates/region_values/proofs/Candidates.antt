@@ -6,8 +6,8 @@ use Rattle.emc_base.specs.Lists.{At}
 use Rattle.emc_base.specs.declared.value.EnumKind.{EnumKind}
 use Rattle.emc_base.specs.declared.value.Kind.TheVariants as kind
 use Rattle.round_trip.specs.Words.{Whole, Kind}
-use Rattle.default_values.specs.Candidates.{candidates, letter, number, numbers_from}
-use Rattle.default_values.proofs.Lists.{numbers_length}
+use Rattle.region_states.specs.defaults.Candidates.{candidates, letter, number, numbers_from}
+use Rattle.region_states.proofs.defaults.Lists.{numbers_length}
 
 number_at : (first count i : ℕ) → i < count → At (numbers_from first count) i (i + first)
 number_at first zero i within = absurd (omega arith)

@@ -13,7 +13,7 @@ use Rattle.regions.specs.declared.pattern.Symbol.TheVariants as symbol
 use Rattle.regions.specs.Basis.{Basis}
 use Rattle.regions.specs.Patterns.{pattern_of}
 use Rattle.regions.specs.Settled.{possible, settle}
-use Rattle.rival_laws.specs.RivalValues.{faces_null, is_null_cell, rival_value, shared_value}
+use Rattle.conflict_laws.specs.rival.RivalValues.{faces_null, is_null_cell, rival_value, shared_value}
 use Rattle.region_values.specs.declared.rivals.Rival.{Rival}
 use Rattle.region_values.specs.Rivals.{IsRival}
 

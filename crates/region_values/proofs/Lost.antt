@@ -5,8 +5,8 @@ use Rattle.round_trip.specs.Words.{PropId, Value, Prop}
 use Rattle.regions.specs.declared.region.Region.{Region}
 use Rattle.regions.specs.Basis.{Basis}
 use Rattle.regions.specs.Patterns.{Valuation}
-use Rattle.default_values.specs.Defaults.{alone, changed, default_valuation, one_value, other_value}
-use Rattle.same_laws.specs.SameValues.{with_one, with_other}
+use Rattle.region_states.specs.defaults.Defaults.{alone, changed, default_valuation, one_value, other_value}
+use Rattle.conflict_laws.specs.same.SameValues.{with_one, with_other}
 
 module _ (basis : Basis) (region : Region) (p : PropId) (declared : Prop) (here : Some declared ≡ slice_get basis.schema.model.props p.index) (value : Value) where
   abbrev with_value : Value → Valuation

@@ -10,8 +10,8 @@ use Rattle.regions.specs.declared.pattern.Symbol.{Symbol}
 use Rattle.regions.specs.declared.pattern.Symbol.TheVariants as symbol
 use Rattle.regions.specs.Basis.{Basis}
 use Rattle.regions.specs.Settled.{Possible, single, multi, possible}
-use Rattle.default_values.specs.Defaults.{alone, changed, default_valuation, one_value, other_value}
-use Rattle.clash_laws.specs.ClashValues.{with_others}
+use Rattle.region_states.specs.defaults.Defaults.{alone, changed, default_valuation, one_value, other_value}
+use Rattle.conflict_laws.specs.clash.ClashValues.{with_others}
 use Rattle.region_values.specs.declared.changes.Change.{Change}
 use Rattle.region_values.specs.Changes.{both_changes, by_change}
 

@@ -5,8 +5,8 @@ use Rattle.emc_base.specs.Lists.{At}
 use Rattle.regions.specs.declared.region.Region.{Region}
 use Rattle.regions.specs.declared.pattern.Symbol.{Symbol}
 use Rattle.regions.specs.Basis.{Basis}
-use Rattle.default_values.specs.Defaults.{default_valuation}
-use Rattle.clash_laws.specs.ClashValues.{clash_values, differ_under, values_tried}
+use Rattle.region_states.specs.defaults.Defaults.{default_valuation}
+use Rattle.conflict_laws.specs.clash.ClashValues.{clash_values, differ_under, values_tried}
 use Rattle.region_values.specs.declared.changes.Change.{Change}
 use Rattle.region_values.specs.Changes.{by_change}
 use Rattle.region_values.proofs.Passed.{first_passes, none_passes}

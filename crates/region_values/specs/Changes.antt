@@ -5,7 +5,7 @@ use Rattle.round_trip.specs.Words.{PropId, Prop}
 use Rattle.regions.specs.declared.region.Region.{Region}
 use Rattle.regions.specs.Basis.{Basis}
 use Rattle.regions.specs.Patterns.{Valuation}
-use Rattle.default_values.specs.Defaults.{alone, changed, default_valuation, one_value, other_value}
+use Rattle.region_states.specs.defaults.Defaults.{alone, changed, default_valuation, one_value, other_value}
 use Rattle.region_values.specs.declared.changes.Change.{Change}
 
 module _ (basis : Basis) (region : Region) where

@@ -3,7 +3,7 @@
 use Rattle.std.specs.Prelude.{List, Bool, true}
 use Rattle.emc_base.specs.declared.value.Kind.TheVariants as kind
 use Rattle.round_trip.specs.Words.{Value, Kind}
-use Rattle.default_values.specs.Candidates.{is_free}
+use Rattle.region_states.specs.defaults.Candidates.{is_free}
 
 -- each flag and each number of an enumeration, else what is none of the constants
 abbrev pub is_left : Kind → List Value → Value → Bool

@@ -3,7 +3,7 @@ ghost use Rattle.std.specs.Option.{option_copied};
 ghost use Rattle.cells.specs.Parts.{AreParts};
 ghost use Rattle.regions.specs.Settled.{possible};
 ghost use Rattle.region_basis.specs.BasisOf.{basis_of};
-ghost use Rattle.clash_laws.specs.ClashValues.{differ_under, values_tried, with_others};
+ghost use Rattle.conflict_laws.specs.clash.ClashValues.{differ_under, values_tried, with_others};
 ghost use Rattle.region_values.specs.Changes.{both_changes, by_change};
 
 use crate::changes::Change;

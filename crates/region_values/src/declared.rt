@@ -1,10 +1,10 @@
 ghost use Rattle.std.specs.Prelude.{◌≡◌, ◌≤◌, ◌<◌, ◌^◌, false, length};
 ghost use Rattle.std.specs.Option.{option_map_or};
-ghost use Rattle.soundness.specs.Joined.{prop};
+ghost use Rattle.round_trip.specs.soundness.Joined.{prop};
 ghost use Rattle.round_trip.specs.Words.{key_props, props_of};
 ghost use Rattle.cells.specs.Parts.{AreParts};
-ghost use Rattle.pattern_laws.specs.Allowed.{end_at};
-ghost use Rattle.default_values.specs.Defaults.{is_among, is_dependent, place_in};
+ghost use Rattle.region_laws.specs.pattern.Allowed.{end_at};
+ghost use Rattle.region_states.specs.defaults.Defaults.{is_among, is_dependent, place_in};
 ghost use Rattle.region_basis.specs.BasisOf.{basis_of};
 
 use cells::Parts;

@@ -1,11 +1,11 @@
 ghost use Rattle.std.specs.Prelude.{◌≡◌, IfOk};
 ghost use Rattle.cells.specs.Parts.{AreParts};
-ghost use Rattle.default_values.specs.Defaults.{alone, changed, default_valuation};
+ghost use Rattle.region_states.specs.defaults.Defaults.{alone, changed, default_valuation};
 ghost use Rattle.region_basis.specs.BasisOf.{basis_of};
 ghost use Rattle.region_states.specs.Entities.{focus_entity};
-ghost use Rattle.clash_laws.specs.ClashValues.{clash_values};
-ghost use Rattle.rival_laws.specs.RivalValues.{first_values, second_values};
-ghost use Rattle.same_laws.specs.SameValues.{with_one, with_other};
+ghost use Rattle.conflict_laws.specs.clash.ClashValues.{clash_values};
+ghost use Rattle.conflict_laws.specs.rival.RivalValues.{first_values, second_values};
+ghost use Rattle.conflict_laws.specs.same.SameValues.{with_one, with_other};
 
 use crate::changes::{Change, changed_entity};
 use crate::clashes::{changes_tried, differ};

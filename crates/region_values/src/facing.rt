@@ -7,7 +7,7 @@ ghost use Rattle.regions.specs.Basis.{Basis};
 ghost use Rattle.regions.specs.Settled.{settle};
 ghost use Rattle.conflicts.specs.Facts.{listed_in, lists};
 ghost use Rattle.conflicts.specs.SameFacts.{lists_anywhere};
-ghost use Rattle.rival_laws.specs.RivalValues.{faces_null, faces_null_in, is_null_cell};
+ghost use Rattle.conflict_laws.specs.rival.RivalValues.{faces_null, faces_null_in, is_null_cell};
 ghost use Rattle.region_values.specs.Rivals.{IsRival};
 
 use crate::rivals::Rival;

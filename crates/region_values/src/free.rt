@@ -3,7 +3,7 @@ ghost use Rattle.std.specs.List.{list_any};
 ghost use Rattle.emc_base.specs.Lists.{At};
 ghost use Rattle.state_demand.specs.Selecting.{same_value};
 ghost use Rattle.round_trip.specs.Words.{Bytes, Null};
-ghost use Rattle.default_values.specs.Candidates.{candidates, first_free, free_values, next_free};
+ghost use Rattle.region_states.specs.defaults.Candidates.{candidates, first_free, free_values, next_free};
 ghost use Rattle.region_values.specs.Free.{is_left};
 
 use crate::fresh::letter;

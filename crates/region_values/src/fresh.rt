@@ -1,7 +1,7 @@
 ghost use Rattle.std.specs.Prelude.{◌≡◌, ◌<◌, ◌^◌, IfOk, IfSome};
-ghost use Rattle.default_values.specs.Candidates.{letter};
-ghost use Rattle.default_values.specs.Defaults.{fresh_at};
-ghost use Rattle.default_values.specs.Fresh.{fresh};
+ghost use Rattle.region_states.specs.defaults.Candidates.{letter};
+ghost use Rattle.region_states.specs.defaults.Defaults.{fresh_at};
+ghost use Rattle.region_states.specs.defaults.Fresh.{fresh};
 
 use edm_types::EntityModel;
 use emc_base::{Kind, Memory, PropId, Txt, Value};

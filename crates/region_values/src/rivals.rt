@@ -3,11 +3,11 @@ ghost use Rattle.round_trip.specs.Words.{key_props};
 ghost use Rattle.cells.specs.Parts.{AreParts};
 ghost use Rattle.regions.specs.declared.pattern.Symbol.TheVariants as symbol;
 ghost use Rattle.regions.specs.Settled.{possible};
-ghost use Rattle.default_values.specs.Defaults.{changed, default_valuation};
+ghost use Rattle.region_states.specs.defaults.Defaults.{changed, default_valuation};
 ghost use Rattle.conflicts.specs.SameFacts.{is_multi, is_one_of, lists_anywhere};
 ghost use Rattle.region_basis.specs.BasisOf.{basis_of};
 ghost use Rattle.region_states.specs.Entities.{focus_entity};
-ghost use Rattle.rival_laws.specs.RivalValues.{rival_value};
+ghost use Rattle.conflict_laws.specs.rival.RivalValues.{rival_value};
 ghost use Rattle.region_values.specs.Rivals.{IsRival};
 
 use crate::declared::{is_among, key_props, props_of};

@@ -1,9 +1,9 @@
 ghost use Rattle.std.specs.Prelude.{◌≡◌, ◌<◌, ◌^◌, ◌&&◌, IfOk};
 ghost use Rattle.round_trip.specs.Words.{props_of};
 ghost use Rattle.cells.specs.Parts.{AreParts};
-ghost use Rattle.default_values.specs.Defaults.{is_dependent};
+ghost use Rattle.region_states.specs.defaults.Defaults.{is_dependent};
 ghost use Rattle.region_basis.specs.BasisOf.{basis_of};
-ghost use Rattle.rival_laws.specs.RivalValues.{group_place, in_one_group, shared_index, shared_value, tells_other};
+ghost use Rattle.conflict_laws.specs.rival.RivalValues.{group_place, in_one_group, shared_index, shared_value, tells_other};
 
 use crate::declared::{constants_of, group_of, is_dependent, props_of};
 use crate::free::first_free;

@@ -7,7 +7,7 @@ ghost use Rattle.regions.specs.declared.pattern.Symbol.TheVariants as symbol;
 ghost use Rattle.regions.specs.Patterns.{value_under};
 ghost use Rattle.regions.specs.Settled.{multi, of_atom, possible, settle, settled_by};
 ghost use Rattle.conflicts.specs.SameFacts.{is_multi};
-ghost use Rattle.rival_laws.specs.RivalValues.{is_null_cell};
+ghost use Rattle.conflict_laws.specs.rival.RivalValues.{is_null_cell};
 ghost use Rattle.region_basis.specs.BasisOf.{basis_of};
 ghost use Rattle.region_values.specs.Changes.{by_change};
 

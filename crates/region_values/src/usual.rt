@@ -2,7 +2,7 @@ ghost use Rattle.std.specs.Prelude.{◌≡◌, IfOk};
 ghost use Rattle.std.specs.Option.{option_copied};
 ghost use Rattle.cells.specs.Parts.{AreParts};
 ghost use Rattle.regions.specs.Atoms.{atom_at};
-ghost use Rattle.default_values.specs.Defaults.{declared_value, default_part, default_value, one_value, other_value, some_value, value_by};
+ghost use Rattle.region_states.specs.defaults.Defaults.{declared_value, default_part, default_value, one_value, other_value, some_value, value_by};
 ghost use Rattle.region_basis.specs.BasisOf.{basis_of};
 
 use crate::declared::{

@@ -10,3 +10,4 @@ pub mod Satisfies
 pub mod FailsAt
 pub mod RoundTrips
 pub mod Words
+pub mod soundness

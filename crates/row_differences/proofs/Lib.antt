@@ -7,3 +7,4 @@ pub mod NoDifference
 pub mod OfState
 mod OneTable
 mod SidedGroups
+mod Reordered

@@ -2,7 +2,7 @@ ghost use Rattle.std.specs.Prelude.{◌≡◌, ◌<◌, All, IfOk, length, map};
 ghost use Rattle.std.specs.Option.{option_copied};
 ghost use Rattle.edm_types.specs.Rows.{AreTables};
 ghost use Rattle.cells.specs.Cells.{is_free_in};
-ghost use Rattle.table_files.specs.InOrder.{AreToldApartBy};
+ghost use Rattle.table_files.specs.InOrder.{AreToldApartBy, lent_rows};
 ghost use Rattle.row_differences.specs.Differences.{TellsDifference};
 ghost use Rattle.row_differences.specs.InTable.{IsDifferenceOf, TellsInTable, TellsOfGroup};
 ghost use Rattle.row_differences.specs.SameButFree.{HasKeysWithin, HaveNullFreeCells, HaveRowsApart};
@@ -15,7 +15,7 @@ use edm_types::{Row, StoreModel, Table};
 use emc_base::{Memory, Place, TableId, Txt, Value};
 use row_groups::KeyGroup;
 use std::alloc::Global;
-use table_files::Tables;
+use table_files::{KeyOrder, Tables};
 
 /// A row in which tables differ.
 #[derive(Drop)]
@@ -50,9 +50,10 @@ pub fn first_difference(
         let id = TableId {
             index: index as u32,
         };
-        let held = tables.rows(id).as_slice();
-        let demanded = fresh.rows(id).as_slice();
-        let found = first_in_table(alloc, cells, id, store.tables.at(index), held, demanded)?;
+        let table = store.tables.at(index);
+        let held = KeyOrder::of(alloc, store, tables, id, &table.key)?;
+        let demanded = KeyOrder::of(alloc, store, fresh, id, &table.key)?;
+        let found = first_in_table(alloc, cells, id, table, &held, &demanded)?;
         if found.is_some() {
             return Ok(found);
         }
@@ -66,15 +67,15 @@ fn first_in_table(
     cells: &Cells,
     id: TableId,
     table: &Table,
-    held: &[Row],
-    demanded: &[Row],
+    held: &KeyOrder<'_>,
+    demanded: &KeyOrder<'_>,
 ) -> Result<Option<Difference>, Memory>
-    requires shape { All (λ row. length row.cells ≡ length table.now.cols) held.now }
-    requires demanded_shape { All (λ row. length row.cells ≡ length table.now.cols) demanded.now }
+    requires shape { All (λ row. length row.cells ≡ length table.now.cols) (lent_rows held.now) }
+    requires demanded_shape { All (λ row. length row.cells ≡ length table.now.cols) (lent_rows demanded.now) }
     requires within { All (λ col. col.index < length table.now.cols) table.now.key }
-    requires apart { AreToldApartBy table.now.key held.now }
-    requires demanded_apart { AreToldApartBy table.now.key demanded.now }
-    ensures { IfOk result (TellsInTable (is_free_in cells.now id) table.now held.now demanded.now) }
+    requires apart { AreToldApartBy table.now.key (lent_rows held.now) }
+    requires demanded_apart { AreToldApartBy table.now.key (lent_rows demanded.now) }
+    ensures { IfOk result (TellsInTable (is_free_in cells.now id) table.now (lent_rows held.now) (lent_rows demanded.now)) }
 {
     let groups = row_groups(alloc, table.key.as_slice(), held, demanded)?;
     for group in groups.as_slice() {

@@ -1,11 +1,13 @@
 ghost use Rattle.std.specs.Prelude.{◌≡◌, ◌↔◌, ◌<◌, ◌++◌, All, IfOk, IsTrue, length, map};
 ghost use Rattle.std.specs.Option.{option_copied};
 ghost use Rattle.row_differences.specs.Sides.{AreRowGroups, IsRowOf, keyed_row, shown_sided};
+ghost use Rattle.table_files.specs.InOrder.{lent_rows};
 
 use edm_types::Row;
 use emc_base::{ColId, Memory, Value};
 use row_groups::{KeyGroup, key_groups, lent_cells};
 use std::alloc::Global;
+use table_files::KeyOrder;
 
 // Which tables a row is of: those that are held, or the fresh ones, which are demanded.
 #[derive(Clone, Copy)]
@@ -47,12 +49,12 @@ pub(crate) fn row_of<'t>(rows: &[SidedRow<'t>], side: Side) -> Option<&'t Row>
 pub(crate) fn row_groups<'t>(
     alloc: Global,
     cols: &[ColId],
-    held: &'t [Row],
-    demanded: &'t [Row],
+    held: &KeyOrder<'t>,
+    demanded: &KeyOrder<'t>,
 ) -> Result<Vec<KeyGroup<'t, SidedRow<'t>>>, Memory>
-    requires within { All (λ row. All (λ col. col.index < length row.cells) cols.now) held.now }
-    requires demanded_within { All (λ row. All (λ col. col.index < length row.cells) cols.now) demanded.now }
-    ensures { IfOk result (λ groups. AreRowGroups cols.now held.now demanded.now groups.items) }
+    requires within { All (λ row. All (λ col. col.index < length row.cells) cols.now) (lent_rows held.now) }
+    requires demanded_within { All (λ row. All (λ col. col.index < length row.cells) cols.now) (lent_rows demanded.now) }
+    ensures { IfOk result (λ groups. AreRowGroups cols.now (lent_rows held.now) (lent_rows demanded.now) groups.items) }
 {
     let mut keyed = Vec::new(alloc);
     add_rows(alloc, &mut keyed, Side::Held, cols, held)?;
@@ -67,12 +69,13 @@ fn add_rows<'t>(
     keyed: &mut Vec<(Vec<&'t Value>, SidedRow<'t>)>,
     side: Side,
     cols: &[ColId],
-    rows: &'t [Row],
+    rows: &KeyOrder<'t>,
 ) -> Result<(), Memory>
-    requires { All (λ row. All (λ col. col.index < length row.cells) cols.now) rows.now }
-    ensures { IfOk result (λ _. map shown_sided keyed.new.items ≡ map shown_sided keyed.old.items ++ map (keyed_row side cols.now) rows.now) }
+    requires { All (λ row. All (λ col. col.index < length row.cells) cols.now) (lent_rows rows.now) }
+    ensures { IfOk result (λ _. map shown_sided keyed.new.items ≡ map shown_sided keyed.old.items ++ map (keyed_row side cols.now) (lent_rows rows.now)) }
 {
-    for row in rows {
+    for i in 0..rows.len() {
+        let row = rows.row(i);
         let key = lent_cells(alloc, row, cols)?;
         keyed.push((key, SidedRow { side, row }))?;
     }

@@ -11,9 +11,9 @@ use Rattle.emc_base.proofs.Lists.{item_at}
 use Rattle.emc_base.proofs.Mapped.{contains_at}
 use Rattle.emc_base.proofs.Numbered.{enumerated_at}
 use Rattle.round_trip.specs.Words.{SetId, TableId, ColId, PropId, Null, EntityModel}
-use Rattle.soundness.specs.Joined.{IsNoKey, col, prop}
-use Rattle.soundness.specs.Joined as joined
-use Rattle.soundness.specs.Stores.{IsColId}
+use Rattle.round_trip.specs.soundness.Joined.{IsNoKey, col, prop}
+use Rattle.round_trip.specs.soundness.Joined as joined
+use Rattle.round_trip.specs.soundness.Stores.{IsColId}
 use Rattle.condition_logic.specs.declared.atoms.Atom.TheVariants as atom
 use Rattle.joined_groups.proofs.Grouping.{joined_free}
 use Rattle.state_demand.specs.Selecting.{same_value}
@@ -32,15 +32,15 @@ use Rattle.regions.specs.Settled.{Possible, Settled, free, is_nullable, known, m
 use Rattle.regions.specs.Symbols.{region_writings}
 use Rattle.region_laws.specs.IsBasis.{IsBasis}
 use Rattle.symbolic_rows.proofs.Placed.{number_is, same_images}
-use Rattle.pattern_laws.specs.Listed.{HasCell}
-use Rattle.pattern_laws.proofs.Cells.{cell_of as made_cell}
-use Rattle.pattern_laws.proofs.Groups.{is_tested, joined_tested, told_tested}
-use Rattle.pattern_laws.proofs.Laws.{listed_from}
-use Rattle.pattern_laws.proofs.Regions.{atom_there}
-use Rattle.pattern_laws.proofs.Standing.{StandsFree, StandsInKey, joined_by, listed_prop, prop_stands}
+use Rattle.region_laws.specs.pattern.Listed.{HasCell}
+use Rattle.region_laws.proofs.pattern.Cells.{cell_of as made_cell}
+use Rattle.region_laws.proofs.pattern.Groups.{is_tested, joined_tested, told_tested}
+use Rattle.region_laws.proofs.pattern.Laws.{listed_from}
+use Rattle.region_laws.proofs.pattern.Regions.{atom_there}
+use Rattle.region_laws.proofs.pattern.Standing.{StandsFree, StandsInKey, joined_by, listed_prop, prop_stands}
 use Rattle.conflicts.specs.SameFacts.{are_compatible, match_all, rows_match, settled_cells}
-use Rattle.rival_laws.specs.Alike.{PatternsMatch}
-use Rattle.rival_laws.proofs.Atoms.{open_atom}
+use Rattle.conflict_laws.specs.rival.Alike.{PatternsMatch}
+use Rattle.conflict_laws.proofs.rival.Atoms.{open_atom}
 use Rattle.same_conflicts.specs.Forms.{HasColumns, form_of, held, held_at, row_form}
 use Rattle.same_conflicts.specs.declared.forms.Held.TheVariants.{Unsure, Known}
 use Rattle.same_conflicts.proofs.Walked.{images_match, match_mapped, match_place, match_sizes}

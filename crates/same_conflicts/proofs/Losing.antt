@@ -11,7 +11,7 @@ use Rattle.regions.specs.Patterns.{pattern_of}
 use Rattle.regions.specs.Settled.{possible}
 use Rattle.region_laws.proofs.Symbols.{Decides-prop}
 use Rattle.state_demand.proofs.Lists.{Decides-any, any_of, of_any}
-use Rattle.pattern_laws.proofs.Choices.{found_passes, none_passes}
+use Rattle.region_laws.proofs.pattern.Choices.{found_passes, none_passes}
 use Rattle.conflicts.specs.SameFacts.{is_lost, is_multi, is_one_of, lists_anywhere}
 use Rattle.same_conflicts.specs.declared.written.Written.{Written}
 use Rattle.same_conflicts.specs.Lost.{is_lost_by}

@@ -21,11 +21,11 @@ use Rattle.region_laws.specs.IsBasis.{IsBasis}
 use Rattle.region_laws.proofs.Apart.{regions_apart}
 use Rattle.region_laws.proofs.Found.{place_of}
 use Rattle.region_laws.proofs.Symbols.{Decides-assoc}
-use Rattle.pattern_laws.proofs.Regions.{parts_of}
+use Rattle.region_laws.proofs.pattern.Regions.{parts_of}
 use Rattle.conflicts.specs.SameFacts.{are_compatible, are_rivals, match_all, rows_match, same_region, settled_cells}
-use Rattle.rival_laws.proofs.Clear.{compatible_back}
-use Rattle.rival_laws.proofs.Matching.{match_same}
-use Rattle.rival_laws.proofs.Told.{told_one, told_same}
+use Rattle.conflict_laws.proofs.rival.Clear.{compatible_back}
+use Rattle.conflict_laws.proofs.rival.Matching.{match_same}
+use Rattle.conflict_laws.proofs.rival.Told.{told_one, told_same}
 use Rattle.same_conflicts.specs.declared.forms.Form.{Form}
 use Rattle.same_conflicts.specs.declared.rivals.Rivals.{Rivals}
 use Rattle.same_conflicts.specs.declared.written.Written.{Written}

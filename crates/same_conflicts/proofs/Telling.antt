@@ -10,7 +10,7 @@ use Rattle.regions.specs.declared.region.Region.{Region}
 use Rattle.regions.specs.declared.pattern.Pattern.{Pattern}
 use Rattle.regions.specs.Basis.{Basis}
 use Rattle.regions.specs.Regions.{regions_of}
-use Rattle.pattern_laws.proofs.Choices.{found_passes, none_passes}
+use Rattle.region_laws.proofs.pattern.Choices.{found_passes, none_passes}
 use Rattle.conflicts.specs.Conflicts.{IsConflictAt}
 use Rattle.conflicts.specs.SameFacts.{are_rivals, is_absent, is_lost}
 use Rattle.conflicts.specs.declared.conflict.Conflict.{Conflict}

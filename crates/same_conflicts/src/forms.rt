@@ -2,8 +2,8 @@ ghost use Rattle.std.specs.Prelude.{◌≡◌, ◌<◌, Contains, IfOk, length, 
 ghost use Rattle.std.specs.List.{enumerate_from};
 ghost use Rattle.cells.specs.Parts.{AreParts};
 ghost use Rattle.regions.specs.Settled.{settle};
-ghost use Rattle.soundness.specs.Joined.{col};
-ghost use Rattle.soundness.specs.Stores.{IsColId};
+ghost use Rattle.round_trip.specs.soundness.Joined.{col};
+ghost use Rattle.round_trip.specs.soundness.Stores.{IsColId};
 ghost use Rattle.region_basis.specs.BasisOf.{basis_of};
 ghost use Rattle.same_conflicts.specs.Forms.{HasColumns, form_of, held, held_at, row_form, shown_form, shown_row};
 ghost use Rattle.same_conflicts.specs.Written.{IsWritten};

@@ -12,10 +12,10 @@ use Rattle.base_chains.proofs.Chains.{chain_step, ends}
 use Rattle.edm_types.specs.Forest.{type_numbered}
 use Rattle.edm_types.specs.IsA as is
 use Rattle.round_trip.specs.Words.{EntityModel, EntityType, TypeId, PropId, HasBase, props_of}
-use Rattle.soundness.specs.Inheritance.{declared_props}
-use Rattle.soundness.specs.Lookups.{IsAncestor as IsAbove}
-use Rattle.soundness.specs.ModelIds.{IsTypeId}
-use Rattle.soundness.specs.Models.{IsSoundModel}
+use Rattle.round_trip.specs.soundness.Inheritance.{declared_props}
+use Rattle.round_trip.specs.soundness.Lookups.{IsAncestor as IsAbove}
+use Rattle.round_trip.specs.soundness.ModelIds.{IsTypeId}
+use Rattle.round_trip.specs.soundness.Models.{IsSoundModel}
 use Rattle.sound_types.proofs.Once.{names_once}
 use Rattle.schema_names.specs.Inherited.{InheritsProps, base_place}
 use Rattle.schema_names.specs.SchemaNames.{has_name, own_prop, prop_named}

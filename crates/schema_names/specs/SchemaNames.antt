@@ -6,7 +6,7 @@ use Rattle.std.specs.Option.{option_and_then, option_map_or, option_or}
 use Rattle.std.specs.Str.{bytes_eq}
 use Rattle.round_trip.specs.Words.{EntityModel, Assoc, StoreModel, Column, Table, PropId, At, props_of}
 use Rattle.edm_types.specs.Forest.{type_numbered}
-use Rattle.soundness.specs.Inheritance.{declared_props}
+use Rattle.round_trip.specs.soundness.Inheritance.{declared_props}
 use Rattle.name_places.specs.GivenNames.{first_place}
 use Rattle.csdl_lists.specs.References.{rest_of}
 use Rattle.schema_names.specs.declared.ends.WhichEnd.{WhichEnd}

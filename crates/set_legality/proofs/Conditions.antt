@@ -2,7 +2,7 @@
 use Rattle.std.proofs.Common.{List, All, get_or, subst, sym}
 use Rattle.emc_base.proofs.Mapped.{contains_at}
 use Rattle.round_trip.specs.Words.{EntityModel, EntitySet, Entity, Prop, PropId, Value, props_of, value_of, HasAllowedNulls, HasFittingType, HasProp, HasValuesInDomain, IsLegalSet}
-use Rattle.soundness.specs.Models.{IsSoundModel}
+use Rattle.round_trip.specs.soundness.Models.{IsSoundModel}
 use Rattle.breach_order.proofs.Turns.{all_as}
 use Rattle.set_legality.specs.Props.{FitsProp, FitsProps}
 use Rattle.set_legality.specs.Tells.{FitsSet, KeysApart}

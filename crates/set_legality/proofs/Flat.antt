@@ -6,7 +6,7 @@ use Rattle.least_fault.specs.Least.{Among, IsLeast}
 use Rattle.least_fault.proofs.Leasts.{least_same}
 use Rattle.round_trip.specs.Words.{Value, Null, place_at, EntityModel, EntitySet, Prop, PropId, Entity, State, entities_in, key_of, props_of}
 use Rattle.round_trip.specs.Breaches.{StandsAtProp, BreaksKey, BreaksType}
-use Rattle.soundness.specs.Models.{IsSoundModel}
+use Rattle.round_trip.specs.soundness.Models.{IsSoundModel}
 use Rattle.breach_order.specs.Founds.{found_cmp}
 use Rattle.breach_order.specs.declared.found.Found.{Found}
 use Rattle.breach_order.proofs.Finds.{at_map, at_of_map, from_parts}

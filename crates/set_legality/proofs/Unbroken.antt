@@ -6,7 +6,7 @@ use Rattle.emc_base.specs.Lists.{At}
 use Rattle.emc_base.proofs.Lists.{at_once}
 use Rattle.round_trip.specs.Words.{EntityModel, EntitySet, EntityType, Entity, Prop, PropId, TypeId, Value, Null, State, place_at, entities_in, key_of, props_of, value_of, HasAllowedNulls, HasFittingType, HasProp, HasValuesInDomain, InDomain, IsA, IsConcrete, IsLegalSet}
 use Rattle.round_trip.specs.Breaches.{StandsAtProp}
-use Rattle.soundness.specs.Models.{IsSoundModel}
+use Rattle.round_trip.specs.soundness.Models.{IsSoundModel}
 use Rattle.sound_types.proofs.Deciding.{derived_or_not}
 use Rattle.breach_order.specs.declared.found.Found.{Found}
 use Rattle.breach_order.proofs.Domains.{domain_decided}

@@ -1,7 +1,7 @@
 ghost use Rattle.std.specs.Prelude.{◌↔◌, IfOk};
 ghost use Rattle.least_fault.specs.Least.{Among, IsLeast};
 ghost use Rattle.round_trip.specs.Words.{EntityModel, State};
-ghost use Rattle.soundness.specs.Models.{IsSoundModel};
+ghost use Rattle.round_trip.specs.soundness.Models.{IsSoundModel};
 ghost use Rattle.breach_order.specs.Founds.{found_cmp};
 ghost use Rattle.breach_order.specs.declared.found.Found.{Found};
 ghost use Rattle.set_legality.specs.Found.{IsSetBreach};

@@ -1,6 +1,6 @@
 ghost use Rattle.std.specs.Prelude.{◌≡◌, ◌↔◌, ◌<◌, All, IsTrue, length};
 ghost use Rattle.round_trip.specs.Words.{HasFittingType, IsLegalSet, key_of};
-ghost use Rattle.soundness.specs.Models.{IsSoundModel};
+ghost use Rattle.round_trip.specs.soundness.Models.{IsSoundModel};
 ghost use Rattle.breach_order.specs.Repeats.{IsRepeat};
 ghost use Rattle.set_legality.specs.Props.{FitsAt, FitsProps};
 ghost use Rattle.set_legality.specs.Tells.{AreLegalSets, FitsSet, HaveLegalSets, KeysApart};

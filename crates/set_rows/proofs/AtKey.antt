@@ -8,8 +8,8 @@ use Rattle.emc_base.proofs.Mapped.{contains_at}
 use Rattle.filled_rows.proofs.Pairs.{pairs_append}
 use Rattle.region_laws.proofs.Choices.{pairs_nil}
 use Rattle.round_trip.specs.Words.{SetId, TableId, Value, Pair, Row, Schema, Table, Tables, At, AreLegalTables, cells_of, rows_in, row_key, value_beside}
-use Rattle.soundness.specs.Lookups.{set_key}
-use Rattle.soundness.specs.Mappings.{IsSoundSchema}
+use Rattle.round_trip.specs.soundness.Lookups.{set_key}
+use Rattle.round_trip.specs.soundness.Mappings.{IsSoundSchema}
 use Rattle.state_demand.proofs.Fitting.{key_is}
 use Rattle.state_demand.proofs.Lists.{head_stands, same_by_key}
 use Rattle.region_cases.specs.Meets.{StandsAtKey}

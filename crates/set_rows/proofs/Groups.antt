@@ -15,7 +15,7 @@ use Rattle.emc_base.specs.Order.{value_cmp}
 use Rattle.emc_base.specs.OrderLaws.{key_cmp_apart}
 use Rattle.item_groups.proofs.Keyed.{is_equal}
 use Rattle.round_trip.specs.Words.{SetId, TableId, Value, Row, Schema, Tables}
-use Rattle.soundness.specs.Lookups.{set_key}
+use Rattle.round_trip.specs.soundness.Lookups.{set_key}
 use Rattle.region_cases.specs.Meets.{StandsAtKey}
 use Rattle.state_demand.proofs.Lists.{head_stands}
 use Rattle.state_demand.proofs.Owners.{pairs_from_map}

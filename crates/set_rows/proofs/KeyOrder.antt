@@ -9,9 +9,10 @@ use Rattle.std.proofs.lemmas.Slice.Zip.{AllZip-long}
 use Rattle.emc_base.specs.Lists.{AreApart, HoldsEachOnce}
 use Rattle.emc_base.proofs.Lists.{all_from_members}
 use Rattle.emc_base.proofs.Mapped.{contains_at, contains_map}
+use Rattle.emc_base.proofs.Numbered.{map_contains}
 use Rattle.round_trip.specs.Words.{SetId, TableId, ColId, PropId, Value, Pair, Row, Schema, Table, Tables, At, cell_of, cells_of, row_key, rows_in, value_beside, key_columns}
-use Rattle.soundness.specs.Lookups.{set_key}
-use Rattle.soundness.specs.Mappings.{IsSoundSchema}
+use Rattle.round_trip.specs.soundness.Lookups.{set_key}
+use Rattle.round_trip.specs.soundness.Mappings.{IsSoundSchema}
 use Rattle.region_cases.specs.Meets.{StandsAtKey}
 use Rattle.state_demand.specs.Owners.{props_in}
 use Rattle.state_demand.specs.WellWritten.{cols_of}
@@ -25,7 +26,7 @@ use Rattle.sound_demand.proofs.Pairing.{key_of_set}
 use Rattle.case_laws.proofs.Beside.{same_beside}
 use Rattle.case_laws.proofs.Keys.{key_cells}
 use Rattle.set_rows.specs.Owning.{IsBeside, IsKeyOrder, IsTableKey, Owning}
-use Rattle.set_rows.proofs.Zips.{beside_zip, zip_second, zip_turned}
+use Rattle.set_rows.proofs.Zips.{beside_zip, zip_first, zip_second, zip_turned}
 
 -- a property and a column of a pairing at one place are one of its pairs
 paired_at : (pairing : List Pair) (i : ℕ) (prop : PropId) (col : ColId) → At (props_in pairing) i prop → At (cols_of pairing) i col
@@ -92,6 +93,19 @@ module _ (schema : Schema) (sound : IsSoundSchema schema) (t : TableId) (s : Set
         let pair : Pair = record { prop = found.0; col = col } in
         All-contains (λ (one : ColId). one.index < length table.cols) table.key col inside
         (subst (λ cols. Contains cols col) (cols_are table here) (contains_map (λ (one : Pair). one.col) own.pairing pair found.1)))
+
+    -- each column of the primary key is among them
+    pub names : All (Contains order) (key_columns schema.store t)
+    names = all_from_members (Contains order) (key_columns schema.store t) (λ col has.
+        let prop : Pair → PropId = λ one. one.prop in
+        let found = map_contains (λ (one : Pair). one.col) own.pairing col (subst (λ cols. Contains cols col) (sym own.owned.cols) has) in
+        let pair : Pair = found.0 in
+        let among : Contains (set_key schema.model s) pair.prop = All-contains (Contains (set_key schema.model s)) (props_in own.pairing) pair.prop whole.only
+        (contains_map prop own.pairing pair found.1) in
+        let beside = zip_first Paired (set_key schema.model s) order pair.prop zip among in
+        let other : Pair = record { prop = pair.prop; col = beside.0 } in
+        let same : other ≡ pair = same_by_key prop own.pairing other pair (pairs_from_map (λ (a b : PropId). a ≢ b) prop own.pairing whole.once) beside.2 found.1 refl in
+        subst (Contains order) (ap (λ (one : Pair). one.col) same ∙ found.2) beside.1)
 
     -- the primary key of a row is by its cells in this order
     pub key_by_order : (table : Table) → At schema.store.tables t.index table → (row : Row)

@@ -2,9 +2,9 @@
 use Rattle.std.proofs.Common.{◌≡◌, ◌↔◌, inl, inr, ◌<◌, List, length, Option, Some, None, ap, subst, sym}
 use Rattle.emc_base.proofs.Lists.{item_at}
 use Rattle.round_trip.specs.Words.{SetId, AssocId, TableId, Fragment, LinkFragment, Pair, Schema, IsWritten}
-use Rattle.soundness.specs.Mappings.{IsSoundSchema}
-use Rattle.soundness.specs.Owners.{Owns}
-use Rattle.soundness.specs.Owners as sound_owner
+use Rattle.round_trip.specs.soundness.Mappings.{IsSoundSchema}
+use Rattle.round_trip.specs.soundness.Owners.{Owns}
+use Rattle.round_trip.specs.soundness.Owners as sound_owner
 use Rattle.state_demand.specs.Owners.{IsOwned}
 use Rattle.state_demand.proofs.Lists.{any_of}
 use Rattle.sound_demand.proofs.OneOwner.{one_owner, owned_or_joined}

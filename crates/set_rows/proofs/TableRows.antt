@@ -1,20 +1,27 @@
 -- The rows of a table that a set owns, each with its key, and those of one table more.
-use Rattle.std.proofs.Common.{◌≡◌, ◌≢◌, ◌<◌, ◌+◌, ⊎_elim, List, [], ◌++◌, Option, append-nil, length, map, get_or, All, Contains, refl, sym, ap, subst, ◌∙◌, arith}
+use Rattle.std.proofs.Common.{◌≡◌, ◌≢◌, ◌<◌, ◌+◌, ⊎_elim, List, [], ◌++◌, Option, append-nil, length, map, get_or, All, AllPairs, Contains, IsPermutation, refl, sym, ap, subst, ◌∙◌, arith}
+use Rattle.std.specs.Cmp.{tied_itself}
+use Rattle.std.specs.Cmp.Lexicographic.{slice_cmp}
+use Rattle.std.specs.declared.cmp.Ordering.TheVariants.{Less, Equal}
 use Rattle.std.proofs.lemmas.Bool.{cases_lt}
 use Rattle.std.proofs.lemmas.List.Elements.{All-append, All-contains, All-map, All-nil, Contains-append_left, Contains-append_right}
+use Rattle.std.proofs.lemmas.List.Sorted.{All-permutation, Contains-permutation, IsPermutation-sym}
+use Rattle.emc_base.specs.Order.{value_cmp}
+use Rattle.emc_base.specs.OrderLaws.{key_cmp_total}
 use Rattle.emc_base.proofs.Lists.{all_from_members}
 use Rattle.emc_base.proofs.Mapped.{contains_map}
 use Rattle.emc_base.proofs.Numbered.{all_pairs_map}
 use Rattle.filled_rows.proofs.Pairs.{pairs_append}
 use Rattle.region_laws.proofs.Choices.{pairs_nil}
-use Rattle.round_trip.specs.Words.{SetId, TableId, ColId, Value, Pair, Row, Schema, Table, Tables, At, AreLegalTables, rows_in, cells_of, value_beside}
-use Rattle.soundness.specs.Lookups.{set_key}
-use Rattle.soundness.specs.Mappings.{IsSoundSchema}
+use Rattle.round_trip.specs.Words.{SetId, TableId, ColId, Value, Row, Schema, Table, Tables, At, AreLegalTables, rows_in, cells_of, key_columns}
+use Rattle.round_trip.specs.soundness.Mappings.{IsSoundSchema}
 use Rattle.table_writers.specs.declared.writer.Owner.{Owner}
 use Rattle.table_owners.specs.Owners.{TellsOwner}
+use Rattle.state_demand.proofs.Fitting.{key_is}
+use Rattle.table_files.specs.InOrder.{AreToldApartBy}
 use Rattle.set_rows.specs.Owning.{IsOwnedBy, IsKeyOrder}
 use Rattle.set_rows.specs.Keyed.{AddsRowsOf, AreKeyedRows, AreKeyedRowsOf, IsKeyed, KeyedRow, keyed_row}
-use Rattle.set_rows.proofs.KeyOrder.{by_order, key_by_order, long, order_of, within}
+use Rattle.set_rows.proofs.KeyOrder.{by_order, long, order_of, within}
 use Rattle.set_rows.proofs.Owners.{owned_by}
 
 -- of one key, in tables that rise
@@ -35,29 +42,43 @@ module _ (schema : Schema) (sound : IsSoundSchema schema) (tables : Tables) (leg
         let size : length row.cells ≡ length table.cols = All-contains Fits (rows_in tables t) row (legal.shape.rows t table here) has in
         subst (λ n. All (λ (col : ColId). col.index < n) order) (sym size) (within schema sound t s is.0 order is.1 table here))
 
-    -- the rows with their cells in these columns are those at keys of the set
-    pub rows_of : AreKeyedRowsOf schema tables s t (map (keyed_row t order) (rows_in tables t))
-    rows_of =
-        let rows : List Row = rows_in tables t in
-        let keyed : Row → KeyedRow = keyed_row t order in
-        let Apart : KeyedRow → KeyedRow → Type 0 = λ one other. one.0 ≢ other.0 in
-        record {
-          keyed = All-map (IsKeyed schema tables s) keyed rows (all_from_members (λ (row : Row). IsKeyed schema tables s (keyed row)) rows (λ row has.
-              record { whole = long schema sound t s is.0 order is.1 row; stands = by_order schema sound t s is.0 order is.1 tables table here row has }));
-          table = All-map (λ (one : KeyedRow). one.1.0 ≡ t) keyed rows (all_from_members (λ (row : Row). t ≡ t) rows (λ row has. refl));
-          all = λ key held is_keyed.
-              let same : cells_of held order ≡ key = order_of schema sound t s is.0 order is.1 tables key is_keyed.whole held is_keyed.stands in
-              subst (λ k. Contains (map keyed rows) (k, (t, held))) same (contains_map keyed rows held is_keyed.stands.stands);
-          apart = all_pairs_map Apart keyed rows (λ i j d below inside same.
-              let key_of : List Value → List Value = λ key. map (λ (pair : Pair). value_beside pair.prop (set_key schema.model s) key) is.0.pairing in
-              (legal.rows t table here).keys i j d below inside
-              (key_by_order schema sound t s is.0 order is.1 table here (get_or rows i d) ∙ ap key_of same
-              ∙ sym (key_by_order schema sound t s is.0 order is.1 table here (get_or rows j d))));
-        }
+    -- the columns of the primary key tell the rows apart
+    pub rows_apart : AreToldApartBy (key_columns schema.store t) (rows_in tables t)
+    rows_apart = subst (λ cols. AreToldApartBy cols (rows_in tables t)) (sym (key_is schema.store t table here)) (legal.rows t table here).keys
 
-    -- so they are added
-    pub adds_rows : (before after : List KeyedRow) → after ≡ before ++ map (keyed_row t order) (rows_in tables t) → AddsRowsOf schema tables s t before after
-    adds_rows before after are = record { added = map (keyed_row t order) (rows_in tables t); after_is = are; are = rows_of }
+    module _ (sorted : List Row) (same : IsPermutation (rows_in tables t) sorted)
+        (rising : AllPairs (λ (row later : Row). slice_cmp value_cmp (cells_of row order) (cells_of later order) ≡ Less) sorted) where
+      abbrev keyed : Row → KeyedRow
+      keyed = keyed_row t order
+
+      -- in another order they are as long
+      pub in_sorted : All (λ row. All (λ col. col.index < length row.cells) order) sorted
+      in_sorted = All-permutation (λ (row : Row). All (λ col. col.index < length row.cells) order) (rows_in tables t) sorted same in_rows
+
+      stands : (row : Row) → Contains sorted row → Contains (rows_in tables t) row
+      stands row has = Contains-permutation sorted (rows_in tables t) row (IsPermutation-sym (rows_in tables t) sorted same) has
+
+      -- keys that rise are different
+      differ : (one later : List Value) → slice_cmp value_cmp one later ≡ Less → one ≢ later
+      differ one later less same_key = (let never : Less ≡ Equal = sym less ∙ ap (slice_cmp value_cmp one) (sym same_key) ∙ tied_itself key_cmp_total one in cc)
+
+      -- the rows with their cells in these columns are those at keys of the set
+      rows_of : AreKeyedRowsOf schema tables s t (map keyed sorted)
+      rows_of = record {
+        keyed = All-map (IsKeyed schema tables s) keyed sorted (all_from_members (λ (row : Row). IsKeyed schema tables s (keyed row)) sorted (λ row has.
+            record { whole = long schema sound t s is.0 order is.1 row; stands = by_order schema sound t s is.0 order is.1 tables table here row (stands row has) }));
+        table = All-map (λ (one : KeyedRow). one.1.0 ≡ t) keyed sorted (all_from_members (λ (row : Row). t ≡ t) sorted (λ row has. refl));
+        all = λ key held is_keyed.
+            let is_key : cells_of held order ≡ key = order_of schema sound t s is.0 order is.1 tables key is_keyed.whole held is_keyed.stands in
+            subst (λ k. Contains (map keyed sorted) (k, (t, held))) is_key
+            (contains_map keyed sorted held (Contains-permutation (rows_in tables t) sorted held same is_keyed.stands.stands));
+        apart = all_pairs_map (λ (one other : KeyedRow). one.0 ≢ other.0) keyed sorted
+            (λ i j d below inside. differ (cells_of (get_or sorted i d) order) (cells_of (get_or sorted j d) order) (rising i j d below inside));
+      }
+
+      -- so they are added
+      pub adds_rows : (before after : List KeyedRow) → after ≡ before ++ map keyed sorted → AddsRowsOf schema tables s t before after
+      adds_rows before after are = record { added = map keyed sorted; after_is = are; are = rows_of }
 
   -- of a table that the set doesn't own nothing is added
   pub adds_none : (found : Option Owner) → TellsOwner schema t found → ¬ IsOwnedBy schema t s → (rows : List KeyedRow) → AddsRowsOf schema tables s t rows rows

@@ -4,7 +4,7 @@ use Rattle.std.specs.List.{AllZip}
 use Rattle.std.proofs.lemmas.Bool.Decides.{not_from_Decides}
 use Rattle.round_trip.specs.Words.{PropId, ColId, Value, value_beside}
 use Rattle.region_laws.proofs.Symbols.{Decides-prop}
-use Rattle.state_demand.proofs.Lists.{member_cases, none_in_nil}
+use Rattle.state_demand.proofs.Lists.{head_stands, member_cases, none_in_nil, tail_stands}
 use Rattle.case_laws.proofs.Beside.{beside_first, beside_later}
 
 module _ {X Y : Type 0} (R : X → Y → Type 0) where
@@ -23,6 +23,15 @@ module _ {X Y : Type 0} (R : X → Y → Type 0) where
       (λ (here : y ≡ w). (x, subst (R x) (sym here) all.0))
       (λ (later : Contains ys y). zip_second xs ys y all.1 later)
       (member_cases w ys y has)
+
+  -- and one of the first has one of the second
+  pub zip_first : (xs : List X) (ys : List Y) (x : X) → AllZip R xs ys → Contains xs x → (y : Y) × Contains ys y × R x y
+  zip_first [] ys x all has = absurd (none_in_nil x has)
+  zip_first (z ∷ xs) [] x all has = absurd all
+  zip_first (z ∷ xs) (y ∷ ys) x all has = ⊎_elim
+      (λ (here : x ≡ z). (y, head_stands y ys, subst (λ w. R w y) (sym here) all.0))
+      (λ (later : Contains xs x). let rest = zip_first xs ys x all.1 later in (rest.0, tail_stands y ys rest.0 rest.1, rest.2))
+      (member_cases z xs x has)
 
   -- what agrees so agrees in another way
   pub zip_turned : (S : X → Y → Type 0) → ((x : X) (y : Y) → R x y → S x y) → (xs : List X) (ys : List Y) → AllZip R xs ys → AllZip S xs ys

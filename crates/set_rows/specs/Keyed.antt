@@ -4,7 +4,7 @@ use Rattle.std.specs.Prelude.{◌≡◌, ◌≢◌, ◌<◌, ◌++◌, ℕ, List
 use Rattle.std.specs.Borrow.{Bor}
 use Rattle.std.specs.Global.{Vec}
 use Rattle.round_trip.specs.Words.{SetId, TableId, ColId, Value, Schema, Row, Tables, cells_of}
-use Rattle.soundness.specs.Lookups.{set_key}
+use Rattle.round_trip.specs.soundness.Lookups.{set_key}
 use Rattle.region_cases.specs.Meets.{StandsAtKey}
 use Rattle.row_groups.specs.Shown.{shown_cells}
 use Rattle.candidates.specs.Rows.{shown_row}

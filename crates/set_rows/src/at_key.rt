@@ -3,7 +3,7 @@ ghost use Rattle.std.specs.Option.{option_copied};
 ghost use Rattle.candidates.specs.Rows.{AreRowsAt, shown_rows};
 ghost use Rattle.cells.specs.Parts.{AreParts, schema_in};
 ghost use Rattle.round_trip.specs.Words.{AreLegalTables};
-ghost use Rattle.soundness.specs.Lookups.{set_key};
+ghost use Rattle.round_trip.specs.soundness.Lookups.{set_key};
 ghost use Rattle.set_rows.specs.AtKey.{IsRowAt, in_table};
 
 use crate::owning::{is_owned_by, table_key};

@@ -4,15 +4,15 @@ ghost use Rattle.row_groups.specs.Shown.{shown_group};
 ghost use Rattle.round_trip.specs.Words.{AreLegalTables};
 ghost use Rattle.set_rows.specs.Keyed.{AddsRowsOf, AreKeyedRows, keyed_row, shown_keyed_rows};
 ghost use Rattle.set_rows.specs.SetRows.{AreSetRows};
+ghost use Rattle.table_files.specs.InOrder.{lent_rows};
 
 use crate::owning::{is_owned_by, key_order};
 use candidates::PlacedRow;
 use cells::Parts;
-use edm_types::Row;
-use emc_base::{ColId, Memory, SetId, TableId, Value};
+use emc_base::{ColId, Memory, Seq, SetId, TableId, Value};
 use row_groups::{KeyGroup, key_groups, lent_cells};
 use std::alloc::Global;
-use table_files::Tables;
+use table_files::{KeyOrder, Tables};
 
 /// The rows of the tables that an entity set owns, by the keys of its entities, in the order of these keys; those of one key in the order of tables.
 /// `Memory` comes where memory ran out.
@@ -52,7 +52,7 @@ fn keyed_rows<'t>(
     Ok(keyed)
 }
 
-// Adds the rows of one table, if the set owns it.
+// Adds the rows of one table in the order of the set's keys, if the set owns it. So keys that are neighbours lie close together in memory.
 fn add_table<'t>(
     alloc: Global,
     keyed: &mut Vec<(Vec<&'t Value>, PlacedRow<'t>)>,
@@ -69,23 +69,24 @@ fn add_table<'t>(
     if !is_owned_by(parts, table, set) {
         return Ok(());
     }
-    let order = key_order(alloc, parts, table, set)?;
-    let rows = tables.rows(table).as_slice();
-    add_rows(alloc, keyed, table, rows, order.as_slice())
+    let order = Seq::from_vec(key_order(alloc, parts, table, set)?)?;
+    let rows = KeyOrder::of(alloc, parts.store, tables, table, &order)?;
+    add_rows(alloc, keyed, table, &rows, order.as_slice())
 }
 
-// Adds rows of a table, each with its cells in some columns.
+// Adds rows of a table in their order, each with its cells in some columns.
 fn add_rows<'t>(
     alloc: Global,
     keyed: &mut Vec<(Vec<&'t Value>, PlacedRow<'t>)>,
     table: TableId,
-    rows: &'t [Row],
+    rows: &KeyOrder<'t>,
     order: &[ColId],
 ) -> Result<(), Memory>
-    requires { All (λ row. All (λ col. col.index < length row.cells) order.now) rows.now }
-    ensures { IfOk result (λ _. shown_keyed_rows keyed.new.items ≡ shown_keyed_rows keyed.old.items ++ map (keyed_row table order.now) rows.now) }
+    requires { All (λ row. All (λ col. col.index < length row.cells) order.now) (lent_rows rows.now) }
+    ensures { IfOk result (λ _. shown_keyed_rows keyed.new.items ≡ shown_keyed_rows keyed.old.items ++ map (keyed_row table order.now) (lent_rows rows.now)) }
 {
-    for row in rows {
+    for i in 0..rows.len() {
+        let row = rows.row(i);
         let key = lent_cells(alloc, row, order)?;
         keyed.push((key, PlacedRow { table, row }))?;
     }

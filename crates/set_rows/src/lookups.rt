@@ -1,6 +1,6 @@
 ghost use Rattle.std.specs.Prelude.{◌≡◌, Contains, IfOk, length};
 ghost use Rattle.round_trip.specs.Words.{key_columns, value_beside};
-ghost use Rattle.soundness.specs.Lookups.{set_key};
+ghost use Rattle.round_trip.specs.soundness.Lookups.{set_key};
 ghost use Rattle.set_rows.specs.Owning.{IsBeside};
 
 use edm_types::{EntityModel, StoreModel};

@@ -3,7 +3,7 @@ ghost use Rattle.std.specs.List.{AllZip};
 ghost use Rattle.cells.specs.Parts.{AreParts, schema_in};
 ghost use Rattle.round_trip.specs.Words.{key_columns, value_beside};
 ghost use Rattle.table_writers.specs.declared.writer.Owner.TheVariants.{Set};
-ghost use Rattle.soundness.specs.Lookups.{set_key};
+ghost use Rattle.round_trip.specs.soundness.Lookups.{set_key};
 ghost use Rattle.set_rows.specs.Owning.{IsBeside, IsKeyOrder, IsOwnedBy, IsPairing, IsTableKey};
 
 use crate::lookups::{column_beside, key_columns, set_key, value_beside};

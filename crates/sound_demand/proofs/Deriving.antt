@@ -7,10 +7,9 @@ use Rattle.std.proofs.lemmas.Bool.Decides.{Decides-eqb, Decides-like, Decides-or
 use Rattle.std.proofs.lemmas.Option.{MatchOption-at_some, none-some, same_Some, slice_get_past}
 use Rattle.round_trip.specs.Words.{EntityModel, EntityType, TypeId, HasBase, IsA}
 use Rattle.edm_types.specs.IsA.{same, base, chain}
-use Rattle.soundness.specs.Models.{IsSoundModel}
+use Rattle.round_trip.specs.soundness.Models.{IsSoundModel}
 use Rattle.base_chains.proofs.Chains.{Ends}
-use Rattle.sound_forests.proofs.Whole.{base_place}
-use Rattle.sound_types.proofs.BasePlaces.{base_ends, base_here, first_step}
+use Rattle.sound_types.proofs.BasePlaces.{base_ends, base_here, base_place, first_step}
 use Rattle.state_demand.specs.Selecting.{DecidesTypes}
 use Rattle.sound_demand.specs.Deriving.{base_of, derives, is_under}
 

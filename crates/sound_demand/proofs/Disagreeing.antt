@@ -3,9 +3,9 @@ use Rattle.std.proofs.Common.{◌≡◌, ◌↔◌, inl, inr, ⊎_elim, List, []
 use Rattle.std.specs.Option.{option_map_or}
 use Rattle.round_trip.specs.Words.{SetId, Value, Assoc, End, Entity, EntitySet, Fragment, IsLegal, IsShownLinkTuple, IsShownTuple, IsWrittenLinkTuple, IsWrittenTuple, Link, LinkFragment, LinkWrites, Pair, Row, Schema, Selects, Shows, ShowsLink, State, Table, Tables, TablesAre, cells_of, entities_in, key_of, key_props, link_cells, links_in, place_at, row_key, rows_in}
 use Rattle.round_trip.specs.FailsAt.{Disagrees, IsInOneOnly, element_of, key_in_tuple, keys_in_tuple}
-use Rattle.soundness.specs.Constraints.{IsSoundEnd}
-use Rattle.soundness.specs.Lookups.{set_key}
-use Rattle.soundness.specs.Mappings.{IsSoundSchema}
+use Rattle.round_trip.specs.soundness.Constraints.{IsSoundEnd}
+use Rattle.round_trip.specs.soundness.Lookups.{set_key}
+use Rattle.round_trip.specs.soundness.Mappings.{IsSoundSchema}
 use Rattle.state_demand.specs.ByRows.{IsLinkedAt, IsSelectedAt}
 use Rattle.state_demand.specs.Owners.{IsHostAt, IsHosted, IsLinkOf, IsOfOwner, StandsAt}
 use Rattle.state_demand.specs.WellWritten.{cols_of}

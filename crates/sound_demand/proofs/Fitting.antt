@@ -8,10 +8,10 @@ use Rattle.emc_base.proofs.Mapped.{contains_map}
 use Rattle.emc_base.proofs.Numbered.{map_contains}
 use Rattle.round_trip.specs.Words.{TableId, ColId, Assoc, Column, Table, StoreModel, Fragment, LinkFragment, Pair, Cond, Schema, At, key_columns}
 use Rattle.round_trip.specs.FailsAt.{IsHostedAt}
-use Rattle.soundness.specs.Lookups.{columns_of, set_key}
-use Rattle.soundness.specs.Mappings.{HasLinkFragmentIds, HasPairIds, IsCondId, IsSoundFragment, IsSoundLinkFragment, IsSoundSchema}
-use Rattle.soundness.specs.Owners.{IsJoined, IsPlaced}
-use Rattle.soundness.specs.Stores.{IsColId}
+use Rattle.round_trip.specs.soundness.Lookups.{columns_of, set_key}
+use Rattle.round_trip.specs.soundness.Mappings.{HasLinkFragmentIds, HasPairIds, IsCondId, IsSoundFragment, IsSoundLinkFragment, IsSoundSchema}
+use Rattle.round_trip.specs.soundness.Owners.{IsJoined, IsPlaced}
+use Rattle.round_trip.specs.soundness.Stores.{IsColId}
 use Rattle.state_demand.specs.WellWritten.{FitsTable, HasAssocs, HasCol, HasTables, IsOnColumn, IsWellWritten, cols_of}
 use Rattle.state_demand.proofs.Fitting.{key_is}
 use Rattle.state_demand.proofs.Lists.{of_any}

@@ -8,11 +8,11 @@ use Rattle.emc_base.specs.declared.value.Value.TheVariants as value
 use Rattle.emc_base.proofs.Lists.{all_from_members, item_at}
 use Rattle.emc_base.proofs.Mapped.{contains_at}
 use Rattle.round_trip.specs.Words.{TableId, ColId, Value, Kind, Prop, Table, Column, Fragment, LinkFragment, Pair, Cond, Schema, At, InDomain}
-use Rattle.soundness.specs.Conditions.{ComparesInDomain, kind_of}
-use Rattle.soundness.specs.Fragments.{WritesToFitting}
-use Rattle.soundness.specs.Kinds.{Corresponds, IsNoSmaller, IsSoundEnum, IsSoundKind, under_kind}
-use Rattle.soundness.specs.Lookups.{column_kind, prop_kind}
-use Rattle.soundness.specs.Mappings.{HasPairIds, IsSoundSchema}
+use Rattle.round_trip.specs.soundness.Conditions.{ComparesInDomain, kind_of}
+use Rattle.round_trip.specs.soundness.Fragments.{WritesToFitting}
+use Rattle.round_trip.specs.soundness.Kinds.{Corresponds, IsNoSmaller, IsSoundEnum, IsSoundKind, under_kind}
+use Rattle.round_trip.specs.soundness.Lookups.{column_kind, prop_kind}
+use Rattle.round_trip.specs.soundness.Mappings.{HasPairIds, IsSoundSchema}
 use Rattle.state_demand.specs.WellWritten.{HoldsCells, HoldsConstant, HoldsPair, HoldsValues}
 use Rattle.sound_demand.proofs.Fitting.{assoc_of, columns_are, link_ids, sound_fragment, sound_link}
 

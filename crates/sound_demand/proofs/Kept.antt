@@ -2,7 +2,7 @@
 use Rattle.std.proofs.Common.{Decides}
 use Rattle.round_trip.specs.Words.{Place, Schema, State, Tables, AreLegalTables, AreSameTables, HasGoodTables, HasNoClash, IsLegal, RoundTrips, TablesAre}
 use Rattle.round_trip.specs.FailsAt.{Clashes, Dangles, LeavesNull}
-use Rattle.soundness.specs.Mappings.{IsSoundSchema}
+use Rattle.round_trip.specs.soundness.Mappings.{IsSoundSchema}
 use Rattle.state_demand.specs.Writings.{AreWritings}
 use Rattle.state_demand.proofs.Good.{legal_tables, stored}
 use Rattle.state_demand.proofs.NoClash.{Decides-no_clash}

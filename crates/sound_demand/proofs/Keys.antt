@@ -9,12 +9,11 @@ use Rattle.emc_base.proofs.Lists.{item_at}
 use Rattle.emc_base.proofs.Mapped.{contains_at}
 use Rattle.round_trip.specs.Words.{EntityModel, EntityType, PropId, TypeId, HasBase, IsA, At, key_props}
 use Rattle.edm_types.specs.IsA.{same, base, chain}
-use Rattle.soundness.specs.Inheritance.{IsRootKey}
-use Rattle.soundness.specs.ModelIds.{IsTypeId}
-use Rattle.soundness.specs.Models.{IsSoundModel}
+use Rattle.round_trip.specs.soundness.Inheritance.{IsRootKey}
+use Rattle.round_trip.specs.soundness.ModelIds.{IsTypeId}
+use Rattle.round_trip.specs.soundness.Models.{IsSoundModel}
 use Rattle.base_chains.proofs.Chains.{Ends}
-use Rattle.sound_forests.proofs.Whole.{base_place}
-use Rattle.sound_types.proofs.BasePlaces.{base_ends, base_here}
+use Rattle.sound_types.proofs.BasePlaces.{base_ends, base_here, base_place}
 use Rattle.state_demand.specs.Owners.{InheritsKeys}
 
 module _ (model : EntityModel) (sound : IsSoundModel model) where

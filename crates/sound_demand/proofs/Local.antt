@@ -1,7 +1,7 @@
 -- Demand is local to rows, for every sound schema.
 use Rattle.std.proofs.Common.{inl, inr, List}
 use Rattle.round_trip.specs.Words.{SetId, TableId, Assoc, LinkFragment, Pair, Schema, State, IsLegal}
-use Rattle.soundness.specs.Mappings.{IsSoundSchema}
+use Rattle.round_trip.specs.soundness.Mappings.{IsSoundSchema}
 use Rattle.state_demand.specs.Owners.{HasOwner, IsJoinedTo, IsOwned}
 use Rattle.state_demand.proofs.Joined.{local_link, one_link, writes_row}
 use Rattle.state_demand.proofs.Owners.{local, one, whole}

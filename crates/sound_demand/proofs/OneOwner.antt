@@ -1,5 +1,5 @@
 -- A table that is written has one owner: one set with one pairing, or one joined association, and not both.
-use Rattle.soundness.specs.Lookups.{set_key}
+use Rattle.round_trip.specs.soundness.Lookups.{set_key}
 use Rattle.std.proofs.Common.{◌≡◌, ◌≢◌, ◌⊎◌, inl, inr, ⊎_elim, List, [], ◌∷◌, ◌++◌, length, All, Any, Contains, refl, sym, ap, subst, ◌∙◌, arith, ℕ, ◌<◌, get_or}
 use Rattle.std.proofs.lemmas.List.{map-append}
 use Rattle.std.proofs.lemmas.List.Elements.{All-contains, All-head, All-tail, Contains-append_left, Contains-append_right, Contains-get_or}
@@ -8,9 +8,9 @@ use Rattle.emc_base.proofs.Lists.{item_at, all_from_members, at_once}
 use Rattle.emc_base.proofs.Mapped.{contains_at, contains_map}
 use Rattle.emc_base.proofs.Numbered.{map_contains, all_pairs_map}
 use Rattle.round_trip.specs.Words.{SetId, TableId, ColId, Assoc, End, Table, Fragment, LinkFragment, Pair, Schema, At, IsWritten, key_columns, key_props, PropId}
-use Rattle.soundness.specs.Mappings.{IsSoundSchema}
-use Rattle.soundness.specs.ModelIds.{HasEndIds}
-use Rattle.soundness.specs.Stores.{IsSoundTable}
+use Rattle.round_trip.specs.soundness.Mappings.{IsSoundSchema}
+use Rattle.round_trip.specs.soundness.ModelIds.{HasEndIds}
+use Rattle.round_trip.specs.soundness.Stores.{IsSoundTable}
 use Rattle.state_demand.specs.Owners.{IsHostAt, IsHosted, IsJoinedTo, IsOfOwner, IsOwned, props_in}
 use Rattle.state_demand.specs.WellWritten.{cols_of}
 use Rattle.state_demand.proofs.Fitting.{key_is}

@@ -7,10 +7,10 @@ use Rattle.emc_base.proofs.Mapped.{contains_map}
 use Rattle.emc_base.proofs.Numbered.{map_contains}
 use Rattle.round_trip.specs.Words.{SetId, PropId, TableId, ColId, AssocId, EntitySet, Assoc, Fragment, LinkFragment, Pair, Schema, At, key_props, key_columns}
 use Rattle.round_trip.specs.FailsAt.{IsHostedAt}
-use Rattle.soundness.specs.Lookups.{set_key}
-use Rattle.soundness.specs.Mappings.{IsSoundSchema}
-use Rattle.soundness.specs.Owners.{IsJoined, IsOwner, IsPlaced, LinkMaps, Owner, Owns}
-use Rattle.soundness.specs.Owners as sound_owner
+use Rattle.round_trip.specs.soundness.Lookups.{set_key}
+use Rattle.round_trip.specs.soundness.Mappings.{IsSoundSchema}
+use Rattle.round_trip.specs.soundness.Owners.{IsJoined, IsOwner, IsPlaced, LinkMaps, Owner, Owns}
+use Rattle.round_trip.specs.soundness.Owners as sound_owner
 use Rattle.state_demand.specs.Owners.{HasOwner, IsHosted, IsJoinedTo, IsOfOwner, IsOwned, props_in}
 use Rattle.state_demand.specs.WellWritten.{cols_of}
 use Rattle.state_demand.proofs.Decisions.{so_or_not}

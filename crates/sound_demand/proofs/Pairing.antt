@@ -9,11 +9,11 @@ use Rattle.emc_base.proofs.Mapped.{contains_at, contains_map}
 use Rattle.emc_base.proofs.Numbered.{map_contains}
 use Rattle.round_trip.specs.Words.{SetId, PropId, TableId, ColId, EntitySet, Assoc, End, LinkFragment, Pair, Schema, At, key_props, key_columns}
 use Rattle.round_trip.specs.FailsAt.{IsHostedAt}
-use Rattle.soundness.specs.Constraints.{IsSoundAssoc, IsSoundEnd}
-use Rattle.soundness.specs.Fragments.{WritesEndKey}
-use Rattle.soundness.specs.Lookups.{set_key}
-use Rattle.soundness.specs.Mappings.{IsSoundSchema}
-use Rattle.soundness.specs.Owners.{Owns, SetWrites}
+use Rattle.round_trip.specs.soundness.Constraints.{IsSoundAssoc, IsSoundEnd}
+use Rattle.round_trip.specs.soundness.Fragments.{WritesEndKey}
+use Rattle.round_trip.specs.soundness.Lookups.{set_key}
+use Rattle.round_trip.specs.soundness.Mappings.{IsSoundSchema}
+use Rattle.round_trip.specs.soundness.Owners.{Owns, SetWrites}
 use Rattle.state_demand.specs.Owners.{props_in}
 use Rattle.state_demand.specs.WellWritten.{cols_of}
 use Rattle.state_demand.proofs.Lists.{any_of, of_any}

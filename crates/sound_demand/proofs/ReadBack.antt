@@ -1,7 +1,7 @@
 -- Rows are read back, for every sound schema.
 use Rattle.std.proofs.Common.{◌≡◌, ◌↔◌, ⊎_elim, List, Any, refl, sym, ap, ◌∙◌}
 use Rattle.round_trip.specs.Words.{SetId, TableId, Value, Null, Assoc, Entity, LinkFragment, Pair, Row, Schema, State, Table, Tables, At, Writing, WritesRow, DemandsCell, TablesAre, IsLegal, cell_of, row_key, rows_in, written_key}
-use Rattle.soundness.specs.Mappings.{IsSoundSchema}
+use Rattle.round_trip.specs.soundness.Mappings.{IsSoundSchema}
 use Rattle.state_demand.specs.Owners.{IsJoinedTo, IsOwned, StandsAt, paired_key}
 use Rattle.state_demand.specs.Writings.{link_writing}
 use Rattle.state_demand.proofs.Joined.{local_link, one_link, writes_row}

@@ -11,7 +11,7 @@ use Rattle.emc_base.proofs.Mapped.{contains_map}
 use Rattle.emc_base.proofs.Numbered.{map_contains}
 use Rattle.round_trip.specs.Words.{SetId, TypeId, PropId, TableId, ColId, Value, Assoc, Entity, IsLegal, Link, LinkFragment, Pair, Row, Schema, State, Table, At, cell_of, cells_of, end_cells, key_of, key_props, link_cells, links_in, row_key, value_beside, value_of}
 use Rattle.round_trip.specs.FailsAt.{key_in_tuple, keys_in_tuple}
-use Rattle.soundness.specs.Mappings.{IsSoundLinkFragment, IsSoundSchema}
+use Rattle.round_trip.specs.soundness.Mappings.{IsSoundLinkFragment, IsSoundSchema}
 use Rattle.state_demand.specs.Owners.{IsOwned, StandsAt, props_in}
 use Rattle.state_demand.specs.WellWritten.{cols_of}
 use Rattle.state_demand.proofs.Fitting.{key_is}

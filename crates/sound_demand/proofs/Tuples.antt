@@ -2,7 +2,7 @@
 use Rattle.std.proofs.Common.{◌≡◌, ◌↔◌, List, ◌++◌, map, Contains, refl, sym, subst, ◌∙◌}
 use Rattle.emc_base.proofs.Lists.{at_once}
 use Rattle.round_trip.specs.Words.{SetId, Assoc, Entity, Fragment, Link, LinkFragment, Pair, Row, Schema, State, Table, Tables, At, Selects, TablesAre, IsLegal, LinkWrites, IsWrittenTuple, IsShownTuple, IsWrittenLinkTuple, IsShownLinkTuple, AreSameTuples, entities_in, entity_cells, link_cells, cells_of, links_in, row_key, rows_in, written_key}
-use Rattle.soundness.specs.Mappings.{IsSoundSchema}
+use Rattle.round_trip.specs.soundness.Mappings.{IsSoundSchema}
 use Rattle.state_demand.specs.ByRows.{IsLinkedAt, IsSelectedAt}
 use Rattle.state_demand.specs.Owners.{IsJoinedTo, IsLinkOf, IsOwned, StandsAt}
 use Rattle.state_demand.specs.WellWritten.{cols_of}

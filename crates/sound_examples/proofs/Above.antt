@@ -8,12 +8,12 @@ use Rattle.round_trip.specs.Words.{TypeId, EntityModel, EntityType, TypeNode, At
 use Rattle.edm_types.specs.IsA.{same, base, chain}
 use Rattle.worked_examples.proofs.Small.{EachAt, each_at, each_of}
 use Rattle.worked_examples.specs.Ids.{type_id}
-use Rattle.soundness.specs.ModelNames.{own_names, HasDistinctMembers}
+use Rattle.round_trip.specs.soundness.ModelNames.{own_names, HasDistinctMembers}
 use Rattle.sound_examples.proofs.Names.{names_apart}
 use Rattle.sound_examples.proofs.Tests.{are_new, share_none, none_shared}
 use Rattle.sound_examples.proofs.Lists.{none_among}
-use Rattle.soundness.specs.Lookups.{IsAncestor}
-use Rattle.soundness.specs.Inheritance.{HasNoCircle}
+use Rattle.round_trip.specs.soundness.Lookups.{IsAncestor}
+use Rattle.round_trip.specs.soundness.Inheritance.{HasNoCircle}
 
 module _ (model : EntityModel) where
   -- P of the base type, where there is one

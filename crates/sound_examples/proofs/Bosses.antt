@@ -3,8 +3,8 @@ use Rattle.std.proofs.Common.{[], ◌∷◌, refl}
 use Rattle.round_trip.specs.Words.{Mult}
 use Rattle.worked_examples.specs.People.{person_type, people_set}
 use Rattle.worked_examples.specs.Bosses.{bossed_model, bosses}
-use Rattle.soundness.specs.Constraints.{IsSoundAssoc}
-use Rattle.soundness.specs.Models.{IsSoundModel}
+use Rattle.round_trip.specs.soundness.Constraints.{IsSoundAssoc}
+use Rattle.round_trip.specs.soundness.Models.{IsSoundModel}
 use Rattle.sound_examples.proofs.Models.{end_of_set}
 use Rattle.sound_examples.proofs.People.{sound_with}
 

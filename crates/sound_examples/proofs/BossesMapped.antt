@@ -10,8 +10,8 @@ use Rattle.worked_examples.specs.Ids.{type_id, set_id, prop_id, table_id, col_id
 use Rattle.worked_examples.specs.People.{people_set}
 use Rattle.worked_examples.specs.Bosses.{bossed, bosses, all_people, boss_links}
 use Rattle.worked_examples.specs.JoinedBosses.{joined, joined_links}
-use Rattle.soundness.specs.Mappings.{IsSoundFragment, IsSoundSchema}
-use Rattle.soundness.specs.Owners.{Owner, set, assoc, IsJoined}
+use Rattle.round_trip.specs.soundness.Mappings.{IsSoundFragment, IsSoundSchema}
+use Rattle.round_trip.specs.soundness.Owners.{Owner, set, assoc, IsJoined}
 use Rattle.sound_examples.proofs.Lists.{all}
 use Rattle.sound_examples.proofs.Schemas.{LinkFits, mapping_from, off_key}
 use Rattle.sound_examples.proofs.Mappings.{LinkIsTold}

@@ -9,9 +9,9 @@ use Rattle.worked_examples.specs.Ids.{type_id, set_id, prop_id, table_id, col_id
 use Rattle.worked_examples.specs.Bosses.{bosses, boss_links, boss_column}
 use Rattle.worked_examples.specs.Owners.{owner, owner_constraint}
 use Rattle.worked_examples.proofs.Small.{here, any_one}
-use Rattle.soundness.specs.Joined.{prop, col, HostsPartner, Joined, IsBarred, pair, back}
-use Rattle.soundness.specs.Mappings.{IsSoundFragment, IsSoundSchema}
-use Rattle.soundness.specs.Owners.{Owner, set}
+use Rattle.round_trip.specs.soundness.Joined.{prop, col, HostsPartner, Joined, IsBarred, pair, back}
+use Rattle.round_trip.specs.soundness.Mappings.{IsSoundFragment, IsSoundSchema}
+use Rattle.round_trip.specs.soundness.Owners.{Owner, set}
 use Rattle.sound_examples.specs.BrokenMappings as broken
 use Rattle.sound_examples.proofs.Names.{other_number, other_prop, other_col}
 use Rattle.sound_examples.proofs.Lists.{not_among}

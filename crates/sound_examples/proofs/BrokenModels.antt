@@ -9,11 +9,11 @@ use Rattle.edm_types.specs.declared.model.TypeNode.TheBlock as block
 use Rattle.worked_examples.specs.Ids.{type_id, set_id, prop_id, optional, leaf}
 use Rattle.worked_examples.specs.People.{person_type, people_set, id_prop}
 use Rattle.worked_examples.proofs.Small.{here, any_here, each_at}
-use Rattle.soundness.specs.Lookups.{IsNeeded, HasConcrete}
+use Rattle.round_trip.specs.soundness.Lookups.{IsNeeded, HasConcrete}
 use Rattle.edm_types.specs.Forest.{IsTypeNode, IsForest, top}
-use Rattle.soundness.specs.Inheritance.{IsKeyProp}
-use Rattle.soundness.specs.Constraints.{HasIndependentMults, HasArrow, arrow}
-use Rattle.soundness.specs.Models.{IsSoundModel}
+use Rattle.round_trip.specs.soundness.Inheritance.{IsKeyProp}
+use Rattle.round_trip.specs.soundness.Constraints.{HasIndependentMults, HasArrow, arrow}
+use Rattle.round_trip.specs.soundness.Models.{IsSoundModel}
 use Rattle.sound_examples.specs.BrokenModels.{renamed_employee, inherited_name, unlisted_owner, unlisted_model, optional_key, own_base, own_person, lost_employees, nobody, paired, paired_model, own_principal, own_principal_model}
 use Rattle.sound_examples.proofs.Lists.{all, not_among}
 

@@ -4,7 +4,7 @@ use Rattle.std.specs.Prelude.{Contains, false, codes}
 use Rattle.round_trip.specs.Words.{Column}
 use Rattle.emc_base.specs.declared.value.Kind.TheVariants as kind
 use Rattle.worked_examples.specs.Ids.{table_id, col_id, optional_column}
-use Rattle.soundness.specs.Stores.{IsKeyColumn, IsSoundStore}
+use Rattle.round_trip.specs.soundness.Stores.{IsKeyColumn, IsSoundStore}
 use Rattle.sound_examples.specs.BrokenStores.{optional_table, optional_key, one_name, to_itself, to_half}
 use Rattle.sound_examples.proofs.Names.{other_col}
 use Rattle.sound_examples.proofs.Lists.{not_among}

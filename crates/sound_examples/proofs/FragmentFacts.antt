@@ -9,13 +9,13 @@ use Rattle.std.proofs.lemmas.List.Elements.{All-contains}
 use Rattle.round_trip.specs.Words.{PropId, TableId, ColId, Value, Kind, InDomain, Fragment, Pair, Cond, CondOn, Schema, props_of, key_columns}
 use Rattle.edm_types.specs.declared.mapping.CondOn.TheVariants as on
 use Rattle.edm_types.specs.declared.mapping.Test.TheVariants.{Equals}
-use Rattle.soundness.specs.Kinds.{IsBinary}
-use Rattle.soundness.specs.Lookups.{set_key, columns_of, IsUnderElement}
-use Rattle.soundness.specs.ModelIds.{IsTypeId}
-use Rattle.soundness.specs.Fragments.{NamesSharedProps, WritesToFitting}
-use Rattle.soundness.specs.Conditions.{kind_of, ComparesInDomain}
-use Rattle.soundness.specs.Joined.{Member, prop, col, TellsOther, ComparesNoBarred, WritesNoBarredEnum}
-use Rattle.soundness.specs.Mappings.{HasPairIds, IsCondId, IsSoundFragment}
+use Rattle.round_trip.specs.soundness.Kinds.{IsBinary}
+use Rattle.round_trip.specs.soundness.Lookups.{set_key, columns_of, IsUnderElement}
+use Rattle.round_trip.specs.soundness.ModelIds.{IsTypeId}
+use Rattle.round_trip.specs.soundness.Fragments.{NamesSharedProps, WritesToFitting}
+use Rattle.round_trip.specs.soundness.Conditions.{kind_of, ComparesInDomain}
+use Rattle.round_trip.specs.soundness.Joined.{Member, prop, col, TellsOther, ComparesNoBarred, WritesNoBarredEnum}
+use Rattle.round_trip.specs.soundness.Mappings.{HasPairIds, IsCondId, IsSoundFragment}
 use Rattle.sound_examples.proofs.Names.{same_prop, same_col, props_decide, cols_decide}
 use Rattle.sound_examples.proofs.Lists.{all, all_from, apart, not_among}
 use Rattle.sound_examples.proofs.Tests.{all_true, each_true, all_pass, any_passes, is_among, is_new, are_new, among, not_in, all_new}

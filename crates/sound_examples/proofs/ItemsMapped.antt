@@ -10,10 +10,10 @@ use Rattle.worked_examples.specs.Ids.{type_id, set_id, prop_id, table_id, needed
 use Rattle.worked_examples.specs.People.{id_prop}
 use Rattle.worked_examples.specs.LevelLost.{items_set, level_is, level_one, level_two, items}
 use Rattle.worked_examples.proofs.Small.{all_pairs}
-use Rattle.soundness.specs.Kinds.{IsBinary, IsSoundKind}
-use Rattle.soundness.specs.Models.{IsSoundModel}
-use Rattle.soundness.specs.Mappings.{IsSoundFragment, IsSoundSchema}
-use Rattle.soundness.specs.Owners.{set}
+use Rattle.round_trip.specs.soundness.Kinds.{IsBinary, IsSoundKind}
+use Rattle.round_trip.specs.soundness.Models.{IsSoundModel}
+use Rattle.round_trip.specs.soundness.Mappings.{IsSoundFragment, IsSoundSchema}
+use Rattle.round_trip.specs.soundness.Owners.{set}
 use Rattle.sound_examples.specs.Items.{items_model, items_of, levels, three_levels, one_level}
 use Rattle.sound_examples.proofs.Lists.{all, not_among}
 use Rattle.sound_examples.proofs.OneType.{one_type_sound}

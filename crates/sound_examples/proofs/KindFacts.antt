@@ -5,7 +5,7 @@ use Rattle.std.specs.Prelude.{pos, ◌<ℤ◌, ◌≤ℤ◌}
 use Rattle.round_trip.specs.Words.{Whole, InDomain}
 use Rattle.emc_base.specs.declared.value.Kind.TheVariants as kind
 use Rattle.worked_examples.proofs.Small.{all_pairs}
-use Rattle.soundness.specs.Kinds.{IsSoundKind, Corresponds}
+use Rattle.round_trip.specs.soundness.Kinds.{IsSoundKind, Corresponds}
 use Rattle.sound_examples.specs.Kinds.{two_bytes, no_byte, no_number, one_twice, no_character}
 use Rattle.sound_examples.proofs.Lists.{all}
 

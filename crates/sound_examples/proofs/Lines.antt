@@ -4,8 +4,8 @@ use Rattle.round_trip.specs.Words.{Constraint, dependent_end, principal_end}
 use Rattle.edm_types.specs.declared.model.TypeNode as node
 use Rattle.edm_types.specs.declared.model.TypeNode.TheBlock as block
 use Rattle.worked_examples.specs.Ids.{type_id, prop_id, leaf}
-use Rattle.soundness.specs.Constraints.{IsSoundAssoc}
-use Rattle.soundness.specs.Models.{IsSoundModel, IsSoundType}
+use Rattle.round_trip.specs.soundness.Constraints.{IsSoundAssoc}
+use Rattle.round_trip.specs.soundness.Models.{IsSoundModel, IsSoundType}
 use Rattle.sound_examples.specs.Lines.{lines_model, order_type, line_type, orders_set, lines_set, line_order_prop, lines_of_order, order_constraint}
 use Rattle.sound_examples.proofs.Models.{ForestFacts, FallsBack, root_type, end_of_set, many_to_one, model_from}
 

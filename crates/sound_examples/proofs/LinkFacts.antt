@@ -7,11 +7,11 @@ use Rattle.std.proofs.lemmas.Bool.{ltb-true}
 use Rattle.round_trip.specs.Words.{PropId, Assoc, Pair, LinkFragment, Cond, Schema, IsIndependent, key_props}
 use Rattle.edm_types.specs.declared.mapping.CondOn.TheVariants as on
 use Rattle.emc_base.specs.Lists.{HoldsEachOnce}
-use Rattle.soundness.specs.Fragments.{WritesToFitting}
-use Rattle.soundness.specs.Conditions.{ComparesInDomain}
-use Rattle.soundness.specs.Joined.{ComparesNoBarred}
-use Rattle.soundness.specs.Mappings.{HasPairIds, IsCondId, HasLinkFragmentIds, IsSoundLinkFragment}
-use Rattle.soundness.specs.Owners.{IsPlaced}
+use Rattle.round_trip.specs.soundness.Fragments.{WritesToFitting}
+use Rattle.round_trip.specs.soundness.Conditions.{ComparesInDomain}
+use Rattle.round_trip.specs.soundness.Joined.{ComparesNoBarred}
+use Rattle.round_trip.specs.soundness.Mappings.{HasPairIds, IsCondId, HasLinkFragmentIds, IsSoundLinkFragment}
+use Rattle.round_trip.specs.soundness.Owners.{IsPlaced}
 use Rattle.sound_examples.proofs.Names.{same_prop, same_col, props_decide, cols_decide}
 use Rattle.sound_examples.proofs.Lists.{all_from, apart}
 use Rattle.sound_examples.proofs.Tests.{all_true, each_true, all_pass, is_among, are_new, among, all_new}

@@ -10,13 +10,13 @@ use Rattle.round_trip.specs.Words.{SetId, PropId, TableId, ColId, Value, Kind, P
 use Rattle.round_trip.specs.FailsAt.{IsHostedAt}
 use Rattle.edm_types.specs.declared.mapping.Test.TheVariants.{Equals}
 use Rattle.worked_examples.proofs.Small.{each_of}
-use Rattle.soundness.specs.Kinds.{IsBinary, IsEnum, Corresponds}
-use Rattle.soundness.specs.Lookups.{columns_of, prop_kind, column_kind}
-use Rattle.soundness.specs.Fragments.{WritesToFitting}
-use Rattle.soundness.specs.Conditions.{AskOf, kind_of, ComparesInDomain}
-use Rattle.soundness.specs.Joined.{WritesNoBarredEnum}
-use Rattle.soundness.specs.Mappings.{HasPairIds}
-use Rattle.soundness.specs.Owners.{Owner, set, assoc, IsJoined, LinkMaps, Owns, PairsKeysAlike, IsOwner, HasOneOwner}
+use Rattle.round_trip.specs.soundness.Kinds.{IsBinary, IsEnum, Corresponds}
+use Rattle.round_trip.specs.soundness.Lookups.{columns_of, prop_kind, column_kind}
+use Rattle.round_trip.specs.soundness.Fragments.{WritesToFitting}
+use Rattle.round_trip.specs.soundness.Conditions.{AskOf, kind_of, ComparesInDomain}
+use Rattle.round_trip.specs.soundness.Joined.{WritesNoBarredEnum}
+use Rattle.round_trip.specs.soundness.Mappings.{HasPairIds}
+use Rattle.round_trip.specs.soundness.Owners.{Owner, set, assoc, IsJoined, LinkMaps, Owns, PairsKeysAlike, IsOwner, HasOneOwner}
 use Rattle.sound_examples.proofs.Names.{same_prop, same_col, props_decide, cols_decide}
 use Rattle.sound_examples.proofs.Tests.{each_passes, is_new, not_in}
 

@@ -15,15 +15,15 @@ use Rattle.worked_examples.specs.Ids.{type_id}
 use Rattle.worked_examples.proofs.Small.{EachAt, each_at, each_of, PairsByRecursion, all_pairs}
 use Rattle.edm_types.specs.declared.model.Mult.TheVariants.{One, Many}
 use Rattle.emc_base.specs.Lists.{HoldsEachOnce}
-use Rattle.soundness.specs.Kinds.{IsSoundKind, IsKeyKind, without_bound}
-use Rattle.soundness.specs.Lookups.{prop_kind, IsNeeded, IsElement, HasConcrete}
-use Rattle.soundness.specs.ModelIds.{IsTypeId, IsPropId, HasEndIds, HasModelIds}
-use Rattle.soundness.specs.ModelNames.{HasDistinctNames}
+use Rattle.round_trip.specs.soundness.Kinds.{IsSoundKind, IsKeyKind, without_bound}
+use Rattle.round_trip.specs.soundness.Lookups.{prop_kind, IsNeeded, IsElement, HasConcrete}
+use Rattle.round_trip.specs.soundness.ModelIds.{IsTypeId, IsPropId, HasEndIds, HasModelIds}
+use Rattle.round_trip.specs.soundness.ModelNames.{HasDistinctNames}
 use Rattle.edm_types.specs.Forest.{node_type, nodes_below, types_based_on, root_types, IsForest}
-use Rattle.soundness.specs.Inheritance.{HasInheritedProps, declared_props, IsRootKey, IsKeyProp}
-use Rattle.soundness.specs.Constraints.{IsSoundEnd, IsSoundAssoc, DependsByKey, HasElementByKey, IsSoundConstraint, HasArrow, Leads, HasNoCircleOfArrows}
-use Rattle.soundness.specs.Constraints.{arrow, further}
-use Rattle.soundness.specs.Models.{IsSoundType, IsSoundModel}
+use Rattle.round_trip.specs.soundness.Inheritance.{HasInheritedProps, declared_props, IsRootKey, IsKeyProp}
+use Rattle.round_trip.specs.soundness.Constraints.{IsSoundEnd, IsSoundAssoc, DependsByKey, HasElementByKey, IsSoundConstraint, HasArrow, Leads, HasNoCircleOfArrows}
+use Rattle.round_trip.specs.soundness.Constraints.{arrow, further}
+use Rattle.round_trip.specs.soundness.Models.{IsSoundType, IsSoundModel}
 use Rattle.sound_examples.proofs.Lists.{all, all_all, all_from, apart, one_held}
 use Rattle.sound_examples.proofs.Names.{names_apart, pairs_named, each_two_named, same_prop, props_decide}
 use Rattle.sound_examples.proofs.Tests.{all_true, each_true, all_pass, passes_if_some, is_among, are_new, share_none, among, all_new, none_shared}

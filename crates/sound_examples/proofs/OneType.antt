@@ -8,11 +8,11 @@ use Rattle.edm_types.specs.declared.model.TypeNode as node
 use Rattle.edm_types.specs.declared.model.TypeNode.TheBlock as block
 use Rattle.worked_examples.specs.Ids.{type_id, leaf, set_of, concrete_type, model_of}
 use Rattle.worked_examples.proofs.Small.{here}
-use Rattle.soundness.specs.ModelNames.{own_names}
-use Rattle.soundness.specs.Inheritance.{HasInheritedProps}
-use Rattle.soundness.specs.Kinds.{IsSoundKind}
-use Rattle.soundness.specs.Constraints.{IsSoundAssoc}
-use Rattle.soundness.specs.Models.{IsSoundModel}
+use Rattle.round_trip.specs.soundness.ModelNames.{own_names}
+use Rattle.round_trip.specs.soundness.Inheritance.{HasInheritedProps}
+use Rattle.round_trip.specs.soundness.Kinds.{IsSoundKind}
+use Rattle.round_trip.specs.soundness.Constraints.{IsSoundAssoc}
+use Rattle.round_trip.specs.soundness.Models.{IsSoundModel}
 use Rattle.sound_examples.proofs.Tests.{all_true, each_true, are_new}
 use Rattle.sound_examples.proofs.Models.{ForestFacts, FallsBack, IsPart, id_tests, name_tests, key_tests, root_type, model_from}
 

@@ -5,8 +5,8 @@ use Rattle.std.specs.List.{AllByRecursion}
 use Rattle.round_trip.specs.Words.{Assoc}
 use Rattle.worked_examples.specs.Ids.{prop_id}
 use Rattle.worked_examples.specs.People.{people_with, people_model, id_prop, name_prop}
-use Rattle.soundness.specs.Constraints.{IsSoundAssoc}
-use Rattle.soundness.specs.Models.{IsSoundModel}
+use Rattle.round_trip.specs.soundness.Constraints.{IsSoundAssoc}
+use Rattle.round_trip.specs.soundness.Models.{IsSoundModel}
 use Rattle.sound_examples.proofs.Tests.{all_true}
 use Rattle.sound_examples.proofs.Models.{FallsBack}
 use Rattle.sound_examples.proofs.OneType.{one_type_tests, one_type_sound}

@@ -12,8 +12,8 @@ use Rattle.worked_examples.specs.People.{people, people_set, people_fragment}
 use Rattle.worked_examples.specs.Salary.{employee_type, kind_is, persons, employees}
 use Rattle.worked_examples.specs.ByKind.{told_staff}
 use Rattle.worked_examples.proofs.Values.{text_p, text_e}
-use Rattle.soundness.specs.Mappings.{IsSoundFragment, IsSoundSchema}
-use Rattle.soundness.specs.Owners.{set}
+use Rattle.round_trip.specs.soundness.Mappings.{IsSoundFragment, IsSoundSchema}
+use Rattle.round_trip.specs.soundness.Owners.{set}
 use Rattle.sound_examples.proofs.Schemas.{mapping_from}
 use Rattle.sound_examples.proofs.Mappings.{IsHeld}
 use Rattle.sound_examples.proofs.FragmentFacts.{Compares, fragment_from, compares}

@@ -3,8 +3,8 @@ use Rattle.std.proofs.Common.{◌≡◌, ℕ, List, [], ◌∷◌, ◌++◌, map
 use Rattle.std.specs.Prelude.{bytes_eq, true, Contains}
 use Rattle.std.specs.List.{AllByRecursion}
 use Rattle.round_trip.specs.Words.{PropId, TableId, ColId, Assoc, Fragment, LinkFragment, Schema, At}
-use Rattle.soundness.specs.Owners.{Owner}
-use Rattle.soundness.specs.Mappings.{HasLinkFragmentIds, IsSoundFragment, IsSoundLinkFragment, IsSoundMapping}
+use Rattle.round_trip.specs.soundness.Owners.{Owner}
+use Rattle.round_trip.specs.soundness.Mappings.{HasLinkFragmentIds, IsSoundFragment, IsSoundLinkFragment, IsSoundMapping}
 use Rattle.sound_examples.proofs.Names.{names_apart, same_assoc, same_col, assocs_decide, cols_decide}
 use Rattle.sound_examples.proofs.Lists.{all_from, apart}
 use Rattle.sound_examples.proofs.Tests.{all_true, each_true, is_new, are_new, all_new, not_in}

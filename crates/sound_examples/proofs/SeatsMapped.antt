@@ -5,9 +5,9 @@ use Rattle.round_trip.specs.Words.{PropId, TableId, ColId}
 use Rattle.edm_types.specs.IsA.{same}
 use Rattle.worked_examples.specs.Ids.{type_id, set_id, prop_id, table_id, pair_of}
 use Rattle.worked_examples.specs.Seats.{seats, seats_model, seats_set, row_prop, number_prop, all_seats}
-use Rattle.soundness.specs.Models.{IsSoundModel}
-use Rattle.soundness.specs.Mappings.{IsSoundFragment, IsSoundSchema}
-use Rattle.soundness.specs.Owners.{set}
+use Rattle.round_trip.specs.soundness.Models.{IsSoundModel}
+use Rattle.round_trip.specs.soundness.Mappings.{IsSoundFragment, IsSoundSchema}
+use Rattle.round_trip.specs.soundness.Owners.{set}
 use Rattle.sound_examples.specs.Seats.{swapped, swapped_seats}
 use Rattle.sound_examples.proofs.Names.{other_prop}
 use Rattle.sound_examples.proofs.OneType.{one_type_sound}

@@ -7,8 +7,8 @@ use Rattle.worked_examples.specs.Ids.{type_id, prop_id, leaf, stem}
 use Rattle.worked_examples.specs.People.{person_type, people_set}
 use Rattle.worked_examples.specs.Owners.{shop_model, employee_type, order_type, owner_id_prop, orders_set, owner, owner_constraint}
 use Rattle.worked_examples.proofs.Small.{any_one}
-use Rattle.soundness.specs.Constraints.{IsSoundAssoc, DependsByKey}
-use Rattle.soundness.specs.Models.{IsSoundModel, IsSoundType}
+use Rattle.round_trip.specs.soundness.Constraints.{IsSoundAssoc, DependsByKey}
+use Rattle.round_trip.specs.soundness.Models.{IsSoundModel, IsSoundType}
 use Rattle.sound_examples.proofs.Names.{other_prop}
 use Rattle.sound_examples.proofs.Lists.{not_among}
 use Rattle.sound_examples.proofs.Models.{ForestFacts, root_type, end_of_set, many_to_one, model_from}

@@ -6,8 +6,8 @@ use Rattle.edm_types.specs.IsA.{same, base}
 use Rattle.worked_examples.specs.Ids.{type_id, set_id, prop_id}
 use Rattle.worked_examples.specs.People.{people_set}
 use Rattle.worked_examples.specs.Owners.{shop, employee_type, orders_set, all_people, all_employees, orders}
-use Rattle.soundness.specs.Mappings.{IsSoundFragment, IsSoundSchema}
-use Rattle.soundness.specs.Owners.{Owner, set}
+use Rattle.round_trip.specs.soundness.Mappings.{IsSoundFragment, IsSoundSchema}
+use Rattle.round_trip.specs.soundness.Owners.{Owner, set}
 use Rattle.sound_examples.proofs.Schemas.{mapping_from}
 use Rattle.sound_examples.proofs.FragmentFacts.{fragment_from}
 use Rattle.sound_examples.proofs.Shop as model

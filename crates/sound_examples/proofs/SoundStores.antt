@@ -13,9 +13,9 @@ use Rattle.worked_examples.specs.Owners.{orders_table, shop_store}
 use Rattle.worked_examples.specs.JoinedBosses.{joined_table, joined_store}
 use Rattle.worked_examples.specs.LevelLost.{ids_table, item_store}
 use Rattle.worked_examples.specs.Seats.{seats_table, seats_store}
-use Rattle.soundness.specs.Kinds.{without_bound}
-use Rattle.soundness.specs.Lookups.{column_kind}
-use Rattle.soundness.specs.Stores.{IsKeyColumn, IsSoundColumn, IsSoundTable, IsSoundForeignKey, IsSoundStore}
+use Rattle.round_trip.specs.soundness.Kinds.{without_bound}
+use Rattle.round_trip.specs.soundness.Lookups.{column_kind}
+use Rattle.round_trip.specs.soundness.Stores.{IsKeyColumn, IsSoundColumn, IsSoundTable, IsSoundForeignKey, IsSoundStore}
 use Rattle.sound_examples.proofs.Names.{other_col, other_number}
 use Rattle.sound_examples.proofs.Lists.{head_same}
 use Rattle.sound_examples.proofs.Stores.{store_from, table_from, single, single_sound}

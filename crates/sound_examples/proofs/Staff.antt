@@ -6,7 +6,7 @@ use Rattle.edm_types.specs.declared.model.TypeNode.TheBlock as block
 use Rattle.worked_examples.specs.Ids.{type_id, leaf, stem}
 use Rattle.worked_examples.specs.People.{person_type}
 use Rattle.worked_examples.specs.Salary.{staff_model, employee_type}
-use Rattle.soundness.specs.Models.{IsSoundModel, IsSoundType}
+use Rattle.round_trip.specs.soundness.Models.{IsSoundModel, IsSoundType}
 use Rattle.sound_examples.proofs.Models.{ForestFacts, root_type, model_from}
 
 forest : ForestFacts staff_model (stem (type_id 0) (type_id 1) ∷ leaf (type_id 1) ∷ [])

@@ -7,9 +7,9 @@ use Rattle.std.proofs.lemmas.Bool.{ltb-true}
 use Rattle.round_trip.specs.Words.{TableId, ColId, StoreModel, Table, ForeignKey, key_columns}
 use Rattle.worked_examples.proofs.Small.{PairsByRecursion}
 use Rattle.emc_base.specs.Lists.{AreApart, HoldsEachOnce}
-use Rattle.soundness.specs.Kinds.{without_bound}
-use Rattle.soundness.specs.Lookups.{columns_of, column_kind}
-use Rattle.soundness.specs.Stores.{IsColId, HasForeignIds, IsKeyColumn, IsSoundColumn, IsSoundTable, IsSoundForeignKey, IsSoundStore}
+use Rattle.round_trip.specs.soundness.Kinds.{without_bound}
+use Rattle.round_trip.specs.soundness.Lookups.{columns_of, column_kind}
+use Rattle.round_trip.specs.soundness.Stores.{IsColId, HasForeignIds, IsKeyColumn, IsSoundColumn, IsSoundTable, IsSoundForeignKey, IsSoundStore}
 use Rattle.sound_examples.proofs.Names.{names_apart}
 use Rattle.sound_examples.proofs.Tests.{all_true, each_true, all_pass, are_new}
 use Rattle.sound_examples.proofs.Lists.{all, apart, one_held}

@@ -2,10 +2,10 @@
 #![tactic(auto)]
 
 ghost use Rattle.emc_base.specs.declared.value.Kind.TheVariants as kind;
-ghost use Rattle.soundness.specs.Kinds.{Corresponds, IsSoundKind};
-ghost use Rattle.soundness.specs.Mappings.{IsSoundSchema};
-ghost use Rattle.soundness.specs.Models.{IsSoundModel};
-ghost use Rattle.soundness.specs.Stores.{IsSoundStore};
+ghost use Rattle.round_trip.specs.soundness.Kinds.{Corresponds, IsSoundKind};
+ghost use Rattle.round_trip.specs.soundness.Mappings.{IsSoundSchema};
+ghost use Rattle.round_trip.specs.soundness.Models.{IsSoundModel};
+ghost use Rattle.round_trip.specs.soundness.Stores.{IsSoundStore};
 ghost use Rattle.round_trip.specs.Words.{Mult};
 ghost use Rattle.sound_examples.specs.BrokenMappings as mappings;
 ghost use Rattle.sound_examples.specs.BrokenModels as models;

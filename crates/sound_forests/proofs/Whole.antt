@@ -12,10 +12,10 @@ use Rattle.emc_base.proofs.Mapped.{contains_at, contains_enumerated, contains_fi
 use Rattle.round_trip.specs.Words.{EntityModel, EntityType, TypeId, TypeNode, HasBase}
 use Rattle.edm_types.specs.IsA.{same, base, chain}
 use Rattle.edm_types.specs.Forest.{HoldsEachType, IsForest, IsNodeOf, below, node_type, nodes_below, root_types, top, type_numbered, types_based_on}
-use Rattle.soundness.specs.Inheritance.{HasNoCircle}
-use Rattle.soundness.specs.Lookups.{IsAncestor as IsAbove}
-use Rattle.soundness.specs.ModelIds.{IsTypeId}
-use Rattle.soundness.specs.Models.{IsSoundModel}
+use Rattle.round_trip.specs.soundness.Inheritance.{HasNoCircle}
+use Rattle.round_trip.specs.soundness.Lookups.{IsAncestor as IsAbove}
+use Rattle.round_trip.specs.soundness.ModelIds.{IsTypeId}
+use Rattle.round_trip.specs.soundness.Models.{IsSoundModel}
 use Rattle.base_chains.specs.Chains.{IsAncestor, direct, further, StaysWithin}
 use Rattle.base_chains.proofs.Chains.{Ends, ends}
 use Rattle.base_chains.proofs.Members.{in_map}

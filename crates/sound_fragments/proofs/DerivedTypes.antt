@@ -6,7 +6,7 @@ use Rattle.base_chains.proofs.Chains.{above_above}
 use Rattle.edm_types.specs.Forest.{type_numbered}
 use Rattle.edm_types.specs.IsA.{same, base, chain}
 use Rattle.round_trip.specs.Words.{EntityModel, EntityType, HasBase, IsA, TypeId}
-use Rattle.soundness.specs.Models.{IsSoundModel}
+use Rattle.round_trip.specs.soundness.Models.{IsSoundModel}
 use Rattle.schema_names.specs.Inherited.{base_place}
 use Rattle.schema_names.proofs.Inherits.{has_base, sound_inherits}
 use Rattle.csdl_meaning.proofs.Stable.{settled, up_or_not}

@@ -12,11 +12,11 @@ use Rattle.layouts.specs.declared.rule.Rule.TheVariants as rule
 use Rattle.edm_types.specs.declared.mapping.CondOn.TheVariants as on
 use Rattle.edm_types.specs.declared.mapping.Test.TheVariants.{Equals}
 use Rattle.round_trip.specs.Words.{Cond, CondOn, EntityModel, Kind, InDomain, PropId, Schema, StoreModel, Test, Value}
-use Rattle.soundness.specs.Conditions.{AskOf, AskOfNoKeyColumn, AskOfNoKeyProp, ComparesInDomain, kind_of}
-use Rattle.soundness.specs.Joined.{ComparesNoBarred}
-use Rattle.soundness.specs.Kinds.{IsBinary}
-use Rattle.soundness.specs.Lookups.{set_key}
-use Rattle.soundness.specs.Mappings.{IsCondId}
+use Rattle.round_trip.specs.soundness.Conditions.{AskOf, AskOfNoKeyColumn, AskOfNoKeyProp, ComparesInDomain, kind_of}
+use Rattle.round_trip.specs.soundness.Joined.{ComparesNoBarred}
+use Rattle.round_trip.specs.soundness.Kinds.{IsBinary}
+use Rattle.round_trip.specs.soundness.Lookups.{set_key}
+use Rattle.round_trip.specs.soundness.Mappings.{IsCondId}
 use Rattle.condition_values.specs.Spelled.{IsSpelled, spelled}
 use Rattle.csdl_meaning.proofs.Bases.{and_then_some}
 use Rattle.csdl_meaning.proofs.FaultPlaces.{fault_at, in_list}

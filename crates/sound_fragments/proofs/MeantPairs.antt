@@ -8,10 +8,10 @@ use Rattle.json_form.specs.declared.pointer.Step.TheVariants.{Item, Member}
 use Rattle.layouts.specs.declared.rule.Rule.TheVariants as rule
 use Rattle.rule_places.specs.Places.{IsAt}
 use Rattle.round_trip.specs.Words.{EntityModel, Pair, PropId, Schema, StoreModel, key_columns}
-use Rattle.soundness.specs.Fragments.{WritesOnce, WritesToFitting}
-use Rattle.soundness.specs.Joined.{WritesNoBarredEnum}
-use Rattle.soundness.specs.Lookups.{set_key}
-use Rattle.soundness.specs.Mappings.{HasPairIds}
+use Rattle.round_trip.specs.soundness.Fragments.{WritesOnce, WritesToFitting}
+use Rattle.round_trip.specs.soundness.Joined.{WritesNoBarredEnum}
+use Rattle.round_trip.specs.soundness.Lookups.{set_key}
+use Rattle.round_trip.specs.soundness.Mappings.{HasPairIds}
 use Rattle.key_matching.specs.Matchings.{Matches}
 use Rattle.name_places.proofs.FirstPlaces.{names_apart}
 use Rattle.csdl_meaning.proofs.Bases.{and_then_some}

@@ -11,8 +11,8 @@ use Rattle.json_form.specs.declared.pointer.Step.TheVariants.{Item, Member}
 use Rattle.layouts.specs.declared.rule.Rule.TheVariants.{SharedProperty}
 use Rattle.edm_types.specs.Forest.{type_numbered}
 use Rattle.round_trip.specs.Words.{EntityModel, EntitySet, IsA, Pick, PropId, StoreModel, props_of}
-use Rattle.soundness.specs.Lookups.{IsUnderElement}
-use Rattle.soundness.specs.ModelIds.{IsTypeId}
+use Rattle.round_trip.specs.soundness.Lookups.{IsUnderElement}
+use Rattle.round_trip.specs.soundness.ModelIds.{IsTypeId}
 use Rattle.name_places.proofs.FirstPlaces.{first_has}
 use Rattle.csdl_meaning.proofs.FaultPlaces.{fault_at, in_list}
 use Rattle.csdl_meaning.proofs.FoundItems.{some_member}

@@ -9,7 +9,7 @@ use Rattle.emc_base.proofs.Lists.{at_once}
 use Rattle.base_chains.proofs.Members.{contains_head, contains_tail}
 use Rattle.edm_types.specs.Forest.{type_numbered}
 use Rattle.round_trip.specs.Words.{Column, EntityModel, Prop, PropId, StoreModel, Table, props_of}
-use Rattle.soundness.specs.Lookups.{columns_of}
+use Rattle.round_trip.specs.soundness.Lookups.{columns_of}
 use Rattle.name_places.specs.GivenNames.{first_place}
 use Rattle.name_places.proofs.FirstPlaces.{first_has}
 use Rattle.csdl_meaning.proofs.Bases.{and_then_some}

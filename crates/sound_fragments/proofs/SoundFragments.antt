@@ -5,9 +5,9 @@ use Rattle.emc_base.proofs.Lists.{all_from_members}
 use Rattle.edm_types.specs.declared.mapping.CondOn.TheVariants as on
 use Rattle.name_places.proofs.FirstPlaces.{first_has}
 use Rattle.round_trip.specs.Words.{Cond, EntityModel, Pair, PropId, StoreModel, key_columns, props_of}
-use Rattle.soundness.specs.Fragments.{NamesSharedProps, WritesKey}
-use Rattle.soundness.specs.Lookups.{set_key}
-use Rattle.soundness.specs.Mappings.{HasFragmentIds, IsSoundFragment}
+use Rattle.round_trip.specs.soundness.Fragments.{NamesSharedProps, WritesKey}
+use Rattle.round_trip.specs.soundness.Lookups.{set_key}
+use Rattle.round_trip.specs.soundness.Mappings.{HasFragmentIds, IsSoundFragment}
 use Rattle.csdl_meaning.proofs.FoundItems.{member_of}
 use Rattle.msl_lists.specs.declared.raw.RawMapping.{RawMapping}
 use Rattle.msl_rules.specs.Found.{prop_of_picks}

@@ -3,7 +3,7 @@
 
 ghost use Rattle.std.specs.Prelude.{All};
 ghost use Rattle.round_trip.specs.Words.{EntityModel, StoreModel};
-ghost use Rattle.soundness.specs.Mappings.{IsSoundFragment};
+ghost use Rattle.round_trip.specs.soundness.Mappings.{IsSoundFragment};
 ghost use Rattle.msl_lists.specs.declared.raw.RawMapping.{RawMapping};
 ghost use Rattle.msl_rules.specs.KeepsMapping.{KeepsMappingRules};
 ghost use Rattle.msl_rules.specs.MappingMeaning.{mapping_in, schema_in};

@@ -14,8 +14,8 @@ use Rattle.json_form.specs.declared.pointer.Step.TheVariants.{Item, Member}
 use Rattle.layouts.specs.declared.rule.Rule.TheVariants as rule
 use Rattle.rule_places.specs.Places.{IsAt}
 use Rattle.round_trip.specs.Words.{ColId, End, EntityModel, Pair, PropId, StoreModel, key_props}
-use Rattle.soundness.specs.Fragments.{WritesEndKey, WritesLinkOnce, WritesToFitting}
-use Rattle.soundness.specs.Mappings.{HasPairIds}
+use Rattle.round_trip.specs.soundness.Fragments.{WritesEndKey, WritesLinkOnce, WritesToFitting}
+use Rattle.round_trip.specs.soundness.Mappings.{HasPairIds}
 use Rattle.name_places.proofs.FirstPlaces.{names_apart}
 use Rattle.schema_names.specs.SchemaNames.{column_named, prop_named}
 use Rattle.csdl_meaning.proofs.FaultPlaces.{fault_at, in_list}

@@ -6,8 +6,8 @@ use Rattle.edm_types.specs.declared.mapping.CondOn.TheVariants as on
 use Rattle.edm_types.specs.declared.mapping.Test.TheVariants.{Equals}
 use Rattle.emc_base.specs.declared.value.Kind.TheVariants as kinds
 use Rattle.round_trip.specs.Words.{Cond, CondOn, InDomain, Kind, PropId, Schema, Test, Value}
-use Rattle.soundness.specs.Conditions.{ComparesInDomain, kind_of}
-use Rattle.soundness.specs.Kinds.{IsBinary}
+use Rattle.round_trip.specs.soundness.Conditions.{ComparesInDomain, kind_of}
+use Rattle.round_trip.specs.soundness.Kinds.{IsBinary}
 use Rattle.csdl_meaning.proofs.Bases.{and_then_some}
 use Rattle.csdl_meaning.proofs.Keys.{map_some}
 use Rattle.msl_lists.specs.declared.raw.RawCond.{RawCond}

@@ -6,9 +6,9 @@ use Rattle.emc_base.specs.Lists.{AreApart}
 use Rattle.emc_base.proofs.Lists.{all_from_members}
 use Rattle.emc_base.proofs.Numbered.{all_pairs_map}
 use Rattle.round_trip.specs.Words.{ColId, Column, Pair, PropId, Schema, StoreModel, Table}
-use Rattle.soundness.specs.Lookups.{columns_of}
-use Rattle.soundness.specs.Mappings.{HasPairIds}
-use Rattle.soundness.specs.ModelIds.{IsPropId}
+use Rattle.round_trip.specs.soundness.Lookups.{columns_of}
+use Rattle.round_trip.specs.soundness.Mappings.{HasPairIds}
+use Rattle.round_trip.specs.soundness.ModelIds.{IsPropId}
 use Rattle.name_places.proofs.FirstPlaces.{first_has}
 use Rattle.schema_names.specs.SchemaNames.{column_named}
 use Rattle.csdl_meaning.proofs.Bases.{and_then_some}

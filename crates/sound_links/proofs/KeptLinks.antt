@@ -8,7 +8,7 @@ use Rattle.layouts.specs.declared.fault.Fault.{Fault}
 use Rattle.layouts.specs.declared.rule.Rule.{Rule}
 use Rattle.layouts.specs.declared.rule.Rule.TheVariants as rule
 use Rattle.round_trip.specs.Words.{Assoc, End, EntityModel, IsIndependent, LinkFragment, Schema, StoreModel}
-use Rattle.soundness.specs.Owners.{IsPlaced}
+use Rattle.round_trip.specs.soundness.Owners.{IsPlaced}
 use Rattle.rule_places.specs.Places.{InList}
 use Rattle.name_places.proofs.FirstPlaces.{names_apart}
 use Rattle.csdl_names.specs.Repeated.{IsRepeatedIn}

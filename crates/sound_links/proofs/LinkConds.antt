@@ -8,9 +8,9 @@ use Rattle.edm_types.specs.declared.mapping.CondOn.TheVariants as on
 use Rattle.json_form.specs.declared.pointer.Step.TheVariants.{Member}
 use Rattle.layouts.specs.declared.rule.Rule.TheVariants as rule
 use Rattle.round_trip.specs.Words.{ColId, Cond, CondOn, EntityModel, PropId, Schema, StoreModel}
-use Rattle.soundness.specs.Conditions.{AskOfNoKeyColumn, AskOfNoProp, ComparesInDomain}
-use Rattle.soundness.specs.Joined.{ComparesNoBarred}
-use Rattle.soundness.specs.Mappings.{IsCondId}
+use Rattle.round_trip.specs.soundness.Conditions.{AskOfNoKeyColumn, AskOfNoProp, ComparesInDomain}
+use Rattle.round_trip.specs.soundness.Joined.{ComparesNoBarred}
+use Rattle.round_trip.specs.soundness.Mappings.{IsCondId}
 use Rattle.schema_names.specs.SchemaNames.{column_named}
 use Rattle.csdl_meaning.proofs.FaultPlaces.{fault_at}
 use Rattle.csdl_meaning.proofs.FoundItems.{member_of}

@@ -9,9 +9,9 @@ use Rattle.emc_base.proofs.Lists.{item_at}
 use Rattle.emc_base.proofs.Mapped.{contains_at}
 use Rattle.emc_base.proofs.Numbered.{all_pairs_map}
 use Rattle.round_trip.specs.Words.{EntityModel, EntityType, Prop, PropId, TypeId, Assoc, StoreModel, Table, At, props_of}
-use Rattle.soundness.specs.ModelIds.{IsPropId}
-use Rattle.soundness.specs.Models.{IsSoundModel}
-use Rattle.soundness.specs.Stores.{IsSoundStore}
+use Rattle.round_trip.specs.soundness.ModelIds.{IsPropId}
+use Rattle.round_trip.specs.soundness.Models.{IsSoundModel}
+use Rattle.round_trip.specs.soundness.Stores.{IsSoundStore}
 use Rattle.sound_types.specs.PropNames.{HaveOtherNames}
 use Rattle.sound_types.proofs.Once.{names_once}
 use Rattle.entity_state.specs.StateTree.{is_independent, name_of}

@@ -11,7 +11,7 @@ use Rattle.layouts.specs.declared.rule.Rule.TheVariants.{WritesKey, WrittenOnce}
 use Rattle.rule_places.specs.Places.{InList, IsAt}
 use Rattle.name_places.specs.GivenNames.{IsGivenBefore}
 use Rattle.round_trip.specs.Words.{ColId, EntityModel, Fragment, Pair, PropId, Schema, StoreModel, key_columns}
-use Rattle.soundness.specs.Lookups.{set_key}
+use Rattle.round_trip.specs.soundness.Lookups.{set_key}
 use Rattle.schema_names.specs.SchemaNames.{set_named, table_named}
 use Rattle.key_matching.specs.Matchings.{Matches}
 use Rattle.csdl_meaning.proofs.FaultPlaces.{fault_at, in_list}

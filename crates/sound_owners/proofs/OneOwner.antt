@@ -7,7 +7,7 @@ use Rattle.emc_base.proofs.Lists.{item_at}
 use Rattle.base_chains.proofs.Orders.{place_of_member}
 use Rattle.layouts.specs.declared.rule.Rule.TheVariants.{OneOwner, OnePairing}
 use Rattle.round_trip.specs.Words.{EntityModel, StoreModel, TableId}
-use Rattle.soundness.specs.Owners as sound
+use Rattle.round_trip.specs.soundness.Owners as sound
 use Rattle.table_writers.specs.Writers.{HasOtherOwner, PairsOtherwise}
 use Rattle.table_writers.specs.declared.writer.Owner.{Owner}
 use Rattle.table_writers.specs.declared.writer.Owner.TheVariants.{Set, Assoc}

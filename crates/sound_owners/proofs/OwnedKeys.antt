@@ -3,9 +3,9 @@ use Rattle.std.proofs.Common.{◌≡◌, ⊎_elim, ℕ, List, Contains, Some, sy
 use Rattle.emc_base.specs.Lists.{At}
 use Rattle.emc_base.proofs.Lists.{at_once}
 use Rattle.round_trip.specs.Words.{Assoc, End, EntityModel, LinkFragment, Pair, PropId, SetId, StoreModel, TableId, key_columns, key_props}
-use Rattle.soundness.specs.Constraints.{IsSoundEnd}
-use Rattle.soundness.specs.Lookups.{set_key}
-use Rattle.soundness.specs.Owners.{Owns, SetHosts, SetWrites}
+use Rattle.round_trip.specs.soundness.Constraints.{IsSoundEnd}
+use Rattle.round_trip.specs.soundness.Lookups.{set_key}
+use Rattle.round_trip.specs.soundness.Owners.{Owns, SetHosts, SetWrites}
 use Rattle.msl_lists.specs.declared.raw.RawMapping.{RawMapping}
 use Rattle.msl_rules.specs.Found.{end_pairs, role_end}
 use Rattle.msl_rules.specs.KeepsMapping.{KeepsMappingRules}

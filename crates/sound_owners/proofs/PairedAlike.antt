@@ -3,8 +3,8 @@ use Rattle.std.proofs.Common.{List, Contains, refl, ap}
 use Rattle.std.proofs.lemmas.List.Elements.{All-contains}
 use Rattle.base_chains.proofs.Orders.{place_of_member}
 use Rattle.round_trip.specs.Words.{ColId, EntityModel, Pair, PropId, StoreModel, key_columns}
-use Rattle.soundness.specs.Lookups.{set_key}
-use Rattle.soundness.specs.Owners.{PairsKeysAlike}
+use Rattle.round_trip.specs.soundness.Lookups.{set_key}
+use Rattle.round_trip.specs.soundness.Owners.{PairsKeysAlike}
 use Rattle.table_writers.specs.declared.writer.Writer.{Writer}
 use Rattle.table_writers.proofs.Agreeing.{one_pairing}
 use Rattle.msl_lists.specs.declared.raw.RawMapping.{RawMapping}

@@ -9,8 +9,8 @@ use Rattle.base_chains.proofs.Members.{contains_head}
 use Rattle.round_trip.specs.Words.{Assoc, End, EntityModel, Fragment, LinkFragment, Mult, Pair, SetId, StoreModel, TableId, key_columns}
 use Rattle.round_trip.specs.FailsAt.{IsHostedAt}
 use Rattle.edm_types.specs.declared.model.Mult.TheVariants.{One, ZeroOrOne, Many}
-use Rattle.soundness.specs.Lookups.{set_key}
-use Rattle.soundness.specs.Owners.{IsJoined, LinkMaps, Owns, SetHosts, SetWrites}
+use Rattle.round_trip.specs.soundness.Lookups.{set_key}
+use Rattle.round_trip.specs.soundness.Owners.{IsJoined, LinkMaps, Owns, SetHosts, SetWrites}
 use Rattle.table_writers.specs.declared.writer.Owner.TheVariants as owner
 use Rattle.table_writers.specs.declared.writer.Writer.{Writer}
 use Rattle.csdl_meaning.proofs.FoundItems.{contains_flat_map}

@@ -8,12 +8,12 @@ use Rattle.emc_base.proofs.Mapped.{contains_at}
 use Rattle.round_trip.specs.Words.{EntityModel, EntityType, TypeId, HasBase, IsA}
 use Rattle.edm_types.specs.Forest.{type_numbered}
 use Rattle.edm_types.specs.IsA.{same, base, chain}
-use Rattle.soundness.specs.Lookups.{IsAncestor as IsAbove}
-use Rattle.soundness.specs.ModelIds.{IsTypeId}
-use Rattle.soundness.specs.Models.{IsSoundModel}
+use Rattle.round_trip.specs.soundness.Lookups.{IsAncestor as IsAbove}
+use Rattle.round_trip.specs.soundness.ModelIds.{IsTypeId}
+use Rattle.round_trip.specs.soundness.Models.{IsSoundModel}
 use Rattle.base_chains.specs.Chains.{IsAncestor, direct, further, StaysWithin}
 use Rattle.base_chains.proofs.Chains.{Ends, ends}
-use Rattle.sound_forests.proofs.Whole.{base_place}
+pub use Rattle.sound_forests.proofs.Whole.{base_place}
 
 module _ (model : EntityModel) where
   -- a base type has its place

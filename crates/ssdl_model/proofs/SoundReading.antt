@@ -7,7 +7,7 @@ use Rattle.emc_base.proofs.Lists.{all_from_members}
 use Rattle.least_fault.specs.Least.{IsLeast}
 use Rattle.layouts.specs.Faults.{fault_cmp}
 use Rattle.edm_types.specs.declared.store.StoreModel.{StoreModel}
-use Rattle.soundness.specs.Stores.{IsSoundStore}
+use Rattle.round_trip.specs.soundness.Stores.{IsSoundStore}
 use Rattle.csdl_lists.specs.declared.raw.RawModel.{RawModel}
 use Rattle.csdl_lists.specs.declared.raw.RawType.{RawType}
 use Rattle.ssdl_lists.specs.RawStore.{IsUnbased, raw_store, raw_table}

@@ -6,7 +6,7 @@ use Rattle.told_rules.specs.Reads.{Answers}
 use Rattle.edm_types.specs.declared.faults.VocabFault.{VocabFault}
 use Rattle.edm_types.specs.declared.faults.VocabFile.TheVariants.{Ssdl}
 use Rattle.edm_types.specs.declared.store.StoreModel.{StoreModel}
-use Rattle.soundness.specs.Stores.{IsSoundStore}
+use Rattle.round_trip.specs.soundness.Stores.{IsSoundStore}
 use Rattle.ssdl_lists.specs.RawStore.{raw_store}
 use Rattle.ssdl_making.specs.StoreMeaning.{store_meaning}
 use Rattle.ssdl_model.specs.StoreFaults.{IsStoreFault}

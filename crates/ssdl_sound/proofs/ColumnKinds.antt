@@ -2,8 +2,8 @@
 use Rattle.std.proofs.Common.{◌≡◌, Option, Some, None, option_map, refl}
 use Rattle.std.specs.Option.{option_map_or}
 use Rattle.emc_base.specs.declared.value.Kind.TheVariants as kind
-use Rattle.soundness.specs.Kinds.{IsEnum, IsKeyKind, IsSoundKind, without_bound}
-use Rattle.soundness.specs.Stores.{IsSoundColumn}
+use Rattle.round_trip.specs.soundness.Kinds.{IsEnum, IsKeyKind, IsSoundKind, without_bound}
+use Rattle.round_trip.specs.soundness.Stores.{IsSoundColumn}
 use Rattle.csdl_lists.specs.declared.raw.RawModel.{RawModel}
 use Rattle.csdl_lists.specs.declared.raw.RawProp.{RawProp}
 use Rattle.csdl_types.specs.declared.simple.PropType.TheVariants as named

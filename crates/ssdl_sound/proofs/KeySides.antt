@@ -9,9 +9,9 @@ use Rattle.emc_base.specs.Lists.{At}
 use Rattle.edm_types.specs.declared.store.Column.{Column}
 use Rattle.edm_types.specs.declared.store.Table.{Table}
 use Rattle.round_trip.specs.Words.{ColId, key_columns}
-use Rattle.soundness.specs.Kinds.{without_bound}
-use Rattle.soundness.specs.Lookups.{column_kind as kind_at, columns_of}
-use Rattle.soundness.specs.Stores.{IsColId, IsTableId}
+use Rattle.round_trip.specs.soundness.Kinds.{without_bound}
+use Rattle.round_trip.specs.soundness.Lookups.{column_kind as kind_at, columns_of}
+use Rattle.round_trip.specs.soundness.Stores.{IsColId, IsTableId}
 use Rattle.csdl_lists.specs.declared.raw.RawAssociation.{RawAssociation}
 use Rattle.csdl_lists.specs.declared.raw.RawModel.{RawModel}
 use Rattle.csdl_lists.specs.declared.raw.RawProp.{RawProp}

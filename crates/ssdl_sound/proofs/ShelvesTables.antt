@@ -12,7 +12,7 @@ use Rattle.base_chains.proofs.Orders.{place_of_member}
 use Rattle.layouts.specs.declared.fault.Fault.{Fault}
 use Rattle.layouts.specs.declared.rule.Rule.TheVariants.{KeyColumn}
 use Rattle.rule_places.specs.Places.{InList}
-use Rattle.soundness.specs.Kinds.{largest_bound}
+use Rattle.round_trip.specs.soundness.Kinds.{largest_bound}
 use Rattle.csdl_lists.specs.declared.raw.RawBound.TheVariants.{Absent, Number}
 use Rattle.csdl_lists.specs.declared.raw.RawProp.{RawProp}
 use Rattle.csdl_types.specs.Keys.{IsFailingKeyProp, IsKeySimple}

@@ -7,7 +7,7 @@ use Rattle.emc_base.specs.Lists.{At, AreApart, HoldsEachOnce}
 use Rattle.emc_base.proofs.Lists.{at_once}
 use Rattle.edm_types.specs.declared.store.ForeignKey.{ForeignKey}
 use Rattle.round_trip.specs.Words.{ColId, TableId}
-use Rattle.soundness.specs.Stores.{HasForeignIds, HasMatchedColumns, IsSoundForeignKey, PointsElsewhere}
+use Rattle.round_trip.specs.soundness.Stores.{HasForeignIds, HasMatchedColumns, IsSoundForeignKey, PointsElsewhere}
 use Rattle.csdl_lists.specs.declared.raw.RawAssociation.{RawAssociation}
 use Rattle.csdl_lists.specs.declared.raw.RawConstraint.{RawConstraint}
 use Rattle.csdl_lists.specs.declared.raw.RawModel.{RawModel}

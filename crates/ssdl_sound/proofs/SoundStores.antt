@@ -1,5 +1,5 @@
 -- What a document means is a sound store where it breaks no rule.
-use Rattle.soundness.specs.Stores.{IsSoundStore}
+use Rattle.round_trip.specs.soundness.Stores.{IsSoundStore}
 use Rattle.csdl_lists.specs.declared.raw.RawModel.{RawModel}
 use Rattle.ssdl_making.specs.StoreMeaning.{store_meaning}
 use Rattle.ssdl_sound.specs.SoundStore.{KeepsStoreRules}

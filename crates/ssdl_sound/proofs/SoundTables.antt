@@ -10,7 +10,7 @@ use Rattle.emc_base.proofs.Mapped.{contains_at}
 use Rattle.edm_types.specs.declared.store.Column.{Column}
 use Rattle.edm_types.specs.declared.store.Table.{Table}
 use Rattle.round_trip.specs.Words.{ColId}
-use Rattle.soundness.specs.Stores.{HasPrimaryKey, IsKeyColumn, IsSoundColumn, IsSoundTable}
+use Rattle.round_trip.specs.soundness.Stores.{HasPrimaryKey, IsKeyColumn, IsSoundColumn, IsSoundTable}
 use Rattle.csdl_lists.specs.declared.raw.RawModel.{RawModel}
 use Rattle.csdl_lists.specs.declared.raw.RawSet.{RawSet}
 use Rattle.csdl_meaning.proofs.Given.{sets_apart}

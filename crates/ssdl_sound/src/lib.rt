@@ -3,7 +3,7 @@
 
 ghost use Rattle.std.specs.Prelude.{◌≡◌};
 ghost use Rattle.csdl_lists.specs.declared.raw.RawModel.{RawModel};
-ghost use Rattle.soundness.specs.Stores.{IsSoundStore};
+ghost use Rattle.round_trip.specs.soundness.Stores.{IsSoundStore};
 ghost use Rattle.ssdl_making.specs.StoreMeaning.{store_meaning};
 ghost use Rattle.ssdl_sound.specs.Shelves.{shelf_store, shelves};
 ghost use Rattle.ssdl_sound.specs.SoundStore.{KeepsStoreRules};

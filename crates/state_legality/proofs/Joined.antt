@@ -3,7 +3,7 @@ use Rattle.std.proofs.Common.{◌≡◌, ◌⊎◌, ⊎_elim, inl, inr, Option, 
 use Rattle.least_fault.specs.Least.{IsLeast, earlier}
 use Rattle.least_fault.proofs.Leasts.{least_of_both, least_same}
 use Rattle.round_trip.specs.Words.{Breach, EntityModel, State, IsBreachOf, IsLegal, IsState}
-use Rattle.soundness.specs.Models.{IsSoundModel}
+use Rattle.round_trip.specs.soundness.Models.{IsSoundModel}
 use Rattle.breach_order.specs.Founds.{found_cmp}
 use Rattle.breach_order.specs.FoundOrder.{found_cmp_total}
 use Rattle.breach_order.specs.declared.found.Found.{Found}

@@ -1,7 +1,7 @@
 ghost use Rattle.std.specs.Prelude.{IfOk};
 ghost use Rattle.least_fault.specs.Least.{IsLeast};
 ghost use Rattle.round_trip.specs.Words.{Breach, EntityModel, IsBreachOf, IsLegal, IsState, State};
-ghost use Rattle.soundness.specs.Models.{IsSoundModel};
+ghost use Rattle.round_trip.specs.soundness.Models.{IsSoundModel};
 ghost use Rattle.breach_order.specs.Founds.{found_cmp};
 ghost use Rattle.state_legality.specs.Tells.{BreaksState, TellsState};
 

@@ -1,6 +1,6 @@
 ghost use Rattle.std.specs.Prelude.{◌↔◌, IsTrue};
 ghost use Rattle.round_trip.specs.Words.{IsLegal, IsState};
-ghost use Rattle.soundness.specs.Models.{IsSoundModel};
+ghost use Rattle.round_trip.specs.soundness.Models.{IsSoundModel};
 ghost use Rattle.set_legality.specs.Tells.{AreLegalSets};
 ghost use Rattle.link_legality.specs.Tells.{KeepsLinkRules, state_of};
 

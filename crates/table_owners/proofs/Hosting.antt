@@ -8,7 +8,7 @@ use Rattle.emc_base.proofs.Lists.{at_once, item_at, same_place}
 use Rattle.emc_base.proofs.Mapped.{contains_at}
 use Rattle.round_trip.specs.Words.{Assoc, AssocId, LinkFragId, LinkFragment, Schema}
 use Rattle.round_trip.specs.FailsAt.{IsHostedAt}
-use Rattle.soundness.specs.Mappings.{IsSoundSchema}
+use Rattle.round_trip.specs.soundness.Mappings.{IsSoundSchema}
 use Rattle.table_owners.specs.declared.places.LinkPlace.{LinkPlace}
 use Rattle.table_owners.specs.declared.places.LinkPlace.TheVariants as place
 use Rattle.table_owners.specs.Places.{AreHosted, AreToldHosted, IsMappedBy, StandApart, TellPlaces, TellsPlace}

@@ -9,8 +9,8 @@ use Rattle.emc_base.proofs.Lists.{item_at}
 use Rattle.emc_base.proofs.Mapped.{contains_at}
 use Rattle.round_trip.specs.Words.{ColId, LinkFragment, Pair, Schema, Table, key_columns}
 use Rattle.round_trip.specs.FailsAt.{IsHostedAt}
-use Rattle.soundness.specs.Mappings.{HasLinkFragmentIds, IsSoundSchema}
-use Rattle.soundness.specs.Stores.{IsSoundTable}
+use Rattle.round_trip.specs.soundness.Mappings.{HasLinkFragmentIds, IsSoundSchema}
+use Rattle.round_trip.specs.soundness.Stores.{IsSoundTable}
 use Rattle.table_owners.proofs.Items.{first_there}
 use Rattle.table_owners.proofs.Owning.{assoc_there, sound_links}
 

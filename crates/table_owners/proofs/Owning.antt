@@ -8,8 +8,8 @@ use Rattle.emc_base.proofs.Lists.{item_at}
 use Rattle.emc_base.proofs.Mapped.{contains_at}
 use Rattle.round_trip.specs.Words.{Assoc, AssocId, Fragment, IsWritten, LinkFragId, LinkFragment, Pair, Schema, SetId, TableId}
 use Rattle.round_trip.specs.FailsAt.{IsHostedAt}
-use Rattle.soundness.specs.Mappings.{HasLinkFragmentIds, IsSoundLinkFragment, IsSoundSchema}
-use Rattle.soundness.specs.Owners as sound
+use Rattle.round_trip.specs.soundness.Mappings.{HasLinkFragmentIds, IsSoundLinkFragment, IsSoundSchema}
+use Rattle.round_trip.specs.soundness.Owners as sound
 use Rattle.table_writers.specs.declared.writer.Owner.{Owner}
 use Rattle.table_writers.specs.declared.writer.Owner.TheVariants as owner
 use Rattle.table_owners.specs.declared.sources.Source.{Source}

@@ -12,13 +12,13 @@ use Rattle.edm_types.specs.IsA as is_a
 use Rattle.round_trip.specs.Words.{AssocId, ColId, End, EntityModel, EntitySet, EntityType, Fragment, IsA, IsWritten, Pair, PropId, Schema}
 use Rattle.round_trip.specs.Words.{SetId, Table, TableId, TypeId, key_columns, key_props}
 use Rattle.round_trip.specs.FailsAt.{IsHostedAt}
-use Rattle.soundness.specs.Constraints.{IsSoundAssoc, IsSoundEnd}
-use Rattle.soundness.specs.Fragments.{WritesEndKey}
-use Rattle.soundness.specs.Inheritance.{IsRootKey}
-use Rattle.soundness.specs.Lookups.{set_key}
-use Rattle.soundness.specs.Mappings.{IsSoundFragment, IsSoundSchema}
-use Rattle.soundness.specs.Models.{IsSoundModel}
-use Rattle.soundness.specs.Owners as sound
+use Rattle.round_trip.specs.soundness.Constraints.{IsSoundAssoc, IsSoundEnd}
+use Rattle.round_trip.specs.soundness.Fragments.{WritesEndKey}
+use Rattle.round_trip.specs.soundness.Inheritance.{IsRootKey}
+use Rattle.round_trip.specs.soundness.Lookups.{set_key}
+use Rattle.round_trip.specs.soundness.Mappings.{IsSoundFragment, IsSoundSchema}
+use Rattle.round_trip.specs.soundness.Models.{IsSoundModel}
+use Rattle.round_trip.specs.soundness.Owners as sound
 use Rattle.table_owners.specs.declared.sources.Source.{Source}
 use Rattle.table_owners.specs.Made.{Made}
 use Rattle.table_owners.specs.Pairings.{IsPairedWith, TellPairings, TellsPairing}

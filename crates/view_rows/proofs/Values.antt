@@ -10,8 +10,8 @@ use Rattle.regions.specs.declared.pattern.Symbol.{Symbol}
 use Rattle.regions.specs.declared.pattern.Symbol.TheVariants as symbol
 use Rattle.regions.specs.declared.pattern.PatternRow.{PatternRow}
 use Rattle.regions.specs.Patterns.{by_entity, by_link}
-use Rattle.pattern_laws.specs.Allowed.{end_at, partner_parts}
-use Rattle.pattern_laws.specs.Described.{row_for, value_in}
+use Rattle.region_laws.specs.pattern.Allowed.{end_at, partner_parts}
+use Rattle.region_laws.specs.pattern.Described.{row_for, value_in}
 use Rattle.view_rows.specs.declared.view_cells.ViewCell.{ViewCell}
 use Rattle.view_rows.specs.declared.view_cells.ViewCell.TheVariants as cell
 use Rattle.view_rows.specs.declared.link_cells.LinkCell.{LinkCell}

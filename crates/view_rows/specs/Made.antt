@@ -10,7 +10,7 @@ use Rattle.regions.specs.declared.pattern.PatternRow.{PatternRow}
 use Rattle.regions.specs.declared.pattern.Focus.TheVariants as focus
 use Rattle.regions.specs.Basis.{Basis}
 use Rattle.regions.specs.Patterns.{pattern_of}
-use Rattle.pattern_laws.specs.Allowed.{end_at}
+use Rattle.region_laws.specs.pattern.Allowed.{end_at}
 use Rattle.view_rows.specs.declared.view_cells.ViewCell.{ViewCell}
 use Rattle.view_rows.specs.declared.view_cells.ViewCell.TheVariants as cell
 use Rattle.view_rows.specs.declared.link_cells.LinkCell.{LinkCell}

@@ -1,7 +1,7 @@
 ghost use Rattle.std.specs.Prelude.{◌≡◌, ◌==◌, IfOk, find, position, unwrap_or};
 ghost use Rattle.std.specs.Option.{option_copied};
 ghost use Rattle.round_trip.specs.Words.{Null, key_props, props_of};
-ghost use Rattle.pattern_laws.specs.Allowed.{end_at};
+ghost use Rattle.region_laws.specs.pattern.Allowed.{end_at};
 ghost use Rattle.view_rows.specs.Made.{cell_of, end_cell, own_cell, partner_cell, symbol_cell};
 ghost use Rattle.view_rows.specs.Held.{held_by_entity, part_held};
 

@@ -1,6 +1,6 @@
 ghost use Rattle.cells.specs.Parts.{AreParts};
 ghost use Rattle.link_places.specs.Between.{schema_of};
-ghost use Rattle.soundness.specs.Mappings.{IsSoundSchema};
+ghost use Rattle.round_trip.specs.soundness.Mappings.{IsSoundSchema};
 
 use cells::{Cells, Parts};
 use edm_types::{Entity, Link, Row};

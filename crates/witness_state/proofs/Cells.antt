@@ -4,7 +4,7 @@ use Rattle.std.proofs.lemmas.Bool.{and_parts}
 use Rattle.round_trip.specs.Words.{SetId, TableId, ColId, Column, Entity, FailsAt, Pair, Place, Schema, State, Table}
 use Rattle.round_trip.specs.FailsAt.{HasColumn}
 use Rattle.round_trip.specs.declared.FailKind.TheVariants as kind
-use Rattle.soundness.specs.Owners.{SetWrites}
+use Rattle.round_trip.specs.soundness.Owners.{SetWrites}
 use Rattle.cells.specs.declared.parts.Parts.{Parts}
 use Rattle.cells.specs.Parts.{schema_in}
 use Rattle.regions.specs.declared.region.Region.{Region}
@@ -14,19 +14,19 @@ use Rattle.regions.specs.Basis.{Basis}
 use Rattle.regions.specs.Patterns.{Valuation, pattern_of, writings_of}
 use Rattle.regions.specs.Regions.{regions_of}
 use Rattle.region_basis.specs.BasisOf.{basis_of}
-use Rattle.pattern_laws.proofs.Cells.{cell_of}
-use Rattle.default_values.specs.Defaults.{default_valuation}
+use Rattle.region_laws.proofs.pattern.Cells.{cell_of}
+use Rattle.region_states.specs.defaults.Defaults.{default_valuation}
 use Rattle.conflicts.specs.Facts.{has_row, is_required}
 use Rattle.conflicts.specs.declared.conflict.Conflict.TheVariants as conflict
 use Rattle.region_states.specs.Entities.{focus_entity}
 use Rattle.region_states.specs.LoneStates.{lone_focus, lone_state}
 use Rattle.region_states.proofs.Alike.{lone_hosts}
-use Rattle.clash_laws.specs.ClashValues.{clash_values}
-use Rattle.clash_laws.proofs.Clashing.{Decides-clash, IsClash}
-use Rattle.clash_laws.proofs.Fails.{fails_at}
-use Rattle.null_laws.proofs.Failing.{null_fails}
-use Rattle.null_laws.proofs.Listed.{Decides-row}
-use Rattle.null_laws.proofs.Required.{required_there}
+use Rattle.conflict_laws.specs.clash.ClashValues.{clash_values}
+use Rattle.conflict_laws.proofs.clash.Clashing.{Decides-clash, IsClash}
+use Rattle.conflict_laws.proofs.clash.Fails.{fails_at}
+use Rattle.conflict_laws.proofs.null.Failing.{null_fails}
+use Rattle.conflict_laws.proofs.null.Listed.{Decides-row}
+use Rattle.conflict_laws.proofs.null.Required.{required_there}
 use Rattle.witness_state.specs.Failures.{IsFailureOf}
 use Rattle.witness_state.specs.CellPlaces.{IsCellPlace}
 use Rattle.witness_state.specs.FirstConflict.{IsFirstConflict}

@@ -11,15 +11,15 @@ use Rattle.regions.specs.Basis.{Basis}
 use Rattle.regions.specs.Patterns.{Valuation}
 use Rattle.regions.specs.Symbols.{is_linked}
 use Rattle.region_basis.specs.BasisOf.{basis_of}
-use Rattle.default_values.specs.Defaults.{default_valuation}
+use Rattle.region_states.specs.defaults.Defaults.{default_valuation}
 use Rattle.conflicts.specs.Facts.{differ, is_hosted, shows_link_pattern}
 use Rattle.conflicts.specs.declared.conflict.Conflict.TheVariants as conflict
 use Rattle.region_states.specs.Entities.{focus_entity}
 use Rattle.region_states.specs.LoneStates.{lone_focus, lone_state}
 use Rattle.region_states.proofs.Alike.{lone_hosts}
 use Rattle.region_states.proofs.Legal.{no_host}
-use Rattle.disagreement_laws.proofs.Deciding.{Decides-disagrees, Decides-hosted, SomeDiffers, SomeLinksDiffer}
-use Rattle.disagreement_laws.proofs.Failing.{fails}
+use Rattle.conflict_laws.proofs.disagreement.Deciding.{Decides-disagrees, Decides-hosted, SomeDiffers, SomeLinksDiffer}
+use Rattle.conflict_laws.proofs.disagreement.Failing.{fails}
 use Rattle.witness_state.specs.Failures.{IsFailureOf}
 use Rattle.witness_state.specs.FirstConflict.{IsFirstConflict}
 use Rattle.witness_state.specs.Shown.{shown_alone}

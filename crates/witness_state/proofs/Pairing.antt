@@ -5,7 +5,7 @@ use Rattle.std.proofs.lemmas.List.Elements.{All-contains, All-head, All-tail}
 use mathlib.Core.List.{map-map}
 use Rattle.emc_base.specs.Lists.{AreApart}
 use Rattle.round_trip.specs.Words.{SetId, TableId, ColId, PropId, Entity, Fragment, Pair, Schema, value_of, values_of}
-use Rattle.soundness.specs.Owners.{SetWrites}
+use Rattle.round_trip.specs.soundness.Owners.{SetWrites}
 use Rattle.state_demand.specs.Owners.{IsOfOwner, IsOwned, paired_key, props_in}
 use Rattle.state_demand.specs.WellWritten.{cols_of}
 use Rattle.state_demand.proofs.Lists.{same_by_key}

@@ -10,8 +10,8 @@ use Rattle.regions.specs.Basis.{Basis}
 use Rattle.regions.specs.Patterns.{Valuation}
 use Rattle.regions.specs.Regions.{regions_of}
 use Rattle.region_basis.specs.BasisOf.{basis_of}
-use Rattle.pattern_laws.proofs.Regions.{parts_of}
-use Rattle.default_values.specs.Defaults.{default_valuation}
+use Rattle.region_laws.proofs.pattern.Regions.{parts_of}
+use Rattle.region_states.specs.defaults.Defaults.{default_valuation}
 use Rattle.conflicts.specs.declared.conflict.Conflict.{Conflict}
 use Rattle.conflicts.specs.declared.conflict.Conflict.TheVariants as conflict
 use Rattle.conflicts.specs.There.{NoneFailsBefore, NoneFailsBy}
@@ -19,13 +19,13 @@ use Rattle.region_states.specs.Entities.{focus_entity}
 use Rattle.region_states.specs.LoneStates.{empty_state, lone_focus, lone_state}
 use Rattle.region_states.proofs.Alike.{lone_hosts, lone_leaves, lone_rivals}
 use Rattle.region_states.proofs.Legal.{no_host}
-use Rattle.rival_laws.specs.RivalValues.{first_values, second_values}
-use Rattle.same_laws.specs.SameValues.{first_several, with_one, with_other}
-use Rattle.same_laws.specs.States.{HasStates}
-use Rattle.same_laws.proofs.Absent.{several_lost}
-use Rattle.same_laws.proofs.LeftOut.{absent_fails}
-use Rattle.same_laws.proofs.Lost.{lost_fails, lost_told}
-use Rattle.same_laws.proofs.RivalsFail.{rivals_fail}
+use Rattle.conflict_laws.specs.rival.RivalValues.{first_values, second_values}
+use Rattle.conflict_laws.specs.same.SameValues.{first_several, with_one, with_other}
+use Rattle.conflict_laws.specs.same.States.{HasStates}
+use Rattle.conflict_laws.proofs.same.Absent.{several_lost}
+use Rattle.conflict_laws.proofs.same.LeftOut.{absent_fails}
+use Rattle.conflict_laws.proofs.same.Lost.{lost_fails, lost_told}
+use Rattle.conflict_laws.proofs.same.RivalsFail.{rivals_fail}
 use Rattle.witness_state.specs.declared.failure.Failure.{Failure}
 use Rattle.witness_state.specs.Failures.{IsFailureOf}
 use Rattle.witness_state.specs.FirstConflict.{IsFirstConflict}

@@ -1,7 +1,7 @@
 -- Where no association set is declared, a region's set writes the table of each row of its pattern, by a fragment of entities.
 use Rattle.std.proofs.Common.{◌≡◌, inl, inr, List, Contains, refl, sym, ap, ◌∙◌}
 use Rattle.round_trip.specs.Words.{SetId, TableId, Pair}
-use Rattle.soundness.specs.Owners.{SetWrites}
+use Rattle.round_trip.specs.soundness.Owners.{SetWrites}
 use Rattle.regions.specs.declared.region.Region.{Region}
 use Rattle.regions.specs.declared.pattern.Focus.TheVariants as focus
 use Rattle.regions.specs.declared.pattern.PatternRow.{PatternRow}
@@ -10,10 +10,10 @@ use Rattle.regions.specs.Patterns.{pattern_of}
 use Rattle.regions.specs.Regions.{regions_of}
 use Rattle.regions.specs.Symbols.{SymbolWriting, region_writings}
 use Rattle.region_laws.specs.IsBasis.{IsBasis}
-use Rattle.pattern_laws.proofs.Cells.{row_of, writing_to}
-use Rattle.pattern_laws.proofs.Origins.{IsRegionWriter, chosen_of, region_writer}
-use Rattle.pattern_laws.proofs.Regions.{parts_of}
-use Rattle.focus_laws.specs.Held.{HasRow}
+use Rattle.region_laws.proofs.pattern.Cells.{row_of, writing_to}
+use Rattle.region_laws.proofs.pattern.Origins.{IsRegionWriter, chosen_of, region_writer}
+use Rattle.region_laws.proofs.pattern.Regions.{parts_of}
+use Rattle.region_states.specs.focus.Held.{HasRow}
 use Rattle.region_states.specs.LoneStates.{HasNoAssociationSets}
 use Rattle.region_states.proofs.Legal.{no_host}
 

@@ -4,7 +4,7 @@ ghost use Rattle.regions.specs.declared.pattern.Symbol.TheVariants as symbol;
 ghost use Rattle.regions.specs.Settled.{possible};
 ghost use Rattle.conflicts.specs.SameFacts.{is_multi, is_one_of};
 ghost use Rattle.region_basis.specs.BasisOf.{basis_of};
-ghost use Rattle.same_laws.specs.SameValues.{first_several, may_differ};
+ghost use Rattle.conflict_laws.specs.same.SameValues.{first_several, may_differ};
 
 use cells::Parts;
 use condition_logic::{Atom, AtomOf};

@@ -1,5 +1,5 @@
 use Rattle.std.proofs.Common.{sym, ◌∙◌}
-use Rattle.default_values.proofs.Lists.{Decides-constant}
+use Rattle.region_states.proofs.defaults.Lists.{Decides-constant}
 use Rattle.case_cells.proofs.holding.is_among.Goals as goal
 
 pub returns : goal.returns

@@ -2,8 +2,8 @@ use Rattle.std.proofs.Common.{◌≡◌, ◌≤◌, List, length, sym, subst, �
 use Rattle.std.proofs.lemmas.Bool.{le-leb, leb-true}
 use Rattle.std.proofs.lemmas.Option.{same_Some}
 use Rattle.round_trip.specs.Words.{Value}
-use Rattle.soundness.specs.Joined.{prop}
-use Rattle.group_constants.specs.Constants.{ListsJust}
+use Rattle.round_trip.specs.soundness.Joined.{prop}
+use Rattle.member_groups.specs.MemberGroups.{ListsJust}
 use Rattle.member_groups.specs.Tested.{IsConstant}
 use Rattle.member_groups.specs.MemberGroups.{constants_in}
 use Rattle.cells.specs.Parts.{schema_in}

@@ -1,6 +1,6 @@
 use Rattle.std.proofs.Common.{ℕ, ◌+◌, List, sym, subst}
 use Rattle.round_trip.specs.Words.{GroupId}
-use Rattle.soundness.specs.Joined.{col}
+use Rattle.round_trip.specs.soundness.Joined.{col}
 use Rattle.joined_groups.specs.declared.labels.Label.{Label}
 use Rattle.joined_groups.specs.Labels.{label_of}
 use Rattle.group_numbers.specs.Numbers.{AreNumbered, Grows, Notes}

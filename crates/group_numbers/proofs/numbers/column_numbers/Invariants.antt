@@ -1,4 +1,4 @@
-use Rattle.soundness.specs.Joined.{col}
+use Rattle.round_trip.specs.soundness.Joined.{col}
 use Rattle.joined_groups.specs.Labels.{label_of}
 use Rattle.group_numbers.specs.Numbers.{AreNumbered, Grows}
 use Rattle.group_numbers.proofs.numbers.column_numbers.Given as goal

@@ -6,7 +6,7 @@ use Rattle.layouts.specs.Faults.{fault_cmp}
 use Rattle.rule_places.specs.Places.{IsAt, InList}
 use Rattle.rule_places.proofs.Rules.{least_joined, least_where}
 use Rattle.round_trip.specs.Words.{PropId}
-use Rattle.soundness.specs.Lookups.{set_key}
+use Rattle.round_trip.specs.soundness.Lookups.{set_key}
 use Rattle.msl_lists.specs.declared.raw.RawPair.{RawPair}
 use Rattle.msl_rules.specs.Found.{set_numbered}
 use Rattle.msl_rules.specs.FragmentRules.{IsUnfitFault, IsCondFault, IsEnumFault, IsWrittenBefore}

@@ -1,5 +1,5 @@
 use Rattle.std.proofs.Common.{◌≡◌, filter, length, map, take}
-use Rattle.soundness.specs.Joined.{prop}
+use Rattle.round_trip.specs.soundness.Joined.{prop}
 use Rattle.regions.specs.Regions.{atoms_at}
 use Rattle.region_laws.specs.Counting.{product_of}
 use Rattle.region_basis.specs.BasisOf.{basis_of}

@@ -1,6 +1,6 @@
 use Rattle.std.proofs.Common.{◌*◌, List, map, filter, length, ap, ◌∙◌}
 use Rattle.round_trip.specs.Words.{PropId, props_of}
-use Rattle.soundness.specs.Joined.{prop}
+use Rattle.round_trip.specs.soundness.Joined.{prop}
 use Rattle.regions.specs.Regions.{atoms_at, flags_at}
 use Rattle.region_laws.specs.Counting.{product_of}
 use Rattle.region_basis.specs.BasisOf.{basis_of}

@@ -1,5 +1,5 @@
 use Rattle.std.proofs.Common.{arith, ◌∙◌}
-use Rattle.soundness.specs.Joined.{prop}
+use Rattle.round_trip.specs.soundness.Joined.{prop}
 use Rattle.cells.specs.Parts.{schema_in}
 use Rattle.region_search.proofs.Constants.{group_has, none_past, told_by}
 use Rattle.region_search.proofs.atoms.constants_of.Goals as goal

@@ -1,5 +1,5 @@
 use Rattle.std.proofs.Common.{◌≡◌, ◌++◌, filter, map, take}
-use Rattle.soundness.specs.Joined.{prop}
+use Rattle.round_trip.specs.soundness.Joined.{prop}
 use Rattle.region_basis.specs.BasisOf.{basis_of}
 use Rattle.region_table.specs.Made.{value_test}
 use Rattle.region_table.proofs.making.add_values.Given as goal

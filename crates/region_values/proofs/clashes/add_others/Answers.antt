@@ -1,6 +1,6 @@
 use Rattle.std.proofs.Common.{◌≡◌, ◌++◌, map}
 use Rattle.std.proofs.lemmas.Result.{IfOk-weaker}
-use Rattle.clash_laws.specs.ClashValues.{with_others}
+use Rattle.conflict_laws.specs.clash.ClashValues.{with_others}
 use Rattle.regions.specs.Settled.{possible}
 use Rattle.region_basis.specs.BasisOf.{basis_of}
 use Rattle.region_values.specs.Changes.{both_changes, by_change}

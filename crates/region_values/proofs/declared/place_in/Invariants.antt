@@ -1,5 +1,5 @@
 use Rattle.std.proofs.Common.{◌≡◌, ◌+◌, drop}
-use Rattle.default_values.specs.Defaults.{place_in}
+use Rattle.region_states.specs.defaults.Defaults.{place_in}
 use Rattle.region_values.proofs.declared.place_in.Given as goal
 
 -- none of the properties so far is the one

@@ -8,7 +8,7 @@ use Rattle.round_trip.specs.Words.{Entity}
 use Rattle.regions.specs.Patterns.{Valuation}
 use Rattle.region_basis.specs.BasisOf.{basis_of}
 use Rattle.region_states.specs.Entities.{focus_entity}
-use Rattle.clash_laws.specs.ClashValues.{differ_under}
+use Rattle.conflict_laws.specs.clash.ClashValues.{differ_under}
 use Rattle.region_values.specs.declared.changes.Change.{Change}
 use Rattle.region_values.specs.Changes.{by_change}
 use Rattle.region_values.proofs.Tried.{first_differs, none_differs}

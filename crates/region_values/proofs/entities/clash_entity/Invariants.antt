@@ -1,6 +1,6 @@
 use Rattle.std.proofs.Common.{◌≡◌, false, take}
 use Rattle.std.specs.List.{list_any}
-use Rattle.clash_laws.specs.ClashValues.{differ_under}
+use Rattle.conflict_laws.specs.clash.ClashValues.{differ_under}
 use Rattle.region_basis.specs.BasisOf.{basis_of}
 use Rattle.region_values.specs.Changes.{by_change}
 use Rattle.region_values.proofs.entities.clash_entity.Given as goal

@@ -2,7 +2,7 @@ use Rattle.std.proofs.Common.{rules, ap, ◌∙◌, tests}
 use Rattle.std.specs.List.{list_any}
 use Rattle.std.proofs.lemmas.Iterator.{YieldsList-from_slice}
 use Rattle.std.proofs.lemmas.Iterator.Search.{any_from_yields_List}
-use Rattle.rival_laws.specs.RivalValues.{faces_null_in}
+use Rattle.conflict_laws.specs.rival.RivalValues.{faces_null_in}
 use Rattle.region_values.proofs.facing.faces_null.Goals as goal
 
 pub returns : goal.returns

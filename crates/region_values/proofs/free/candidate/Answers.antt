@@ -3,7 +3,7 @@ use Rattle.std.proofs.lemmas.Int.{ints}
 use Rattle.std.proofs.lemmas.Result.{IfOk-weaker}
 use Rattle.emc_base.specs.Lists.{At}
 use Rattle.round_trip.specs.Words.{Value, Kind, Whole}
-use Rattle.default_values.specs.Candidates.{candidates, letter}
+use Rattle.region_states.specs.defaults.Candidates.{candidates, letter}
 use Rattle.region_values.proofs.Candidates.{letter_at, member_at, plain_at}
 use Rattle.region_values.proofs.free.candidate.Goals as goal
 

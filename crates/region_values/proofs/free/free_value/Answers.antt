@@ -1,6 +1,6 @@
 use Rattle.std.proofs.Common.{◌+◌, ℕ, drop, sym, ap, ◌∙◌, arith}
 use Rattle.round_trip.specs.Words.{Value}
-use Rattle.default_values.specs.Candidates.{candidates}
+use Rattle.region_states.specs.defaults.Candidates.{candidates}
 use Rattle.region_values.proofs.Among.{as_many, free_among, free_is, one_fewer, stands_here, stands_nowhere}
 use Rattle.region_values.proofs.free.free_value.Goals as goal
 use Rattle.region_values.proofs.free.free_value.Goals.{then-is_left+else-left-eq0, else-is_left}

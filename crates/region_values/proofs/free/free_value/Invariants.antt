@@ -1,5 +1,5 @@
 use Rattle.std.proofs.Common.{◌≡◌, drop}
-use Rattle.default_values.specs.Candidates.{candidates}
+use Rattle.region_states.specs.defaults.Candidates.{candidates}
 use Rattle.region_values.proofs.Among.{free_among}
 use Rattle.region_values.proofs.free.free_value.Given as goal
 

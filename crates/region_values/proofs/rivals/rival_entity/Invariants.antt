@@ -1,7 +1,7 @@
 use Rattle.std.proofs.Common.{◌≡◌, map, take}
-use Rattle.default_values.specs.Defaults.{changed, default_valuation}
+use Rattle.region_states.specs.defaults.Defaults.{changed, default_valuation}
 use Rattle.region_basis.specs.BasisOf.{basis_of}
-use Rattle.rival_laws.specs.RivalValues.{rival_value}
+use Rattle.conflict_laws.specs.rival.RivalValues.{rival_value}
 use Rattle.region_values.proofs.rivals.rival_entity.Given as goal
 
 -- the values of the properties so far have come

@@ -1,7 +1,7 @@
 use Rattle.std.proofs.Common.{Some, None, ap, ◌∙◌}
 use Rattle.std.specs.Option.{option_map_or}
 use Rattle.region_basis.specs.BasisOf.{basis_of}
-use Rattle.rival_laws.specs.RivalValues.{shared_value}
+use Rattle.conflict_laws.specs.rival.RivalValues.{shared_value}
 use Rattle.region_values.proofs.Faced.{is_null, is_shared}
 use Rattle.region_values.proofs.rivals.rival_value.Goals as goal
 

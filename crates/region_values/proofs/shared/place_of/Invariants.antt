@@ -2,7 +2,7 @@ use Rattle.std.proofs.Common.{◌≡◌, ◌+◌, ℕ, Option, Some, None, drop}
 use Rattle.std.specs.Option.{option_map_or}
 use Rattle.round_trip.specs.Words.{props_of}
 use Rattle.region_basis.specs.BasisOf.{basis_of}
-use Rattle.rival_laws.specs.RivalValues.{group_place}
+use Rattle.conflict_laws.specs.rival.RivalValues.{group_place}
 use Rattle.region_values.proofs.shared.place_of.Given as goal
 
 -- a place so many further on

@@ -4,7 +4,7 @@ use Rattle.std.specs.List.{AllZip}
 use Rattle.std.proofs.lemmas.Result.{IfOk-weaker}
 use Rattle.cells.specs.Parts.{schema_in}
 use Rattle.round_trip.specs.Words.{PropId, ColId, Schema}
-use Rattle.soundness.specs.Lookups.{set_key}
+use Rattle.round_trip.specs.soundness.Lookups.{set_key}
 use Rattle.set_rows.specs.Owning.{IsBeside, IsKeyOrder}
 use Rattle.set_rows.proofs.KeyOrder.{in_order, whole}
 use Rattle.set_rows.proofs.owning.key_order.Goals as goal

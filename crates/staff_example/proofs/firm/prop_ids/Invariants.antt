@@ -1,5 +1,5 @@
 use Rattle.std.proofs.Common.{◌≡◌, map, take}
-use Rattle.soundness.specs.Inheritance.{prop_numbered}
+use Rattle.round_trip.specs.soundness.Inheritance.{prop_numbered}
 use Rattle.staff_example.proofs.firm.prop_ids.Given as goal
 
 -- the ids of the places that were passed

@@ -1,5 +1,5 @@
 use Rattle.std.proofs.Common.{Some, sym, subst}
-use Rattle.soundness.specs.Models.{IsSoundModel}
+use Rattle.round_trip.specs.soundness.Models.{IsSoundModel}
 use Rattle.staff_example.proofs.SoundStaff.{staff_is_sound}
 use Rattle.staff_example.proofs.firm.staff.Goals as goal
 

@@ -1,7 +1,7 @@
 use Rattle.std.proofs.Common.{◌⊎◌, List, subst₂}
 use Rattle.std.proofs.lemmas.Result.{IfOk-weaker}
 use Rattle.round_trip.specs.Words.{Pair}
-use Rattle.soundness.specs.Joined.{Member}
+use Rattle.round_trip.specs.soundness.Joined.{Member}
 use Rattle.link_places.specs.Between.{schema_of}
 use Rattle.barred_members.specs.Added.{Adds, HostsAt}
 use Rattle.barred_members.proofs.Adding.{adds_both}

@@ -2,7 +2,7 @@ use Rattle.std.proofs.Common.{get_or, subst, true}
 use Rattle.std.specs.BTreeSet.{Updates}
 use Rattle.std.proofs.lemmas.Option.{slice_get-get_or}
 use Rattle.round_trip.specs.Words.{PropId}
-use Rattle.soundness.specs.Joined.{prop}
+use Rattle.round_trip.specs.soundness.Joined.{prop}
 use Rattle.barred_members.specs.Added.{IsProp}
 use Rattle.joined_groups.specs.Labels.{label_cmp}
 use Rattle.barred_members.specs.declared.barred.Barred.{Barred}

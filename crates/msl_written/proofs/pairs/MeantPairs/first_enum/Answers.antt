@@ -3,7 +3,7 @@ use Rattle.layouts.specs.declared.fault.Fault.{Fault}
 use Rattle.layouts.specs.declared.rule.Rule.TheVariants.{ForeignValue}
 use Rattle.rule_places.specs.Places.{IsAt}
 use Rattle.round_trip.specs.Words.{Pair}
-use Rattle.soundness.specs.Joined.{WritesNoBarredEnum}
+use Rattle.round_trip.specs.soundness.Joined.{WritesNoBarredEnum}
 use Rattle.msl_written.specs.Within.{meant_in, schema_in}
 use Rattle.msl_written.proofs.Meant.{least_by_meant}
 use Rattle.msl_written.proofs.pairs.MeantPairs.first_enum.Goals as goal

@@ -3,7 +3,7 @@ use Rattle.layouts.specs.declared.fault.Fault.{Fault}
 use Rattle.layouts.specs.declared.rule.Rule.TheVariants.{Corresponds}
 use Rattle.rule_places.specs.Places.{IsAt}
 use Rattle.round_trip.specs.Words.{Pair}
-use Rattle.soundness.specs.Fragments.{WritesToFitting}
+use Rattle.round_trip.specs.soundness.Fragments.{WritesToFitting}
 use Rattle.msl_written.specs.Within.{meant_in, schema_in, table_in}
 use Rattle.msl_written.proofs.Meant.{least_by_meant}
 use Rattle.msl_written.proofs.pairs.MeantPairs.first_unfit.Goals as goal

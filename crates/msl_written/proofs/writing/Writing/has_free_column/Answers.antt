@@ -1,6 +1,6 @@
 use Rattle.std.proofs.Common.{ap, sym, slice_get, ◌∙◌}
 use Rattle.round_trip.specs.Words.{TableId}
-use Rattle.soundness.specs.Joined.Member.{col}
+use Rattle.round_trip.specs.soundness.Joined.Member.{col}
 use Rattle.barred_members.specs.Told.{is_told}
 use Rattle.msl_written.specs.Within.{schema_in, table_in}
 use Rattle.msl_written.proofs.Free.{same_made, told_free}

@@ -1,7 +1,7 @@
 use Rattle.std.proofs.Common.{◌↔◌, IsTrue, not, sym, subst}
 use Rattle.edm_types.specs.declared.mapping.CondOn.{CondOn}
-use Rattle.soundness.specs.Joined.{IsBarred, member_of}
-use Rattle.soundness.specs.Joined.Member.{prop}
+use Rattle.round_trip.specs.soundness.Joined.{IsBarred, member_of}
+use Rattle.round_trip.specs.soundness.Joined.Member.{prop}
 use Rattle.msl_written.specs.Within.{schema_in, table_in}
 use Rattle.msl_written.proofs.Free.{told_free}
 use Rattle.msl_written.proofs.writing.Writing.is_free.Goals as goal

@@ -38,6 +38,6 @@ returns c =
     let all : c.loop-index.index ≡ length parts.model.now.sets = omega (arith, past, below, count) in
     let First : ℕ → Type 0 = λ n. AreOfFirst (AreLent basis is_free tables) n c.loop-index.sets.items in (
       refl,
-      is_candidate basis is_free tables (c.parts_are_a_basis.ensures.basis parts c.requires.parts) (record { model = parts.model; sets = c.loop-index.sets }) c.requires.alone refl
+      is_candidate basis is_free tables (c.parts_are_a_basis.ensures.basis parts c.requires.parts) (record { model = parts.model; sets = c.loop-index.sets }) refl
           (subst First all c.loop-index.invariant),
     )

@@ -1,0 +1,153 @@
+-- The keys of an entity's partners: of a link that it hosts where there is one, else the usual ones. An entity that hosts few links has them.
+use Rattle.std.proofs.Common.{◌≡◌, ⊎_elim, inl, inr, ◌==◌, List, [], ◌∷◌, find, slice_get, if◌then◌else◌, Bool, true, false, not, Contains, refl, sym, ap, subst, ◌∙◌}
+use Rattle.std.specs.Option.{option_map_or}
+use Rattle.std.proofs.lemmas.List.Elements.{All-contains}
+use Rattle.emc_base.proofs.Numbered.{filter_contains}
+use Rattle.round_trip.specs.Words.{SetId, AssocId, PropId, Value, Null, Assoc, Entity, Link, Prop, State, At, HasAllowedNulls, HasProp, HasValuesInDomain, InDomain, IsLegal, entities_in, key_of, key_props, links_in, props_of, value_beside, value_of}
+use Rattle.state_demand.specs.Selecting.{same_key}
+use Rattle.state_demand.proofs.Decisions.{so_or_not}
+use Rattle.state_demand.proofs.Lists.{head_stands, none_in_nil}
+use Rattle.cells.specs.Limits.{IsWithinLimits}
+use Rattle.regions.specs.declared.region.Region.{Region}
+use Rattle.regions.specs.Atoms.{Allows}
+use Rattle.regions.specs.Basis.{Basis, Host, host_key, partner_end, partner_key}
+use Rattle.regions.specs.Patterns.{by_entity, by_link}
+use Rattle.regions.specs.Symbols.{is_linked}
+use Rattle.region_laws.specs.IsBasis.{IsBasis}
+use Rattle.region_laws.specs.Partners.{TellsPartner}
+use Rattle.region_laws.specs.RegionAt.{links_at}
+use Rattle.region_laws.proofs.Symbols.{Decides-assoc}
+use Rattle.region_laws.specs.pattern.Allowed.{HasAllowedParts, IsAllowed, end_at}
+use Rattle.region_laws.proofs.pattern.Allowed.{link_allowed}
+use Rattle.region_laws.proofs.pattern.Hosting.{one_host}
+use Rattle.region_laws.proofs.pattern.Origins.{linked_decided}
+use Rattle.region_laws.proofs.pattern.Regions.{parts_of}
+use Rattle.region_states.specs.focus.Held.{IsOfRegion}
+use Rattle.region_states.proofs.focus.Flags.{unflagged}
+use Rattle.region_states.specs.defaults.Defaults.{default_part}
+use Rattle.region_states.proofs.defaults.Defaults.{default_admissible}
+use Rattle.conflicts.specs.There.{HasFewLinks}
+use Rattle.conflict_laws.proofs.clash.Found.{found_only}
+use Rattle.conflict_laws.proofs.clash.Written.{HasToldLinks}
+
+-- the partner's end, by the end that hosts
+partner_is : (first_hosts : Bool) (assoc : Assoc) → end_at (not first_hosts) assoc ≡ partner_end first_hosts assoc
+partner_is true assoc = refl
+partner_is false assoc = refl
+
+module _ (basis : Basis) (state : State) (s : SetId) (entity : Entity) where
+  abbrev key : List Value
+  key = key_of basis.schema.model entity
+
+  -- the links of an association that the entity hosts
+  abbrev hosted_of : AssocId → List Link
+  hosted_of a = option_map_or (λ host. links_at state host key) (find (λ host. host.assoc.index == a.index) (basis.hosts s)) []
+
+  -- a part of a key at an end of the first of these links, or the usual one where there is none
+  abbrev part_or : AssocId → Bool → PropId → List Link → Value
+  part_or a first p [] = default_part basis a first p
+  part_or a first p (link ∷ links) = option_map_or (λ assoc. (by_link basis.schema.model assoc link).part a first p) (slice_get basis.schema.model.assocs a.index) Null
+
+  abbrev pub told_part : AssocId → Bool → PropId → Value
+  told_part a first p = part_or a first p (hosted_of a)
+
+  module _ (is : IsBasis basis) (host : Host) (hosts : Contains (basis.hosts s) host) where
+    abbrev links : List Link
+    links = links_at state host key
+
+    -- these are the links of its host
+    hosted_are : hosted_of host.assoc ≡ links
+    hosted_are = ap (λ found. option_map_or (λ (one : Host). links_at state one key) found [])
+        (found_only (λ (one : Host). one.assoc.index == host.assoc.index) (basis.hosts s) host hosts ((Decides-assoc host.assoc host.assoc).1 refl)
+        (λ other has passes. one_host basis is s other host has hosts ((Decides-assoc other.assoc host.assoc).0 passes)))
+
+    -- without a link it is the usual one
+    usual_told : links ≡ [] → (first : Bool) (p : PropId) → told_part host.assoc first p ≡ default_part basis host.assoc first p
+    usual_told none first p = ap (part_or host.assoc first p) (hosted_are ∙ none)
+
+    -- with one it is the link's
+    link_told : (link : Link) (rest : List Link) → links ≡ link ∷ rest → (assoc : Assoc) → At basis.schema.model.assocs host.assoc.index assoc → (first : Bool) (p : PropId)
+        → told_part host.assoc first p ≡ (by_link basis.schema.model assoc link).part host.assoc first p
+    link_told link rest some assoc here first p =
+        ap (part_or host.assoc first p) (hosted_are ∙ some)
+        ∙ ap (λ found. option_map_or (λ (one : Assoc). (by_link basis.schema.model one link).part host.assoc first p) found Null) here
+
+    -- the parts are those of the partner of each link that the entity hosts, where it hosts few
+    tells_partner : HasFewLinks basis state s entity → (link : Link) → Contains links link → TellsPartner basis host link told_part
+    tells_partner few link has assoc here p = by links refl
+      where
+        of_link : (first_hosts : Bool) → (by_link basis.schema.model assoc link).part host.assoc (if first_hosts then false else true) p
+            ≡ value_beside p (key_props basis.schema.model (partner_end first_hosts assoc).ty) (partner_key first_hosts link)
+        of_link true = refl
+        of_link false = refl
+
+        by : (found : List Link) → links ≡ found → told_part host.assoc (if host.first_hosts then false else true) p
+            ≡ value_beside p (key_props basis.schema.model (partner_end host.first_hosts assoc).ty) (partner_key host.first_hosts link)
+        by [] none = absurd (none_in_nil link (subst (λ list. Contains list link) none has))
+        by (first ∷ rest) some =
+            let same : link ≡ first = few host hosts link first has (subst (λ list. Contains list first) (sym some) (head_stands first rest)) in
+            let there : links ≡ link ∷ rest = some ∙ (λ k. sym same k ∷ rest) in
+            link_told link rest there assoc here (if host.first_hosts then false else true) p ∙ of_link host.first_hosts
+
+module _ (basis : Basis) (is : IsBasis basis) (limits : IsWithinLimits basis.schema) (state : State) (legal : IsLegal basis.schema.model state) (s : SetId) (entity : Entity)
+    (region : Region) (of : IsOfRegion basis state s entity region) where
+  abbrev part : AssocId → Bool → PropId → Value
+  part = told_part basis state s entity
+
+  -- each link that the entity hosts is flagged, and to the partner that is told
+  pub told_links : HasFewLinks basis state s entity → HasToldLinks basis state s entity region (told_part basis state s entity)
+  told_links few = record {
+    flagged = λ host hosts link has. ⊎_elim
+        (λ (linked : Contains region.linked host.assoc). linked)
+        (λ (not_linked : ¬ Contains region.linked host.assoc).
+        absurd (none_in_nil link (subst (λ list. Contains list link) (unflagged basis is state legal s entity region of host hosts not_linked) has)))
+        (so_or_not (is_linked basis region.linked host.assoc) (linked_decided basis region.linked host.assoc));
+    told = λ host hosts link has. tells_partner basis state s entity is host hosts few link has;
+  }
+
+  module _ (host : Host) (assoc : Assoc) (is_host : Contains (basis.hosts region.set) host) (linked : Contains region.linked host.assoc)
+      (here : At basis.schema.model.assocs host.assoc.index assoc) where
+    abbrev links_here : List Link
+    links_here = links_at state host (key_of basis.schema.model entity)
+
+    -- the host is one of the set's
+    hosts_here : Contains (basis.hosts s) host
+    hosts_here = subst (λ u. Contains (basis.hosts u) host) (parts_of basis s region of.listed).of_set is_host
+
+    -- the parts of a partner's key are in their domains
+    part_allowed : HasAllowedParts basis.schema.model (partner_end host.first_hosts assoc) (part host.assoc (not host.first_hosts))
+    part_allowed p declared key is_declared = by links_here refl
+      where
+        by : (found : List Link) → links_here ≡ found → InDomain (part host.assoc (not host.first_hosts) p) declared.kind
+        by [] none =
+            let P : Value → Type 0 = λ value. InDomain value declared.kind in
+            subst P (sym (usual_told basis state s entity is host hosts_here none (not host.first_hosts) p))
+            ((default_admissible basis is limits s region of.listed).allowed.parts host assoc is_host linked here p declared key is_declared)
+        by (link ∷ rest) some =
+            let at_key = λ (one : Link). same_key (host_key host.first_hosts one) (key_of basis.schema.model entity) in
+            let stands = (filter_contains at_key (links_in state host.assoc) link (subst (λ list. Contains list link) (sym some) (head_stands link rest))).0 in
+            let E : _ → Type 0 = λ end. Contains (key_props basis.schema.model end.ty) p in
+            let P : Value → Type 0 = λ value. InDomain value declared.kind in
+            subst P (sym (link_told basis state s entity is host hosts_here link rest some assoc here (not host.first_hosts) p))
+            ((link_allowed basis is state legal host.assoc assoc here link stands).parts assoc here (not host.first_hosts) p declared
+            (subst E (sym (partner_is host.first_hosts assoc)) key) is_declared)
+
+  -- each property of the type allows the entity's value
+  prop_allows : (p : PropId) (declared : Prop) → Contains (props_of basis.schema.model region.ty) p → At basis.schema.model.props p.index declared
+      → Allows declared (value_of basis.schema.model entity p)
+  prop_allows p declared among is_declared =
+      let parts = parts_of basis s region of.listed in
+      let legal_set = legal.sets s parts.set parts.is_set in
+      let has : HasProp basis.schema.model entity p declared = record {
+        among = subst (λ t. Contains (props_of basis.schema.model t) p) (sym of.holds.typed) among;
+        is_declared = is_declared;
+      } in
+      ⊎_elim
+      (λ (null : value_of basis.schema.model entity p ≡ Null).
+      inl (null, All-contains (HasAllowedNulls basis.schema.model) (entities_in state s) entity legal_set.nulls of.stands p declared has null))
+      (λ (domain : InDomain (value_of basis.schema.model entity p) declared.kind). inr domain)
+      (All-contains (HasValuesInDomain basis.schema.model) (entities_in state s) entity legal_set.domains of.stands p declared has)
+
+  -- the values of the entity and of these keys are allowed
+  pub told_allowed : IsAllowed basis region (by_entity basis.schema.model entity (told_part basis state s entity))
+  told_allowed = record { atoms = of.holds.atoms; props = prop_allows; parts = part_allowed }

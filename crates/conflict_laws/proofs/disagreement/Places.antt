@@ -1,0 +1,58 @@
+-- Fragments with one place are one, and none of entities has the place of one of links.
+use Rattle.std.proofs.Common.{◌≡◌, ◌≢◌, ⊎_elim, ℕ, List, [], ◌∷◌, ◌++◌, map, Contains, sym, subst, arith}
+use Rattle.std.proofs.lemmas.List.Elements.{Contains-append_left, Contains-append_right}
+use Rattle.std.proofs.lemmas.List.Kept.{AllPairs-cons}
+use Rattle.emc_base.specs.Lists.{AreApart}
+use Rattle.emc_base.proofs.Lists.{all_from_members}
+use Rattle.emc_base.proofs.Mapped.{contains_map}
+use Rattle.round_trip.specs.Words.{Fragment, LinkFragment, Schema}
+use Rattle.round_trip.specs.soundness.Mappings.{IsSoundSchema}
+use Rattle.state_demand.proofs.Lists.{member_cases, none_in_nil, same_by_key}
+use Rattle.state_demand.proofs.Owners.{pairs_from_map}
+use Rattle.state_demand.proofs.Permutations.{head_apart, rest_apart}
+
+module _ {X : Type 0} where
+  -- the parts of a list without repeats have none
+  apart_left : (xs ys : List X) → AreApart (xs ++ ys) → AreApart xs
+  apart_left [] ys apart = λ i j d below within. absurd (omega arith)
+  apart_left (x ∷ xs) ys apart = AllPairs-cons (λ a b. a ≢ b) x xs
+      (all_from_members (λ y. x ≢ y) xs (λ y has. head_apart x (xs ++ ys) y apart (Contains-append_left xs ys y has)))
+      (apart_left xs ys (rest_apart x (xs ++ ys) apart))
+
+  apart_right : (xs ys : List X) → AreApart (xs ++ ys) → AreApart ys
+  apart_right [] ys apart = apart
+  apart_right (x ∷ xs) ys apart = apart_right xs ys (rest_apart x (xs ++ ys) apart)
+
+  -- and nothing stands in both
+  apart_between : (xs ys : List X) (x : X) → AreApart (xs ++ ys) → Contains xs x → Contains ys x → ⊥
+  apart_between [] ys x apart first second = none_in_nil x first
+  apart_between (z ∷ zs) ys x apart first second = ⊎_elim
+      (λ (here : x ≡ z). head_apart z (zs ++ ys) x apart (Contains-append_right zs ys x second) (sym here))
+      (λ (later : Contains zs x). apart_between zs ys x (rest_apart z (zs ++ ys) apart) later second)
+      (member_cases z zs x first)
+
+module _ (schema : Schema) (sound : IsSoundSchema schema) where
+  abbrev place_in : Fragment → List ℕ
+  place_in fragment = fragment.place
+
+  abbrev link_place : LinkFragment → List ℕ
+  link_place fragment = fragment.place
+
+  -- entity fragments with one place are one
+  pub one_fragment : (one two : Fragment) → Contains schema.mapping.fragments one → Contains schema.mapping.fragments two → one.place ≡ two.place → one ≡ two
+  one_fragment one two has_one has_two same = same_by_key place_in schema.mapping.fragments one two
+      (pairs_from_map (λ (a b : List ℕ). a ≢ b) place_in schema.mapping.fragments
+      (apart_left (map place_in schema.mapping.fragments) (map link_place schema.mapping.links) sound.mapping.places)) has_one has_two same
+
+  -- so are link fragments
+  pub one_link_fragment : (one two : LinkFragment) → Contains schema.mapping.links one → Contains schema.mapping.links two → one.place ≡ two.place → one ≡ two
+  one_link_fragment one two has_one has_two same = same_by_key link_place schema.mapping.links one two
+      (pairs_from_map (λ (a b : List ℕ). a ≢ b) link_place schema.mapping.links
+      (apart_right (map place_in schema.mapping.fragments) (map link_place schema.mapping.links) sound.mapping.places)) has_one has_two same
+
+  -- and no two of both kinds have one place
+  pub no_fragment : (one : Fragment) (two : LinkFragment) → Contains schema.mapping.fragments one → Contains schema.mapping.links two → one.place ≢ two.place
+  no_fragment one two has_one has_two same =
+      apart_between (map place_in schema.mapping.fragments) (map link_place schema.mapping.links) two.place sound.mapping.places
+      (subst (Contains (map place_in schema.mapping.fragments)) same (contains_map place_in schema.mapping.fragments one has_one))
+      (contains_map link_place schema.mapping.links two has_two)

@@ -1,0 +1,9 @@
+use Rattle.conflict_laws.proofs.same.Absent.{several_lost}
+use Rattle.conflict_laws.proofs.same.LeftOut.{absent_fails}
+use Rattle.conflict_laws.proofs.same_laws.absent_entities_fail.Goals as goal
+
+pub returns-clause-several : goal.returns-clause-several
+returns-clause-several c basis state rivals leaving has s set is_set region listed absent = several_lost basis region absent
+
+pub returns-clause-none : goal.returns-clause-none
+returns-clause-none c = absent_fails

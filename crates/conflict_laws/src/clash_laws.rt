@@ -1,0 +1,60 @@
+//! Clashes: some legal state gives a cell two values just where a pattern lists two symbols in it that can differ.
+
+ghost use Rattle.std.specs.Prelude.{◌≡◌, ◌≢◌, Contains, IsTrue, List};
+ghost use Rattle.round_trip.specs.Words.{ColId, Column, FailsAt, Pair, SetId, State, Table, TableId, place_at};
+ghost use Rattle.round_trip.specs.FailsAt.{HasColumn};
+ghost use Rattle.round_trip.specs.declared.FailKind.TheVariants as kind;
+ghost use Rattle.state_demand.specs.Owners.{IsOwned, paired_key};
+ghost use Rattle.cells.specs.Limits.{IsWithinLimits};
+ghost use Rattle.regions.specs.Basis.{Basis};
+ghost use Rattle.regions.specs.Patterns.{Valuation, pattern_of, value_under};
+ghost use Rattle.regions.specs.Regions.{regions_of};
+ghost use Rattle.regions.specs.declared.pattern.Focus.TheVariants as focus;
+ghost use Rattle.regions.specs.declared.pattern.PatternRow.{PatternRow};
+ghost use Rattle.regions.specs.declared.pattern.Symbol.{Symbol};
+ghost use Rattle.regions.specs.declared.region.Region.{Region};
+ghost use Rattle.region_laws.specs.IsBasis.{IsBasis};
+ghost use Rattle.region_laws.specs.pattern.Described.{HasNoClashes};
+ghost use Rattle.region_states.specs.defaults.Admissible.{IsAdmissible};
+ghost use Rattle.conflicts.specs.Conflicts.{IsConflictAt};
+ghost use Rattle.conflicts.specs.Facts.{is_clash};
+ghost use Rattle.conflicts.specs.There.{FailsThere, NoneFailsBy};
+ghost use Rattle.conflicts.specs.declared.conflict.Conflict.{Conflict};
+ghost use Rattle.region_states.specs.Entities.{focus_entity};
+ghost use Rattle.region_states.specs.Hosting.{HostsFocuses};
+ghost use Rattle.conflict_laws.specs.clash.ClashValues.{clash_values};
+
+/// Two symbols of a cell that can differ do so by some admissible values.
+pub fn symbols_that_clash_differ()
+    ensures values { (basis : Basis) → IsBasis basis → IsWithinLimits basis.schema → (s : SetId) (region : Region) → Contains (regions_of basis s) region
+        → (t : TableId) (c : ColId) (one two : Symbol) → IsTrue (is_clash basis (focus.Entity region) t c one two)
+        → IsAdmissible basis region (clash_values basis region one two)
+        × (value_under (clash_values basis region one two) one ≢ value_under (clash_values basis region one two) two) }
+{}
+
+/// Where a pattern lists two symbols in a cell that can differ, the state with an entity of the region fails by a clash, at the cell of the entity's row.
+pub fn a_clash_fails()
+    ensures fails { (basis : Basis) → IsBasis basis → IsWithinLimits basis.schema → (state : Region → Valuation → State) → HostsFocuses basis state
+        → (s : SetId) (region : Region) → Contains (regions_of basis s) region
+        → (t : TableId) (c : ColId) (one two : Symbol) → IsTrue (is_clash basis (focus.Entity region) t c one two)
+        → (table : Table) (column : Column) → HasColumn basis.schema t table c column → (pairing : List Pair) → IsOwned basis.schema t s pairing → (d : State)
+        → FailsAt basis.schema kind.Clash
+        (place_at table.name (paired_key basis.schema.model pairing (focus_entity basis region (clash_values basis region one two))) column.name)
+        (state region (clash_values basis region one two)) d }
+    ensures there { (basis : Basis) → IsBasis basis → IsWithinLimits basis.schema → (state : Region → Valuation → State) → HostsFocuses basis state
+        → (s : SetId) (conflict : Conflict) → IsConflictAt basis s kind.Clash conflict → FailsThere basis s kind.Clash }
+{}
+
+/// Where a legal state gives a cell two values, in the row of an entity that hosts few links, some pattern of its set lists two symbols in a cell that
+/// can differ.
+pub fn a_clash_is_told()
+    ensures told { (basis : Basis) → IsBasis basis → IsWithinLimits basis.schema → (s : SetId) → FailsThere basis s kind.Clash
+        → (conflict : Conflict) × IsConflictAt basis s kind.Clash conflict }
+{}
+
+/// Where no legal state clashes, no pattern does.
+pub fn patterns_are_clear()
+    ensures clear { (basis : Basis) → IsBasis basis → IsWithinLimits basis.schema → (state : Region → Valuation → State) → HostsFocuses basis state
+        → NoneFailsBy basis.schema kind.Clash → (s : SetId) (region : Region) → Contains (regions_of basis s) region
+        → (row : PatternRow) → Contains (pattern_of basis (focus.Entity region)).rows row → HasNoClashes basis.schema.model region.atoms row }
+{}

@@ -1,0 +1,40 @@
+//! Disagreements: where nothing clashes, some legal state and a fragment disagree just where the fragment and a region do: it selects the region and
+//! doesn't show its row, or shows this and doesn't select the region.
+
+ghost use Rattle.std.specs.Prelude.{◌≡◌, [], Contains, IsTrue};
+ghost use Rattle.round_trip.specs.Words.{FailsAt, Fragment, SetId, State, key_of, place_at};
+ghost use Rattle.round_trip.specs.declared.FailKind.TheVariants as kind;
+ghost use Rattle.cells.specs.Limits.{IsWithinLimits};
+ghost use Rattle.regions.specs.Basis.{Basis};
+ghost use Rattle.regions.specs.Patterns.{Valuation};
+ghost use Rattle.regions.specs.Regions.{regions_of};
+ghost use Rattle.regions.specs.declared.pattern.Focus.TheVariants as focus;
+ghost use Rattle.regions.specs.declared.region.Region.{Region};
+ghost use Rattle.region_laws.specs.IsBasis.{IsBasis};
+ghost use Rattle.region_laws.specs.Partners.{HasFewPartners};
+ghost use Rattle.region_states.specs.defaults.Defaults.{default_valuation};
+ghost use Rattle.conflicts.specs.Conflicts.{IsConflictAt};
+ghost use Rattle.conflicts.specs.Facts.{differs_at};
+ghost use Rattle.conflicts.specs.There.{FailsThere, NoneFailsBy};
+ghost use Rattle.conflicts.specs.declared.conflict.Conflict.{Conflict};
+ghost use Rattle.region_states.specs.Entities.{focus_entity};
+ghost use Rattle.region_states.specs.Hosting.{HostsFocuses};
+
+/// Where a fragment and a region disagree, so do the fragment and the state with the usual entity of the region, at the entity's key. The same of the
+/// fragment of links that are hosted at the set.
+pub fn a_disagreement_fails()
+    ensures fails { (basis : Basis) → IsBasis basis → IsWithinLimits basis.schema → (state : Region → Valuation → State) → HostsFocuses basis state
+        → NoneFailsBy basis.schema kind.Clash → (s : SetId) (region : Region) → Contains (regions_of basis s) region
+        → (fragment : Fragment) → Contains basis.schema.mapping.fragments fragment → IsTrue (differs_at basis region fragment) → (d : State)
+        → FailsAt basis.schema kind.Disagrees (place_at fragment.place (key_of basis.schema.model (focus_entity basis region (default_valuation basis region))) [])
+        (state region (default_valuation basis region)) d }
+    ensures there { (basis : Basis) → IsBasis basis → IsWithinLimits basis.schema → (state : Region → Valuation → State) → HostsFocuses basis state
+        → NoneFailsBy basis.schema kind.Clash → (s : SetId) (conflict : Conflict) → IsConflictAt basis s kind.Disagrees conflict → FailsThere basis s kind.Disagrees }
+{}
+
+/// Where a legal state and a fragment of a set, or of links that are hosted at it, disagree, so do the fragment and a region of the set.
+pub fn a_disagreement_is_told()
+    ensures told { (basis : Basis) → IsBasis basis → IsWithinLimits basis.schema → (state : Region → Valuation → State) → HostsFocuses basis state
+        → NoneFailsBy basis.schema kind.Clash → (s : SetId) → HasFewPartners basis s → FailsThere basis s kind.Disagrees
+        → (conflict : Conflict) × IsConflictAt basis s kind.Disagrees conflict }
+{}

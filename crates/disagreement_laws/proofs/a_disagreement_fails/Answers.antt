@@ -1,8 +1,0 @@
-use Rattle.disagreement_laws.proofs.Failing.{fails, there}
-use Rattle.disagreement_laws.proofs.a_disagreement_fails.Goals as goal
-
-pub returns-clause-fails : goal.returns-clause-fails
-returns-clause-fails c = fails
-
-pub returns-clause-there : goal.returns-clause-there
-returns-clause-there c = there

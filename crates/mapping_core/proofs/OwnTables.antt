@@ -1,0 +1,71 @@
+-- The tables of a legal state by an accepted mapping are legal, and the state's own.
+use Rattle.std.proofs.Common.{◌≡◌, ◌⊎◌, ⊎_elim, List, [], map, All, Contains, Result, Ok, Err, refl, sym, subst}
+use Rattle.std.specs.List.{AllZip}
+use Rattle.std.proofs.lemmas.List.Elements.{All-contains, All-nil}
+use Rattle.std.proofs.lemmas.List.{map-id}
+use Rattle.emc_base.proofs.Lists.{all_from_members}
+use Rattle.emc_base.proofs.Mapped.{all_zip-map}
+use Rattle.round_trip.specs.Words.{TableId, ColId, ForeignKey, Null, Row, Schema, State, Tables, AreLegalTables, AreSameTables, HasAllowedNullCells, HasCellsInDomain, HasDemandedCells, IsErasedRow, IsFree, IsLegal, KeepsForeignKey, TablesAre, cell_of, rows_in}
+use Rattle.state_demand.proofs.SameTables.{same_tables}
+use Rattle.same_states.proofs.Reordered.{all_in_any_order}
+use Rattle.row_differences.proofs.OfState.{free_not_demanded}
+use Rattle.case_laws.specs.Reading.{HasStateTables}
+use Rattle.table_legality.proofs.Kept.{no_breach}
+use Rattle.mapping_core.specs.Accepted.{IsAccepted}
+use Rattle.mapping_core.specs.Loads.{Loads}
+use Rattle.mapping_core.specs.GivesBack.{GivesBack}
+use Rattle.mapping_core.specs.declared.loading.LoadFault.{LoadFault}
+use Rattle.mapping_core.specs.declared.loading.LoadFault.TheVariants.{Breach as NotLegal, NoCase, Illegal, Differs, Memory}
+
+module _ (schema : Schema) (state : State) (tables : Tables) (are : TablesAre schema state tables) where
+  abbrev HasNullWhereFree : TableId → Row → Type 0
+  HasNullWhereFree t row = (col : ColId) → IsFree schema t col → cell_of row col ≡ Null
+
+  -- free cells hold null
+  nulls : (t : TableId) (row : Row) → Contains (rows_in tables t) row → HasNullWhereFree t row
+  nulls t row has col is = ⊎_elim
+      (λ (null : cell_of row col ≡ Null). null)
+      (λ demanded. absurd (free_not_demanded schema state t col is _ (cell_of row col) demanded))
+      ((All-contains (HasDemandedCells schema state t is.stands.0) (rows_in tables t) row (are.rows t is.stands.0 is.stands.2).cells has).only col is.stands.1 is.stands.3)
+
+  -- so nothing is erased
+  kept : (t : TableId) → AllZip (IsErasedRow (IsFree schema t)) (rows_in tables t) (rows_in tables t)
+  kept t =
+      let Erases : Row → Row → Type 0 = IsErasedRow (IsFree schema t) in
+      let rows : List Row = rows_in tables t in
+      let itself : Row → Row = λ row. row in
+      subst (AllZip Erases rows) (map-id rows)
+      (all_zip-map (HasNullWhereFree t) Erases itself (λ row free. record { free = free; rest = λ col not. refl }) rows
+      (all_from_members (HasNullWhereFree t) rows (nulls t)))
+
+  -- they are the state's own
+  pub own_tables : HasStateTables schema state tables
+  own_tables = record { erased = tables; are_erased = record { shape = are.shape; rows = kept }; are = are }
+
+  -- and legal
+  pub legal_tables : IsAccepted schema → IsLegal schema.model state → AreLegalTables schema.store tables
+  legal_tables accepted legal =
+      let good = accepted.keeps.every_state.stored state legal in
+      let same : AreSameTables good.tables tables = same_tables schema state good.tables tables good.defined are in
+      let Keep : List ForeignKey → Type 0 = λ keys. All (KeepsForeignKey tables) keys in
+      record {
+        shape = are.shape;
+        rows = λ t table here.
+            let rows = good.legal.rows t table here in
+            record {
+              nulls = all_in_any_order (HasAllowedNullCells table) (HasAllowedNullCells table) (λ row holds. holds) (rows_in good.tables t) (rows_in tables t) (same t) rows.nulls;
+              domains = all_in_any_order (HasCellsInDomain table) (HasCellsInDomain table) (λ row holds. holds) (rows_in good.tables t) (rows_in tables t) (same t) rows.domains;
+              keys = (are.rows t table here).once;
+            };
+        keys = subst Keep (sym accepted.decided.keyless) (All-nil (KeepsForeignKey tables));
+      }
+
+-- loading legal tables of a state's own gives the state back, unless memory ran out
+pub given_back : (schema : Schema) (state : State) (tables : Tables) → IsLegal schema.model state → AreLegalTables schema.store tables → HasStateTables schema state tables
+    → (result : Result State LoadFault) → Loads schema tables result → GivesBack state result
+given_back schema state tables legal legal_tables own (Ok loaded) loads = loads.1.only state legal own
+given_back schema state tables legal legal_tables own (Err (NotLegal breach)) loads = absurd (no_breach schema.store tables legal_tables breach loads)
+given_back schema state tables legal legal_tables own (Err (NoCase place)) loads = absurd (loads.1.none state legal own)
+given_back schema state tables legal legal_tables own (Err (Illegal breach)) loads = absurd (loads.1.none state legal own)
+given_back schema state tables legal legal_tables own (Err (Differs place one two)) loads = absurd (loads.1.none state legal own)
+given_back schema state tables legal legal_tables own (Err Memory) loads = refl

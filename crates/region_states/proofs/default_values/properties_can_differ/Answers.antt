@@ -1,0 +1,11 @@
+use Rattle.region_states.proofs.defaults.Changes.{changed_admissible, differ_at, two_choices}
+use Rattle.region_states.proofs.default_values.properties_can_differ.Goals as goal
+
+pub returns-clause-choices : goal.returns-clause-choices
+returns-clause-choices c = λ basis is limits s region has p declared nullable several. two_choices basis is s region has p declared nullable several limits
+
+pub returns-clause-alone : goal.returns-clause-alone
+returns-clause-alone c = differ_at
+
+pub returns-clause-together : goal.returns-clause-together
+returns-clause-together c = changed_admissible

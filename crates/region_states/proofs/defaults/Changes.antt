@@ -1,0 +1,213 @@
+-- Which values of an admissible valuation may be changed, and that they may be changed together.
+use Rattle.std.proofs.Common.{◌≡◌, ◌≢◌, ◌⊎◌, inl, inr, ◌==◌, List, unwrap_or, Contains, Option, Some, None, Bool, true, false, if◌then◌else◌, refl, sym, ap, subst, ◌∙◌, arith}
+use Rattle.std.specs.Option.{option_map_or}
+use Rattle.std.proofs.lemmas.Bool.{cond-true, cond_both}
+use Rattle.std.proofs.lemmas.List.Elements.{All-contains}
+use Rattle.std.proofs.lemmas.Option.{same_Some}
+use Rattle.emc_base.proofs.Lists.{all_from_members, at_once}
+use Rattle.round_trip.specs.Words.{SetId, PropId, Value, Null, Prop, At, InDomain, key_props}
+use Rattle.round_trip.specs.soundness.Joined.{IsDependent, prop}
+use Rattle.condition_logic.specs.declared.atoms.Atom.{Atom}
+use Rattle.condition_logic.specs.declared.atoms.Atom.TheVariants as atom
+use Rattle.condition_logic.specs.declared.atoms.AtomOf.{AtomOf}
+use Rattle.member_groups.specs.Tested.{AreInOneGroup}
+use Rattle.state_demand.proofs.Lists.{none_in_nil}
+use Rattle.cells.specs.Limits.{IsWithinLimits}
+use Rattle.regions.specs.declared.region.Region.{Region}
+use Rattle.regions.specs.Atoms.{Allows, LiesIn, atom_at}
+use Rattle.regions.specs.Basis.{Basis}
+use Rattle.regions.specs.Patterns.{Valuation}
+use Rattle.regions.specs.Regions.{regions_of}
+use Rattle.regions.specs.Settled.{Possible, is_nullable, multi, of_atom, single}
+use Rattle.region_laws.specs.IsBasis.{IsBasis}
+use Rattle.region_laws.proofs.Atoms.{not_null}
+use Rattle.region_laws.proofs.Symbols.{Decides-prop}
+use Rattle.region_states.specs.defaults.Short.{IsOfSort, IsShort}
+use Rattle.region_states.specs.defaults.Candidates.{AreTwoFree, first_free, next_free}
+use Rattle.region_states.specs.defaults.Fresh.{focus_key, fresh, lost, lost_value}
+use Rattle.region_states.specs.defaults.Defaults.{alone, changed, fresh_at, is_dependent, one_value, other_value, place_in}
+use Rattle.region_states.specs.defaults.Admissible.{AreChoices, AreTwoChoices, DifferAt, HasSeveral, IsAdmissible, IsChoice}
+use Rattle.region_states.proofs.defaults.Constants.{dependent_none, joined_none}
+use Rattle.region_states.proofs.defaults.Defaults.{IsSome, either_some, is_open, lies_open, open_two}
+use Rattle.region_states.proofs.defaults.Fitting.{dependent_takes, joined_takes}
+use Rattle.region_states.proofs.defaults.Listed.{told_found}
+use Rattle.region_states.proofs.defaults.Short.{fresh_same}
+use Rattle.region_states.proofs.defaults.Uses.{index_below}
+
+abbrev is_single : Possible → Bool
+is_single (single value) = true
+is_single (multi nullable) = false
+
+abbrev may_be_null : Possible → Bool
+may_be_null (single value) = false
+may_be_null (multi nullable) = nullable
+
+module _ (p : PropId) (v d : Value) where
+  -- what is told of the property, and of the others
+  alone_here : unwrap_or (alone p v p) d ≡ v
+  alone_here = ap (λ found. unwrap_or found d) (cond-true (p.index == p.index) (Some v) None ((Decides-prop p p).1 refl))
+
+  alone_there : (q : PropId) → q ≢ p → unwrap_or (alone p v q) d ≡ d
+  alone_there q different =
+      let P : Option Value → Type 0 = λ found. unwrap_or found d ≡ d in
+      cond_both (q.index == p.index) (Some v) None P (λ told. absurd (different ((Decides-prop q p).0 told))) (λ told. refl)
+
+alone_is : (p q : PropId) (v w : Value) → alone p v q ≡ Some w → (q ≡ p) × (v ≡ w)
+alone_is p q v w =
+    let P : Option Value → Type 0 = λ found. found ≡ Some w → (q ≡ p) × (v ≡ w) in
+    cond_both (q.index == p.index) (Some v) None P
+    (λ told same. ((Decides-prop q p).0 told, same_Some v w same))
+    (λ told same. absurd (let never : None ≡ Some w = same in cc))
+
+module _ (basis : Basis) (is : IsBasis basis) (s : SetId) (region : Region) (has : Contains (regions_of basis s) region) where
+  module _ (values : Valuation) (admissible : IsAdmissible basis region values) (changes : PropId → Option Value) (choices : AreChoices basis region changes) where
+    -- what holds of each old value and of each choice holds of each value
+    each : (p : PropId) (P : Value → Type 0) → P (values.prop p) → ((v : Value) → IsChoice basis region p v → P v) → P (unwrap_or (changes p) (values.prop p))
+    each p P old new = by (changes p) refl
+      where
+        by : (found : Option Value) → changes p ≡ found → P (unwrap_or found (values.prop p))
+        by None none = old
+        by (Some v) at = new v (choices p v at)
+
+    pub changed_admissible : IsAdmissible basis region (changed values changes)
+    changed_admissible = record {
+      allowed = record {
+        atoms = all_from_members (λ (told : AtomOf). LiesIn (basis.constants (prop told.prop)) told.atom (unwrap_or (changes told.prop) (values.prop told.prop))) region.atoms
+            (λ told there. each told.prop (LiesIn (basis.constants (prop told.prop)) told.atom)
+            (let Lies : AtomOf → Type 0 = λ one. LiesIn (basis.constants (prop one.prop)) one.atom (values.prop one.prop) in
+            All-contains Lies region.atoms told admissible.allowed.atoms there)
+            (λ v choice. choice.atom told.atom (told_found basis is s region has told there)));
+        props = λ p declared among here. each p (Allows declared) (admissible.allowed.props p declared among here) (λ v choice. choice.allowed declared here);
+        parts = admissible.allowed.parts;
+      };
+      keys = λ p key. (let Is : Value → Type 0 = λ v. v ≡ fresh_at basis.schema.model p (focus_key (place_in p (key_props basis.schema.model region.ty))) in
+          each p Is (admissible.keys p key) (λ v choice. absurd (choice.no_key key)));
+      partners = admissible.partners;
+      dependent = λ p among by. each p (λ v. v ≢ Null → IsShort v) (admissible.dependent p among by) (λ v choice. choice.dependent by);
+    }
+
+  module _ (values : Valuation) (admissible : IsAdmissible basis region values) (p : PropId) where
+    alone_choices : (v : Value) → IsChoice basis region p v → AreChoices basis region (alone p v)
+    alone_choices v choice q w at =
+        let same = alone_is p q v w at in
+        subst (λ r. IsChoice basis region r w) (sym same.0) (subst (IsChoice basis region p) same.1 choice)
+
+    alone_admissible : (v : Value) → IsChoice basis region p v → IsAdmissible basis region (changed values (alone p v))
+    alone_admissible v choice = changed_admissible values admissible (alone p v) (alone_choices v choice)
+
+    -- two choices of one property alone
+    pub differ_at : (one two : Value) → AreTwoChoices basis region p one two
+        → IsAdmissible basis region (changed values (alone p one)) × IsAdmissible basis region (changed values (alone p two))
+        × DifferAt values (changed values (alone p one)) (changed values (alone p two)) p
+    differ_at one two choices = (
+      alone_admissible one choices.one_choice,
+      alone_admissible two choices.two_choice,
+      record {
+        one_others = λ q different. alone_there p one (values.prop q) q different;
+        two_others = λ q different. alone_there p two (values.prop q) q different;
+        one_parts = refl;
+        two_parts = refl;
+        one_there = λ null. choices.one_there (sym (alone_here p one (values.prop p)) ∙ null);
+        two_there = λ null. choices.two_there (sym (alone_here p two (values.prop p)) ∙ null);
+        different = λ same. choices.different (sym (alone_here p one (values.prop p)) ∙ same ∙ alone_here p two (values.prop p));
+      },
+    )
+
+  module _ (p : PropId) (declared : Prop) (nullable : Bool) (several : HasSeveral basis region p declared nullable) where
+    abbrev constants : List Value
+    constants = basis.constants (prop p)
+
+    -- a property that may have several values is told no atom, or the last
+    open_atom : (atom_at region.atoms p ≡ None) ⊎ (atom_at region.atoms p ≡ Some atom.Other)
+    open_atom = by (atom_at region.atoms p) refl several.several
+      where
+        by : (found : Option Atom) → atom_at region.atoms p ≡ found → option_map_or of_atom found (multi (is_nullable basis.schema.model p)) ≡ multi nullable
+            → (atom_at region.atoms p ≡ None) ⊎ (atom_at region.atoms p ≡ Some atom.Other)
+        by None at same = inl at
+        by (Some atom.Null) at same = absurd (let never : true ≡ false = ap is_single same in cc)
+        by (Some (atom.Is one)) at same = absurd (let never : true ≡ false = ap is_single same in cc)
+        by (Some atom.Other) at same = inr at
+
+    -- each declaration of it is this one
+    allows : (v : Value) → Allows declared v → (other : Prop) → At basis.schema.model.props p.index other → Allows other v
+    allows v allowed other at =
+        let same : declared ≡ other = at_once basis.schema.model.props p.index declared other several.is_declared at in
+        let P : Prop → Type 0 = λ one. Allows one v in
+        subst P same allowed
+
+    chosen : (v : Value) → IsSome basis is p declared v → IsChoice basis region p v
+    chosen v some = record {
+      among = several.among;
+      no_key = several.no_key;
+      atom = lies_open basis is region p declared (is_open basis is region p open_atom) v some;
+      allowed = allows v (inr some.fits);
+      dependent = λ by there. some.short by;
+    }
+
+    -- a value that isn't null and no constant, and short where it is to be
+    pub free_choice : (v : Value) → InDomain v declared.kind → ¬ Contains constants v → (IsDependent basis.schema.model p → IsShort v) → IsChoice basis region p v
+    free_choice v fits free short = chosen v (record { fits = fits; free = free; short = short })
+
+    -- a short value, where it or a property joined to it is dependent
+    pub short_choice : (q : PropId) → IsDependent basis.schema.model q → AreInOneGroup basis.schema (prop q) (prop p)
+        → (v : Value) → IsShort v → IsOfSort declared.kind v → IsChoice basis region p v
+    short_choice q dependent (inl same) v short sort =
+        let is_p : q ≡ p = cc in
+        let by : IsDependent basis.schema.model p = subst (IsDependent basis.schema.model) is_p dependent in
+        free_choice v (dependent_takes basis is p by declared several.is_declared v short sort)
+        (λ has. none_in_nil v (subst (λ list. Contains list v) (dependent_none basis is p declared several.is_declared by) has)) (λ any. short)
+    short_choice q dependent (inr joins) v short sort =
+        free_choice v (joined_takes basis is q p dependent joins declared several.is_declared v short sort)
+        (λ has. none_in_nil v (subst (λ list. Contains list v) (joined_none basis is p declared several.is_declared q dependent joins) has)) (λ any. short)
+
+    -- null, where it is among the values
+    pub null_choice : nullable ≡ true → IsChoice basis region p Null
+    null_choice is_true = record {
+      among = several.among;
+      no_key = several.no_key;
+      atom = λ a at. absurd (let never : None ≡ Some a = sym nothing.0 ∙ at in cc);
+      allowed = allows Null (inl (refl, nothing.1));
+      dependent = λ by there. absurd (there refl);
+    }
+      where
+        by : (found : Option Atom) → atom_at region.atoms p ≡ found → option_map_or of_atom found (multi (is_nullable basis.schema.model p)) ≡ multi nullable
+            → (atom_at region.atoms p ≡ None) × (declared.nullable ≡ true)
+        by None at same =
+            let is_null : is_nullable basis.schema.model p ≡ declared.nullable = ap (λ found. option_map_or (λ (one : Prop). one.nullable) found false) several.is_declared in
+            (at, sym is_null ∙ ap may_be_null same ∙ is_true)
+        by (Some atom.Null) at same = absurd (let never : true ≡ false = ap is_single same in cc)
+        by (Some (atom.Is one)) at same = absurd (let never : true ≡ false = ap is_single same in cc)
+        by (Some atom.Other) at same = absurd (let never : false ≡ true = ap may_be_null same ∙ is_true in cc)
+
+        nothing : (atom_at region.atoms p ≡ None) × (declared.nullable ≡ true)
+        nothing = by (atom_at region.atoms p) refl several.several
+
+    two_differ : AreTwoFree declared.kind constants (first_free declared.kind constants) (next_free declared.kind constants)
+        → one_value basis p declared ≢ other_value basis p declared
+    two_differ two =
+        let b : Bool = is_dependent basis.schema.model p in
+        let one : Value = fresh declared.kind 0 (lost_value 0) in
+        let other_ : Value = fresh declared.kind 0 (lost_value 1) in
+        by b one other_ (λ same. let index = (fresh_same declared.kind 0 0 (lost_value 0) (lost_value 1) (omega arith) (omega arith) same).1 in absurd (omega (arith, index)))
+      where
+        by : (b : Bool) (one other_ : Value) → one ≢ other_
+            → (if b then one else first_free declared.kind constants) ≢ (if b then other_ else next_free declared.kind constants)
+        by true one other_ different = different
+        by false one other_ different = two.different
+
+    -- two values that differ
+    pub two_choices : IsWithinLimits basis.schema → AreTwoChoices basis region p (one_value basis p declared) (other_value basis p declared)
+    two_choices limits =
+        let two : AreTwoFree declared.kind constants (first_free declared.kind constants) (next_free declared.kind constants) =
+        open_two basis is limits s region has p declared several.is_declared several.among several.no_key open_atom in
+        let one : IsSome basis is p declared (one_value basis p declared) =
+        either_some basis is p declared several.is_declared (lost_value 0) (index_below (lost 0) (omega arith)) (first_free declared.kind constants) two.one_fits two.one_free in
+        let other_ : IsSome basis is p declared (other_value basis p declared) =
+        either_some basis is p declared several.is_declared (lost_value 1) (index_below (lost 1) (omega arith)) (next_free declared.kind constants) two.two_fits two.two_free in
+        record {
+          one_choice = chosen (one_value basis p declared) one;
+          two_choice = chosen (other_value basis p declared) other_;
+          one_there = not_null declared.kind (one_value basis p declared) one.fits;
+          two_there = not_null declared.kind (other_value basis p declared) other_.fits;
+          different = two_differ two;
+        }

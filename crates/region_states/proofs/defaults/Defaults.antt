@@ -1,0 +1,252 @@
+-- The values of a region where nothing else is said are admissible.
+use Rattle.std.proofs.Common.{◌≡◌, ◌≢◌, ◌⊎◌, inl, inr, ℕ, ◌==◌, ◌<◌, List, Contains, Option, Some, None, Bool, true, false, true≢false, not, Decides, if◌then◌else◌, refl, sym, ap, subst, ◌∙◌, arith}
+use Rattle.std.specs.Option.{option_map_or}
+use Rattle.std.proofs.lemmas.Bool.{cond-true, cond_both}
+use Rattle.std.proofs.lemmas.Bool.Decides.{Decides-like, not_from_Decides}
+use Rattle.std.proofs.lemmas.Option.{same_Some}
+use Rattle.emc_base.proofs.Lists.{all_from_members, at_once}
+use Rattle.round_trip.specs.Words.{SetId, PropId, Value, Null, EntityModel, Prop, Assoc, Constraint, At, InDomain, key_props, props_of}
+use Rattle.round_trip.specs.soundness.Inheritance.{IsKeyProp}
+use Rattle.round_trip.specs.soundness.Joined.{IsDependent, prop}
+use Rattle.condition_logic.specs.declared.atoms.Atom.{Atom}
+use Rattle.condition_logic.specs.declared.atoms.Atom.TheVariants as atom
+use Rattle.condition_logic.specs.declared.atoms.AtomOf.{AtomOf}
+use Rattle.state_demand.proofs.Lists.{Decides-any, any_of, none_in_nil, of_any}
+use Rattle.cells.specs.Limits.{IsWithinLimits}
+use Rattle.regions.specs.declared.region.Region.{Region}
+use Rattle.regions.specs.Atoms.{Allows, LiesIn, atom_at, atoms_of}
+use Rattle.regions.specs.Basis.{Basis, Host, partner_end}
+use Rattle.regions.specs.Regions.{regions_of}
+use Rattle.region_laws.specs.IsBasis.{IsBasis}
+use Rattle.region_laws.proofs.Atoms.{not_null}
+use Rattle.region_laws.proofs.Owning.{declared_above}
+use Rattle.region_laws.proofs.Symbols.{Decides-prop}
+use Rattle.region_laws.specs.pattern.Allowed.{HasAllowedParts, end_at}
+use Rattle.region_states.specs.defaults.Short.{IsShort}
+use Rattle.region_states.specs.defaults.Candidates.{AreTwoFree, first_free, next_free}
+use Rattle.region_states.specs.defaults.Fresh.{dependent_value, focus_key, fresh, most_indices, partner_key}
+use Rattle.region_states.specs.defaults.Defaults.{declared_value, default_part, default_valuation, default_value, fresh_at, is_among, is_dependent, place_in, some_value, value_by}
+use Rattle.region_states.specs.defaults.Admissible.{IsAdmissible}
+use Rattle.region_states.proofs.defaults.Bounds.{dependent_index, key_index, partner_index}
+use Rattle.region_states.proofs.defaults.Candidates.{IsPlainKind, plain_key}
+use Rattle.region_states.proofs.defaults.Classes.{dependent_is, key_prop, sound_kind}
+use Rattle.region_states.proofs.defaults.Constants.{dependent_none, plain_two, untested_two}
+use Rattle.region_states.proofs.defaults.Fitting.{key_is}
+use Rattle.region_states.proofs.defaults.Listed.{IsTold, found_told, lost_untested, no_key_free, tested_no_key, told_found, told_is}
+use Rattle.region_states.proofs.defaults.Short.{fresh_fits, fresh_short}
+use Rattle.region_states.proofs.defaults.Valued.{Tells, atom_tells}
+
+-- whether a property is among these, and whether it is dependent
+pub Decides-among : (props : List PropId) (p : PropId) → Decides (is_among p props) (Contains props p)
+Decides-among props p = Decides-like (is_among p props)
+    (λ any. let found = of_any (λ (q : PropId). q ≡ p) props any in subst (Contains props) found.2 found.1)
+    (λ has. any_of (λ (q : PropId). q ≡ p) props p has refl)
+    (Decides-any (λ (q : PropId). q.index == p.index) (λ (q : PropId). q ≡ p) (λ q. Decides-prop q p) props)
+
+module _ (model : EntityModel) (p : PropId) where
+  abbrev DependsBy : Assoc → Type 0
+  DependsBy assoc = (constraint : Constraint) × (assoc.constraint ≡ Some constraint) × Contains constraint.dependent p
+
+  Decides-constraint : (found : Option Constraint)
+      → Decides (option_map_or (λ (constraint : Constraint). is_among p constraint.dependent) found false)
+      ((constraint : Constraint) × (found ≡ Some constraint) × Contains constraint.dependent p)
+  Decides-constraint None = (λ told. absurd (true≢false (sym told)), λ by. absurd (let never : None ≡ Some by.0 = by.1 in cc))
+  Decides-constraint (Some constraint) = (
+    λ told. (constraint, refl, (Decides-among constraint.dependent p).0 told),
+    λ by. (let P : Constraint → Type 0 = λ one. Contains one.dependent p in
+        (Decides-among constraint.dependent p).1 (subst P (sym (same_Some constraint by.0 by.1)) by.2)),
+  )
+
+  pub Decides-dependent : Decides (is_dependent model p) (IsDependent model p)
+  Decides-dependent = Decides-like (is_dependent model p)
+      (λ any. let found = of_any DependsBy model.assocs any in
+      record { assoc = found.0; constraint = found.2.0; is_assoc = found.1; constrained = found.2.1; among = found.2.2 })
+      (λ by. any_of DependsBy model.assocs by.assoc by.is_assoc (by.constraint, by.constrained, by.among))
+      (Decides-any (λ (assoc : Assoc). option_map_or (λ (constraint : Constraint). is_among p constraint.dependent) assoc.constraint false) DependsBy
+      (λ assoc. Decides-constraint assoc.constraint) model.assocs)
+
+pub fresh_is : (model : EntityModel) (p : PropId) (declared : Prop) → At model.props p.index declared → (index : ℕ) → fresh_at model p index ≡ fresh declared.kind 0 index
+fresh_is model p declared here index = ap (λ found. option_map_or (λ (one : Prop). fresh one.kind 0 index) found Null) here
+
+module _ (basis : Basis) (is : IsBasis basis) where
+  -- a value that isn't null and no constant, and short where it is to be
+  pub record IsSome (p : PropId) (declared : Prop) (v : Value) : Type 0 where
+    pub fits : InDomain v declared.kind
+    pub free : ¬ Contains (basis.constants (prop p)) v
+    pub short : IsDependent basis.schema.model p → IsShort v
+
+  -- where no atom but the last is told
+  abbrev pub IsOpen : Region → PropId → Type 0
+  IsOpen region p = (a : Atom) → atom_at region.atoms p ≡ Some a → a ≡ atom.Other
+
+  pub is_open : (region : Region) (p : PropId) → (atom_at region.atoms p ≡ None) ⊎ (atom_at region.atoms p ≡ Some atom.Other) → IsOpen region p
+  is_open region p (inl none) a at = let never : None ≡ Some a = sym none ∙ at in cc
+  is_open region p (inr last) a at = sym (same_Some atom.Other a (sym last ∙ at))
+
+  pub lies_open : (region : Region) (p : PropId) (declared : Prop) → IsOpen region p → (v : Value) → IsSome p declared v → (a : Atom) → atom_at region.atoms p ≡ Some a
+      → LiesIn (basis.constants (prop p)) a v
+  lies_open region p declared open_ v some a at =
+      let P : Atom → Type 0 = λ one. LiesIn (basis.constants (prop p)) one v in
+      let other_ : P atom.Other = (not_null declared.kind v some.fits, some.free) in
+      subst P (sym (open_ a at)) other_
+
+  module _ (p : PropId) (declared : Prop) (here : At basis.schema.model.props p.index declared) where
+    pub fresh_some : IsDependent basis.schema.model p → (index : ℕ) → index < most_indices → IsSome p declared (fresh declared.kind 0 index)
+    fresh_some dependent index below = record {
+      fits = fresh_fits declared.kind (dependent_is basis.schema is.sound p dependent declared here) (sound_kind basis.schema is.sound p declared here)
+          0 index (omega arith) below;
+      free = λ has. none_in_nil (fresh declared.kind 0 index)
+          (subst (λ list. Contains list (fresh declared.kind 0 index)) (dependent_none basis is p declared here dependent) has);
+      short = λ by. fresh_short declared.kind 0 index (omega arith) below;
+    }
+
+    -- of a dependent property a numbered one, else one that is free
+    pub either_some : (index : ℕ) → index < most_indices → (v : Value) → InDomain v declared.kind → ¬ Contains (basis.constants (prop p)) v
+        → IsSome p declared (if is_dependent basis.schema.model p then fresh declared.kind 0 index else v)
+    either_some index below v fits free = cond_both (is_dependent basis.schema.model p) (fresh declared.kind 0 index) v (IsSome p declared)
+        (λ told. fresh_some ((Decides-dependent basis.schema.model p).0 told) index below)
+        (λ told. record {
+          fits = fits;
+          free = free;
+          short = λ dependent. absurd (not_from_Decides (is_dependent basis.schema.model p) (Decides-dependent basis.schema.model p) told dependent);
+        })
+
+module _ (basis : Basis) (is : IsBasis basis) (limits : IsWithinLimits basis.schema) (s : SetId) (region : Region) (has : Contains (regions_of basis s) region) where
+  -- an entity of the region may have the value
+  pub record IsGood (p : PropId) (declared : Prop) (v : Value) : Type 0 where
+    pub allowed : Allows declared v
+    pub atom : (a : Atom) → atom_at region.atoms p ≡ Some a → LiesIn (basis.constants (prop p)) a v
+    pub dependent : IsDependent basis.schema.model p → v ≢ Null → IsShort v
+
+  module _ (p : PropId) (declared : Prop) (here : At basis.schema.model.props p.index declared) (among : Contains (props_of basis.schema.model region.ty) p) where
+    abbrev constants : List Value
+    constants = basis.constants (prop p)
+
+    -- what a told atom tells
+    pub told_tells : (a : Atom) → atom_at region.atoms p ≡ Some a → Tells declared constants a
+    told_tells a at =
+        let told : IsTold basis is s region has p a = found_told basis is s region has p a at in
+        let same : told.declared ≡ declared = at_once basis.schema.model.props p.index told.declared declared told.is_declared here in
+        let P : Prop → Type 0 = λ one. Contains (atoms_of basis.fits one constants) a in
+        atom_tells basis.fits is.domains constants declared a (subst P same told.among)
+
+    some_good : IsOpen basis is region p → (v : Value) → IsSome basis is p declared v → IsGood p declared v
+    some_good open_ v some = record { allowed = inr some.fits; atom = lies_open basis is region p declared open_ v some; dependent = λ by there. some.short by }
+
+    the_some : AreTwoFree declared.kind constants (first_free declared.kind constants) (next_free declared.kind constants)
+        → IsSome basis is p declared (some_value basis region.ty p declared)
+    the_some two = either_some basis is p declared here (dependent_value (place_in p (props_of basis.schema.model region.ty)))
+        (dependent_index basis.schema.model is.sound.model limits.model region.ty p among) (first_free declared.kind constants) two.one_fits two.one_free
+
+    pub open_two : ¬ Contains (key_props basis.schema.model region.ty) p → (atom_at region.atoms p ≡ None) ⊎ (atom_at region.atoms p ≡ Some atom.Other)
+        → AreTwoFree declared.kind constants (first_free declared.kind constants) (next_free declared.kind constants)
+    open_two no_key (inl none) =
+        untested_two basis is p declared here (no_key_free basis is p declared here region.ty among no_key) (lost_untested basis is s region has p among none)
+    open_two no_key (inr last) = plain_two basis is p declared here limits (told_tells atom.Other last)
+
+    -- a value of a property that is no part of the key
+    value_good : ¬ Contains (key_props basis.schema.model region.ty) p → IsGood p declared (value_by basis region.ty p declared (atom_at region.atoms p))
+    value_good no_key = by (atom_at region.atoms p) refl
+      where
+        one_atom : (one : Atom) → atom_at region.atoms p ≡ Some one → (v : Value) → LiesIn constants one v → (a : Atom) → atom_at region.atoms p ≡ Some a → LiesIn constants a v
+        one_atom one at v lies a is_a = let P : Atom → Type 0 = λ b. LiesIn constants b v in subst P (same_Some one a (sym at ∙ is_a)) lies
+
+        none_short : (one : Value) → InDomain one declared.kind × (IsPlainKind declared.kind → Contains constants one) → IsDependent basis.schema.model p → IsShort one
+        none_short one told dependent =
+            let key_kind = dependent_is basis.schema is.sound p dependent declared here in
+            absurd (none_in_nil one (subst (λ list. Contains list one) (dependent_none basis is p declared here dependent) (told.1 (plain_key declared.kind key_kind))))
+
+        maybe_null : (nullable : Bool) → declared.nullable ≡ nullable → atom_at region.atoms p ≡ None
+            → IsGood p declared (if nullable then Null else some_value basis region.ty p declared)
+        maybe_null true nullable at = record {
+          allowed = inl (refl, nullable);
+          atom = λ a is_a. absurd (let never : None ≡ Some a = sym at ∙ is_a in cc);
+          dependent = λ by there. absurd (there refl);
+        }
+        maybe_null false nullable at =
+            some_good (is_open basis is region p (inl at)) (some_value basis region.ty p declared) (the_some (open_two no_key (inl at)))
+
+        by : (found : Option Atom) → atom_at region.atoms p ≡ found → IsGood p declared (value_by basis region.ty p declared found)
+        by None at = maybe_null declared.nullable refl at
+        by (Some atom.Null) at = record {
+          allowed = inl (refl, told_tells atom.Null at);
+          atom = one_atom atom.Null at Null refl;
+          dependent = λ by there. absurd (there refl);
+        }
+        by (Some (atom.Is one)) at =
+            let told = told_tells (atom.Is one) at in
+            record { allowed = inr told.0; atom = one_atom (atom.Is one) at one refl; dependent = λ dependent there. none_short one told dependent }
+        by (Some atom.Other) at = some_good (is_open basis is region p (inr at)) (some_value basis region.ty p declared) (the_some (open_two no_key (inr at)))
+
+    -- a part of the key
+    key_good : Contains (key_props basis.schema.model region.ty) p
+        → IsGood p declared (fresh declared.kind 0 (focus_key (place_in p (key_props basis.schema.model region.ty))))
+    key_good key =
+        let index : ℕ = focus_key (place_in p (key_props basis.schema.model region.ty)) in
+        let below : index < most_indices = key_index basis.schema.model is.sound.model region.ty p key in
+        record {
+          allowed = inr (fresh_fits declared.kind (key_is basis is region.ty p key declared here) (sound_kind basis.schema is.sound p declared here) 0 index (omega arith) below);
+          atom = λ a at. (let told : IsTold basis is s region has p a = found_told basis is s region has p a at in
+              absurd (tested_no_key basis is p declared here region.ty among told.tested key));
+          dependent = λ by there. fresh_short declared.kind 0 index (omega arith) below;
+        }
+
+    default_is : default_value basis region p ≡ declared_value basis region p declared
+    default_is = ap (λ found. option_map_or (declared_value basis region p) found Null) here
+
+    pub default_good : IsGood p declared (default_value basis region p)
+    default_good =
+        let key : List PropId = key_props basis.schema.model region.ty in
+        subst (IsGood p declared) (sym default_is)
+        (cond_both (is_among p key) (fresh declared.kind 0 (focus_key (place_in p key))) (value_by basis region.ty p declared (atom_at region.atoms p)) (IsGood p declared)
+        (λ told. key_good ((Decides-among key p).0 told))
+        (λ told. value_good (not_from_Decides (is_among p key) (Decides-among key p) told)))
+
+  -- the key is that of the focus
+  default_key : (p : PropId) → Contains (key_props basis.schema.model region.ty) p
+      → default_value basis region p ≡ fresh_at basis.schema.model p (focus_key (place_in p (key_props basis.schema.model region.ty)))
+  default_key p key =
+      let is_key : IsKeyProp basis.schema.model p = key_prop basis.schema.model is.sound.model region.ty p key in
+      let props : List PropId = key_props basis.schema.model region.ty in
+      ap (λ found. option_map_or (declared_value basis region p) found Null) is_key.is_declared
+      ∙ cond-true (is_among p props) (fresh is_key.declared.kind 0 (focus_key (place_in p props))) (value_by basis region.ty p is_key.declared (atom_at region.atoms p))
+      ((Decides-among props p).1 key)
+      ∙ sym (fresh_is basis.schema.model p is_key.declared is_key.is_declared (focus_key (place_in p props)))
+
+  module _ (host : Host) (assoc : Assoc) (here : At basis.schema.model.assocs host.assoc.index assoc) where
+    end_is : (first_hosts : Bool) → end_at (not first_hosts) assoc ≡ partner_end first_hosts assoc
+    end_is true = refl
+    end_is false = refl
+
+    -- a partner's key
+    default_partner : (p : PropId) → default_part basis host.assoc (not host.first_hosts) p
+        ≡ fresh_at basis.schema.model p (partner_key host.assoc.index (place_in p (key_props basis.schema.model (partner_end host.first_hosts assoc).ty)))
+    default_partner p =
+        ap (λ found. option_map_or (λ (one : Assoc).
+        fresh_at basis.schema.model p (partner_key host.assoc.index (place_in p (key_props basis.schema.model (end_at (not host.first_hosts) one).ty)))) found Null) here
+        ∙ ap (λ end. fresh_at basis.schema.model p (partner_key host.assoc.index (place_in p (key_props basis.schema.model end.ty)))) (end_is host.first_hosts)
+
+    default_parts : HasAllowedParts basis.schema.model (partner_end host.first_hosts assoc) (default_part basis host.assoc (not host.first_hosts))
+    default_parts p declared key is_declared =
+        let t = (partner_end host.first_hosts assoc).ty in
+        let index : ℕ = partner_key host.assoc.index (place_in p (key_props basis.schema.model t)) in
+        let P : Value → Type 0 = λ v. InDomain v declared.kind in
+        subst P (sym (default_partner p ∙ fresh_is basis.schema.model p declared is_declared index))
+        (fresh_fits declared.kind (key_is basis is t p key declared is_declared) (sound_kind basis.schema is.sound p declared is_declared) 0 index (omega arith)
+        (partner_index basis.schema.model is.sound.model limits.model host.assoc assoc here t p key))
+
+  -- all of it
+  pub default_admissible : IsAdmissible basis region (default_valuation basis region)
+  default_admissible = record {
+    allowed = record {
+      atoms = all_from_members (λ (told : AtomOf). LiesIn (basis.constants (prop told.prop)) told.atom (default_value basis region told.prop)) region.atoms
+          (λ told there. (let is_told : IsTold basis is s region has told.prop told.atom = told_is basis is s region has told there in
+          (default_good told.prop is_told.declared is_told.is_declared is_told.of_type).atom told.atom (told_found basis is s region has told there)));
+      props = λ p declared among here. (default_good p declared here among).allowed;
+      parts = λ host assoc is_host linked here. default_parts host assoc here;
+    };
+    keys = default_key;
+    partners = λ host assoc is_host linked here p key. default_partner host assoc here p;
+    dependent = λ p among by there.
+        (let above = declared_above basis.schema.model is.sound.model region.ty p among in (default_good p above.0 above.1 among).dependent by there);
+  }

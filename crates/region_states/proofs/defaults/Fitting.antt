@@ -1,0 +1,42 @@
+-- Which properties take each short value, and of which two candidates are left.
+use Rattle.std.proofs.Common.{◌≢◌, Contains, subst}
+use Rattle.emc_base.proofs.Lists.{at_once}
+use Rattle.emc_base.specs.declared.value.Kind.TheVariants as kind
+use Rattle.round_trip.specs.Words.{PropId, TypeId, Prop, At, key_props}
+use Rattle.round_trip.specs.soundness.Inheritance.{IsKeyProp}
+use Rattle.round_trip.specs.soundness.Joined.{IsDependent, Joined, prop}
+use Rattle.round_trip.specs.soundness.Kinds.{IsEnum, IsKeyKind}
+use Rattle.cells.specs.Limits.{IsWithinLimits}
+use Rattle.region_laws.specs.IsBasis.{IsBasis}
+use Rattle.regions.specs.Basis.{Basis}
+use Rattle.region_states.specs.defaults.Candidates.{AreTwoFree, first_free, next_free}
+use Rattle.region_states.specs.defaults.Short.{TakesShort}
+use Rattle.region_states.proofs.defaults.Candidates.{plain_kind}
+use Rattle.region_states.proofs.defaults.Classes.{dependent_is, joined_key_kind, key_prop, sound_kind}
+use Rattle.region_states.proofs.defaults.Constants.{plain_two}
+use Rattle.region_states.proofs.defaults.Short.{fits_short}
+
+module _ (basis : Basis) (is : IsBasis basis) where
+  -- a part of a key is of a kind of keys
+  pub key_is : (t : TypeId) (p : PropId) → Contains (key_props basis.schema.model t) p → (declared : Prop) → At basis.schema.model.props p.index declared → IsKeyKind declared.kind
+  key_is t p has declared here =
+      let key : IsKeyProp basis.schema.model p = key_prop basis.schema.model is.sound.model t p has in
+      let P : Prop → Type 0 = λ one. IsKeyKind one.kind in
+      subst P (at_once basis.schema.model.props p.index key.declared declared key.is_declared here) key.kind
+
+  pub key_takes : (t : TypeId) (p : PropId) → Contains (key_props basis.schema.model t) p → TakesShort basis.schema.model p
+  key_takes t p has declared here short is_short of_sort =
+      fits_short declared.kind (key_is t p has declared here) (sound_kind basis.schema is.sound p declared here) short is_short of_sort
+
+  pub dependent_takes : (p : PropId) → IsDependent basis.schema.model p → TakesShort basis.schema.model p
+  dependent_takes p by declared here short is_short of_sort =
+      fits_short declared.kind (dependent_is basis.schema is.sound p by declared here) (sound_kind basis.schema is.sound p declared here) short is_short of_sort
+
+  pub joined_takes : (p q : PropId) → IsDependent basis.schema.model p → Joined basis.schema (prop p) (prop q) → TakesShort basis.schema.model q
+  joined_takes p q by joins declared here short is_short of_sort =
+      fits_short declared.kind (joined_key_kind basis.schema is.sound p q by joins declared here) (sound_kind basis.schema is.sound q declared here) short is_short of_sort
+
+  pub candidates_left : IsWithinLimits basis.schema → (p : PropId) (declared : Prop) → At basis.schema.model.props p.index declared
+      → declared.kind ≢ kind.Boolean → ¬ IsEnum declared.kind
+      → AreTwoFree declared.kind (basis.constants (prop p)) (first_free declared.kind (basis.constants (prop p))) (next_free declared.kind (basis.constants (prop p)))
+  candidates_left limits p declared here no_flag no_enum = plain_two basis is p declared here limits (plain_kind declared.kind no_flag no_enum)

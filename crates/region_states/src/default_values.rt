@@ -1,0 +1,104 @@
+//! Values that exist: each atom of a property has one, and each region has values that an entity in it may have, with keys that are numbered.
+
+ghost use Rattle.std.specs.Prelude.{◌<◌, ◌≡◌, ◌≢◌, ◌≤◌, ℕ, Bool, Contains, IsTrue, Option};
+ghost use Rattle.round_trip.specs.Words.{At, InDomain, Kind, Null, Prop, PropId, SetId, TypeId, Value, key_props};
+ghost use Rattle.emc_base.specs.declared.value.Kind.TheVariants as kind;
+ghost use Rattle.round_trip.specs.soundness.Joined.{IsDependent, IsNoKey, Joined, prop};
+ghost use Rattle.round_trip.specs.soundness.Kinds.{IsEnum, IsKeyKind};
+ghost use Rattle.condition_logic.specs.declared.atoms.Atom.{Atom};
+ghost use Rattle.member_groups.specs.Tested.{AreInOneGroup};
+ghost use Rattle.cells.specs.Limits.{IsWithinLimits};
+ghost use Rattle.regions.specs.Atoms.{Allows, LiesIn, atoms_of};
+ghost use Rattle.regions.specs.Basis.{Basis};
+ghost use Rattle.regions.specs.Patterns.{Valuation};
+ghost use Rattle.regions.specs.Regions.{regions_of};
+ghost use Rattle.regions.specs.declared.region.Region.{Region};
+ghost use Rattle.region_laws.specs.IsBasis.{IsBasis};
+ghost use Rattle.region_states.specs.defaults.Admissible.{AreChoices, AreTwoChoices, DifferAt, HasSeveral, IsAdmissible, IsChoice};
+ghost use Rattle.region_states.specs.defaults.Candidates.{AreTwoFree, first_free, next_free, number};
+ghost use Rattle.region_states.specs.defaults.Defaults.{alone, changed, default_valuation, one_value, other_value};
+ghost use Rattle.region_states.specs.defaults.Fresh.{IsUse, Use, focus_key, fresh, index_of, most_indices};
+ghost use Rattle.region_states.specs.defaults.Short.{IsOfSort, IsShort, TakesShort};
+
+/// A short value of the right sort lies in the domain of each part of a key, of each dependent property, and of each property joined to one.
+pub fn short_values_fit()
+    ensures keys { (basis : Basis) → IsBasis basis → (t : TypeId) (p : PropId) → Contains (key_props basis.schema.model t) p → TakesShort basis.schema.model p }
+    ensures dependent { (basis : Basis) → IsBasis basis → (p : PropId) → IsDependent basis.schema.model p → TakesShort basis.schema.model p }
+    ensures joined { (basis : Basis) → IsBasis basis → (p q : PropId) → IsDependent basis.schema.model p → Joined basis.schema (prop p) (prop q)
+        → TakesShort basis.schema.model q }
+{}
+
+/// Numbered values of different indices are different, and all are short; a key that is shown begins with small ones. No index is for two things.
+pub fn fresh_values_are_different()
+    ensures values { (kind : Kind) (outer other i j : ℕ) → outer ≤ 4 → other ≤ 4 → fresh kind outer i ≡ fresh kind other j → (outer ≡ other) × (i ≡ j) }
+    ensures short { (kind : Kind) (outer i : ℕ) → outer ≤ 4 → i < most_indices → IsShort (fresh kind outer i) }
+    ensures sort { (kind : Kind) → IsKeyKind kind → (outer i : ℕ) → IsOfSort kind (fresh kind outer i) }
+    ensures shown { (fresh kind.Int32 0 (focus_key 0) ≡ number 7) × (fresh kind.Int32 0 (focus_key 1) ≡ number 12)
+        × (fresh kind.Int32 0 (focus_key 2) ≡ number 17) × (fresh kind.Int32 0 (focus_key 3) ≡ number 22) }
+    ensures below { (one : Use) → IsUse one → index_of one < most_indices }
+    ensures indices { (one other : Use) → IsUse one → IsUse other → index_of one ≡ index_of other → one ≡ other }
+{}
+
+/// Of a property that is neither a flag nor of an enumeration two candidates lie in the domain and are no constants of its group.
+pub fn some_candidates_are_left()
+    ensures left { (basis : Basis) → IsBasis basis → IsWithinLimits basis.schema → (p : PropId) (declared : Prop) → At basis.schema.model.props p.index declared
+        → declared.kind ≢ kind.Boolean → ¬ IsEnum declared.kind
+        → AreTwoFree declared.kind (basis.constants (prop p)) (first_free declared.kind (basis.constants (prop p))) (next_free declared.kind (basis.constants (prop p))) }
+{}
+
+/// A property that isn't tested and is no part of a key has two different values.
+pub fn untested_properties_have_two_values()
+    ensures two { (basis : Basis) → IsBasis basis → (p : PropId) (declared : Prop) → At basis.schema.model.props p.index declared
+        → IsNoKey basis.schema (prop p) → ¬ IsTrue (basis.tested (prop p))
+        → AreTwoFree declared.kind (basis.constants (prop p)) (first_free declared.kind (basis.constants (prop p))) (next_free declared.kind (basis.constants (prop p))) }
+{}
+
+/// Properties of one group that are of no enumeration have the same free values, whatever their bounds.
+pub fn groups_share_free_values()
+    ensures first { (basis : Basis) → IsBasis basis → (p q : PropId) (declared other : Prop) → At basis.schema.model.props p.index declared
+        → At basis.schema.model.props q.index other → AreInOneGroup basis.schema (prop p) (prop q) → ¬ IsEnum declared.kind → ¬ IsEnum other.kind
+        → first_free declared.kind (basis.constants (prop p)) ≡ first_free other.kind (basis.constants (prop q)) }
+    ensures next { (basis : Basis) → IsBasis basis → (p q : PropId) (declared other : Prop) → At basis.schema.model.props p.index declared
+        → At basis.schema.model.props q.index other → AreInOneGroup basis.schema (prop p) (prop q) → ¬ IsEnum declared.kind → ¬ IsEnum other.kind
+        → next_free declared.kind (basis.constants (prop p)) ≡ next_free other.kind (basis.constants (prop q)) }
+{}
+
+/// Each atom of a property has a value that the property may hold.
+pub fn each_atom_has_a_value()
+    ensures value { (basis : Basis) → IsBasis basis → IsWithinLimits basis.schema → (p : PropId) (declared : Prop) → At basis.schema.model.props p.index declared
+        → (atom : Atom) → Contains (atoms_of basis.fits declared (basis.constants (prop p))) atom
+        → (value : Value) × Allows declared value × LiesIn (basis.constants (prop p)) atom value }
+{}
+
+/// The values that an entity of a region has where nothing else is said are admissible.
+pub fn each_region_has_values()
+    ensures values { (basis : Basis) → IsBasis basis → IsWithinLimits basis.schema → (s : SetId) (region : Region) → Contains (regions_of basis s) region
+        → IsAdmissible basis region (default_valuation basis region) }
+{}
+
+/// What a property that may have several values may be, whatever the other values are: null if it is nullable, each value that is no constant, and
+/// where it or a property joined to it is dependent each short value.
+pub fn choices_are_told()
+    ensures null { (basis : Basis) → IsBasis basis → (s : SetId) (region : Region) → Contains (regions_of basis s) region → (p : PropId) (declared : Prop) (nullable : Bool)
+        → HasSeveral basis region p declared nullable → IsTrue nullable → IsChoice basis region p Null }
+    ensures free { (basis : Basis) → IsBasis basis → (s : SetId) (region : Region) → Contains (regions_of basis s) region → (p : PropId) (declared : Prop) (nullable : Bool)
+        → HasSeveral basis region p declared nullable → (value : Value) → InDomain value declared.kind → ¬ Contains (basis.constants (prop p)) value
+        → (IsDependent basis.schema.model p → IsShort value) → IsChoice basis region p value }
+    ensures short { (basis : Basis) → IsBasis basis → (s : SetId) (region : Region) → Contains (regions_of basis s) region → (p : PropId) (declared : Prop) (nullable : Bool)
+        → HasSeveral basis region p declared nullable → (q : PropId) → IsDependent basis.schema.model q → AreInOneGroup basis.schema (prop q) (prop p)
+        → (value : Value) → IsShort value → IsOfSort declared.kind value → IsChoice basis region p value }
+{}
+
+/// A property that may have several values has two that aren't null, whatever the other values are; one value is changed alone, or several together.
+pub fn properties_can_differ()
+    ensures choices { (basis : Basis) → IsBasis basis → IsWithinLimits basis.schema → (s : SetId) (region : Region) → Contains (regions_of basis s) region
+        → (p : PropId) (declared : Prop) (nullable : Bool) → HasSeveral basis region p declared nullable
+        → AreTwoChoices basis region p (one_value basis p declared) (other_value basis p declared) }
+    ensures alone { (basis : Basis) → IsBasis basis → (s : SetId) (region : Region) → Contains (regions_of basis s) region
+        → (values : Valuation) → IsAdmissible basis region values → (p : PropId) (one two : Value) → AreTwoChoices basis region p one two
+        → IsAdmissible basis region (changed values (alone p one)) × IsAdmissible basis region (changed values (alone p two))
+        × DifferAt values (changed values (alone p one)) (changed values (alone p two)) p }
+    ensures together { (basis : Basis) → IsBasis basis → (s : SetId) (region : Region) → Contains (regions_of basis s) region
+        → (values : Valuation) → IsAdmissible basis region values → (changes : PropId → Option Value) → AreChoices basis region changes
+        → IsAdmissible basis region (changed values changes) }
+{}

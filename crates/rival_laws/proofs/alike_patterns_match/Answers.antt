@@ -1,8 +1,0 @@
-use Rattle.rival_laws.proofs.Alike.{alike_match}
-use Rattle.rival_laws.proofs.alike_patterns_match.Goals as goal
-
-pub returns : goal.returns
-returns c = record {
-  cells = λ basis is s one two comparable values others allowed allowed_too keys alike.
-      alike_match basis is s one two comparable values others allowed allowed_too alike;
-}

@@ -1,9 +1,0 @@
-use Rattle.same_laws.proofs.Absent.{several_lost}
-use Rattle.same_laws.proofs.LeftOut.{absent_fails}
-use Rattle.same_laws.proofs.absent_entities_fail.Goals as goal
-
-pub returns-clause-several : goal.returns-clause-several
-returns-clause-several c basis state rivals leaving has s set is_set region listed absent = several_lost basis region absent
-
-pub returns-clause-none : goal.returns-clause-none
-returns-clause-none c = absent_fails

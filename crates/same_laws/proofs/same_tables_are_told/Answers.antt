@@ -1,9 +1,0 @@
-use Rattle.same_laws.proofs.There.{same_there}
-use Rattle.same_laws.proofs.ToldThere.{same_told}
-use Rattle.same_laws.proofs.same_tables_are_told.Goals as goal
-
-pub returns-clause-there : goal.returns-clause-there
-returns-clause-there c = same_there
-
-pub returns-clause-told : goal.returns-clause-told
-returns-clause-told c = same_told
