@@ -1,23 +1,22 @@
 -- The rows of a table that a set owns, each with its key, and those of one table more.
-use Rattle.std.proofs.Common.{◌≡◌, ◌≢◌, ◌<◌, ◌+◌, ⊎_elim, List, [], ◌++◌, Option, append-nil, length, map, get_or, All, AllPairs, Contains, IsPermutation, refl, sym, ap, subst, ◌∙◌, arith}
-use Rattle.std.specs.Cmp.{tied_itself}
+use Rattle.std.proofs.Common.{◌≡◌, ◌≢◌, ◌<◌, ◌+◌, ⊎_elim, List, [], ◌++◌, Option, append-nil, length, map, All, AllPairs, Contains, IsPermutation, refl, sym, ap, subst, arith}
 use Rattle.std.specs.Cmp.Lexicographic.{slice_cmp}
-use Rattle.std.specs.declared.cmp.Ordering.TheVariants.{Less, Equal}
+use Rattle.std.specs.declared.cmp.Ordering.TheVariants.{Less}
 use Rattle.std.proofs.lemmas.Bool.{cases_lt}
 use Rattle.std.proofs.lemmas.List.Elements.{All-append, All-contains, All-map, All-nil, Contains-append_left, Contains-append_right}
 use Rattle.std.proofs.lemmas.List.Sorted.{All-permutation, Contains-permutation, IsPermutation-sym}
 use Rattle.emc_base.specs.Order.{value_cmp}
-use Rattle.emc_base.specs.OrderLaws.{key_cmp_total}
 use Rattle.emc_base.proofs.Lists.{all_from_members}
 use Rattle.emc_base.proofs.Mapped.{contains_map}
 use Rattle.emc_base.proofs.Numbered.{all_pairs_map}
 use Rattle.filled_rows.proofs.Pairs.{pairs_append}
 use Rattle.region_laws.proofs.Choices.{pairs_nil}
-use Rattle.round_trip.specs.Words.{SetId, TableId, ColId, Value, Row, Schema, Table, Tables, At, AreLegalTables, rows_in, cells_of, key_columns}
+use Rattle.round_trip.specs.Words.{SetId, TableId, ColId, Row, Schema, Table, Tables, At, AreLegalTables, rows_in, cells_of, key_columns}
 use Rattle.round_trip.specs.soundness.Mappings.{IsSoundSchema}
 use Rattle.table_writers.specs.declared.writer.Owner.{Owner}
 use Rattle.table_owners.specs.Owners.{TellsOwner}
 use Rattle.state_demand.proofs.Fitting.{key_is}
+use Rattle.table_files.proofs.Rising.{rising_apart}
 use Rattle.table_files.specs.InOrder.{AreToldApartBy}
 use Rattle.set_rows.specs.Owning.{IsOwnedBy, IsKeyOrder}
 use Rattle.set_rows.specs.Keyed.{AddsRowsOf, AreKeyedRows, AreKeyedRowsOf, IsKeyed, KeyedRow, keyed_row}
@@ -58,10 +57,6 @@ module _ (schema : Schema) (sound : IsSoundSchema schema) (tables : Tables) (leg
       stands : (row : Row) → Contains sorted row → Contains (rows_in tables t) row
       stands row has = Contains-permutation sorted (rows_in tables t) row (IsPermutation-sym (rows_in tables t) sorted same) has
 
-      -- keys that rise are different
-      differ : (one later : List Value) → slice_cmp value_cmp one later ≡ Less → one ≢ later
-      differ one later less same_key = (let never : Less ≡ Equal = sym less ∙ ap (slice_cmp value_cmp one) (sym same_key) ∙ tied_itself key_cmp_total one in cc)
-
       -- the rows with their cells in these columns are those at keys of the set
       rows_of : AreKeyedRowsOf schema tables s t (map keyed sorted)
       rows_of = record {
@@ -72,8 +67,7 @@ module _ (schema : Schema) (sound : IsSoundSchema schema) (tables : Tables) (leg
             let is_key : cells_of held order ≡ key = order_of schema sound t s is.0 order is.1 tables key is_keyed.whole held is_keyed.stands in
             subst (λ k. Contains (map keyed sorted) (k, (t, held))) is_key
             (contains_map keyed sorted held (Contains-permutation (rows_in tables t) sorted held same is_keyed.stands.stands));
-        apart = all_pairs_map (λ (one other : KeyedRow). one.0 ≢ other.0) keyed sorted
-            (λ i j d below inside. differ (cells_of (get_or sorted i d) order) (cells_of (get_or sorted j d) order) (rising i j d below inside));
+        apart = all_pairs_map (λ (one other : KeyedRow). one.0 ≢ other.0) keyed sorted (rising_apart order sorted rising);
       }
 
       -- so they are added

@@ -1,5 +1,7 @@
+pub mod Entries
 pub mod Plain
 pub mod Rising
 pub mod SameCells
 pub mod Sorted
 pub mod Told
+pub mod TellsApart

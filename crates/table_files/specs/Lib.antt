@@ -2,3 +2,4 @@ pub mod Lists
 pub mod InOrder
 pub mod TablesTree
 pub mod Tells
+pub mod Entries

@@ -4,7 +4,7 @@ ghost use Rattle.edm_types.specs.Rows.{rows_in};
 ghost use Rattle.round_trip.specs.Demand.{key_columns};
 ghost use Rattle.table_files.specs.InOrder.{AreToldApartBy, IsInOrderOf, IsKeyOrder, lent_rows};
 
-use crate::cells::compare_rows;
+use crate::sort_entry::{rows_of, sorted_entries};
 use crate::tables::Tables;
 use edm_types::{Row, StoreModel};
 use emc_base::{ColId, Memory, Seq, TableId};
@@ -60,17 +60,7 @@ pub(crate) fn rows_in_order<'t>(
 ) -> Result<Vec<&'t Row>, Memory>
     ensures { IfOk result (λ sorted. IsInOrderOf cols.now rows.now (map (λ row. row.now) sorted.items)) }
 {
-    let mut sorted = lent(alloc, rows)?;
-    sorted.sort_by(|one, two| compare_rows(one, two, cols))?;
-    Ok(sorted)
-}
-
-fn lent<'t>(alloc: Global, rows: &'t [Row]) -> Result<Vec<&'t Row>, Memory>
-    ensures { IfOk result (λ all. map (λ row. row.now) all.items ≡ rows.now) }
-{
-    let mut all = Vec::new(alloc);
-    for row in rows {
-        all.push(row)?;
-    }
-    Ok(all)
+    let sorted = sorted_entries(alloc, rows, cols)?;
+    let rows = rows_of(alloc, sorted.as_slice())?;
+    Ok(rows)
 }

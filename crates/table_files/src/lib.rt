@@ -4,10 +4,13 @@
 mod cells;
 mod key_order;
 mod local_rows;
+mod sort_entry;
 mod tables;
 mod tables_tree;
+mod told_apart;
 
 pub use key_order::KeyOrder;
 pub use local_rows::LocalRows;
 pub use tables::{TableRow, Tables};
 pub use tables_tree::row_tree;
+pub use told_apart::are_told_apart;

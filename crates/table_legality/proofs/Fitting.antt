@@ -1,5 +1,5 @@
 -- Legal rows and legal tables by what each row and each foreign key keeps.
-use Rattle.std.proofs.Common.{List, get_or, All}
+use Rattle.std.proofs.Common.{List, All}
 use Rattle.round_trip.specs.Words.{StoreModel, Table, Row, Tables, rows_in, AreTables, AreLegalTables, AreLegalRows, HasAllowedNullCells, HasCellsInDomain, Refers, FindsRow, KeepsForeignKey}
 use Rattle.breach_order.proofs.Turns.{all_as}
 use Rattle.table_legality.specs.Cells.{FitsColumns}

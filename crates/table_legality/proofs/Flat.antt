@@ -1,8 +1,8 @@
 -- What the three walks find is just what breaks the rules.
-use Rattle.std.proofs.Common.{◌≡◌, ◌⊎◌, inl, inr, ℕ, List, [], ◌∷◌, map, Option, Some, None, slice_get, refl, sym, ap, subst, ◌∙◌}
+use Rattle.std.proofs.Common.{◌≡◌, ◌⊎◌, inl, inr, ℕ, List, [], ◌∷◌, map, Option, refl, sym, ap, subst, ◌∙◌}
 use Rattle.least_fault.specs.Least.{Among, IsLeast, earlier}
 use Rattle.least_fault.proofs.Leasts.{least_of_both, least_same}
-use Rattle.round_trip.specs.Words.{Value, Null, Place, place_at, StoreModel, Table, Column, Row, Tables, rows_in, cell_of, row_key}
+use Rattle.round_trip.specs.Words.{Value, Null, place_at, StoreModel, Table, Column, Row, Tables, rows_in, cell_of, row_key}
 use Rattle.round_trip.specs.TableBreaches.{StandsAtColumn, BreaksRowKey, BreaksForeignKey}
 use Rattle.breach_order.specs.Founds.{found_cmp}
 use Rattle.breach_order.specs.FoundOrder.{found_cmp_total}

@@ -1,13 +1,7 @@
 -- What is found at one cell and at one row, and the least of it.
-use Rattle.std.proofs.Common.{◌≡◌, ⊎_elim, ℕ, ◌<◌, List, [], ◌∷◌, length, get_or, map, Option, Some, None, true, false, refl, sym, subst, ◌∙◌}
+use Rattle.std.proofs.Common.{◌≡◌, ⊎_elim, Option, Some, None, true, false}
 use Rattle.std.specs.Option.{is_some}
-use Rattle.std.proofs.lemmas.Option.{slice_get_read, slice_get_within}
-use Rattle.least_fault.specs.Least.{Among, IsLeast}
-use Rattle.round_trip.specs.Words.{Value, Place, place_at, Table, Column, Row, row_key}
-use Rattle.breach_order.specs.Founds.{found_cmp}
-use Rattle.breach_order.specs.Repeats.{IsFirstRepeat, IsFoundRepeat}
-use Rattle.breach_order.proofs.FirstFound.{first_repeat_found}
-use Rattle.breach_order.specs.declared.found.Found.{Found}
+use Rattle.round_trip.specs.Words.{Value, Column}
 use Rattle.table_legality.specs.declared.rule.TableRule.{TableRule}
 use Rattle.table_legality.specs.declared.rule.TableRule.TheVariants.{NullCell, CellDomain, RowKey, Reference}
 use Rattle.table_legality.specs.Cells.{BreaksInColumn, FitsColumn, ValueTold}

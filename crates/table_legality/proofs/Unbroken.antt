@@ -1,5 +1,5 @@
 -- Tables of which no breach is found are legal.
-use Rattle.std.proofs.Common.{◌≡◌, ◌≢◌, ◌⊎◌, inl, inr, ℕ, ◌<◌, List, [], ◌∷◌, length, get_or, Option, Some, None, Bool, true, false, All, AllPairs, IsTrue, slice_get, unwrap_or, refl, subst, arith}
+use Rattle.std.proofs.Common.{◌≡◌, ◌≢◌, ◌⊎◌, inl, inr, ℕ, ◌<◌, List, [], ◌∷◌, length, get_or, Option, Some, None, Bool, true, false, AllPairs, IsTrue, slice_get, unwrap_or, refl, subst, arith}
 use Rattle.std.specs.Cmp.Lexicographic.{slice_cmp}
 use Rattle.std.specs.List.{list_any}
 use Rattle.std.specs.Ordering.{eq_by_cmp}
@@ -10,7 +10,7 @@ use Rattle.emc_base.specs.Lists.{At}
 use Rattle.emc_base.specs.Order.{value_cmp}
 use Rattle.emc_base.proofs.Lists.{item_at}
 use Rattle.least_fault.specs.Least.{IsLeast}
-use Rattle.round_trip.specs.Words.{Value, Null, Whole, Flag, Text, Bytes, place_at, StoreModel, Table, Column, ForeignKey, Row, ColId, TableId, InDomain, Tables, rows_in, cell_of, cells_of, row_key, AreTables, AreLegalTables, AreLegalRows, HasAllowedNullCells, HasCellsInDomain, Refers, FindsRow, KeepsForeignKey}
+use Rattle.round_trip.specs.Words.{Value, Null, place_at, StoreModel, Table, Column, ForeignKey, Row, ColId, TableId, InDomain, Tables, rows_in, cell_of, cells_of, row_key, AreTables, AreLegalTables, AreLegalRows, HasAllowedNullCells, HasCellsInDomain, Refers, FindsRow, KeepsForeignKey}
 use Rattle.round_trip.specs.TableBreaches.{StandsAtColumn}
 use Rattle.breach_order.specs.Founds.{found_cmp}
 use Rattle.breach_order.proofs.Domains.{domain_decided}

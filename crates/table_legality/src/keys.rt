@@ -5,6 +5,7 @@ use edm_types::{Row, Table};
 use emc_base::{Memory, Place, Seq, Txt};
 use least_fault::Finder;
 use std::alloc::Global;
+use table_files::are_told_apart;
 
 /// Looks at the primary keys of the tables: the rows that break B3.
 #[derive(Clone, Copy)]
@@ -19,8 +20,13 @@ impl<'a> Finder<Table, Found> for TableKeys<'a> {
 
     ghost wrong = { λ s t table. IsFoundRepeat 3 t (λ key. place_at table.name key []) (map (row_key table) (rows_in s.tables.now (record { index = t }))) };
 
+    // Keys are copied only where two rows have the same one.
     fn find(&self, alloc: Global, t: usize, table: &Table) -> Result<Option<Found>, Memory> {
-        let keys = keys_of(alloc, table, rows_at(self.tables, t))?;
+        let rows = rows_at(self.tables, t);
+        if are_told_apart(alloc, rows, table.key.as_slice())? {
+            return Ok(None);
+        }
+        let keys = keys_of(alloc, table, rows)?;
         let list = keys.as_slice();
         let Some(i) = first_repeated_key(alloc, list)? else {
             return Ok(None);

@@ -10,7 +10,7 @@ use emc_base::{
 use std::alloc::{AllocGlobal, Global};
 use std::process::Abort;
 use std::test::Fail;
-use table_files::{LocalRows, TableRow, Tables};
+use table_files::{LocalRows, TableRow, Tables, are_told_apart};
 
 const FILES: TableId = TableId { index: 0 };
 
@@ -153,6 +153,26 @@ fn tables_are_printed_in_key_order(rt: HostRuntime) -> Result<(), Fail> {
         "{{\"Empty\":[],\"Files\":[{files}],\"People\":[{people}]}}\n"
     )?;
     assert_eq!(rt; bytes.as_slice(), want.as_bytes());
+    Ok(())
+}
+
+#[test]
+fn rows_are_told_apart_by_all_of_some_columns(rt: HostRuntime) -> Result<(), Fail> {
+    let alloc = rt.alloc();
+    let store = store(alloc)?;
+    let tables = tables(alloc, &store)?;
+    for (table, places, want) in [
+        (FILES, [0, 1].as_slice(), true),
+        (FILES, &[0], false),
+        (FILES, &[1], false),
+        (FILES, &[], false),
+        (PEOPLE, &[0], false),
+        (PEOPLE, &[1], true),
+    ] {
+        let cols = columns(alloc, places)?;
+        let told = are_told_apart(alloc, rows_of(&tables, table), cols.as_slice())?;
+        assert_eq!(rt; told, want);
+    }
     Ok(())
 }
 

@@ -9,7 +9,8 @@ use Rattle.round_trip.specs.Words.{ColId, TableId, Table, Row, rows_in}
 use Rattle.table_files.specs.InOrder.{lent_rows}
 use Rattle.row_differences.proofs.AllTables.{none_in_table, table_told}
 use Rattle.row_differences.proofs.NoDifference.{columns_of_key, same_but_free}
-use Rattle.row_differences.proofs.Reordered.{rising_apart, told_there}
+use Rattle.table_files.proofs.Rising.{rising_apart}
+use Rattle.row_differences.proofs.Reordered.{told_there}
 use Rattle.row_differences.proofs.differences.first_difference.Goals as goal
 
 pub of-requires-clause-names : goal.of-requires-clause-names
