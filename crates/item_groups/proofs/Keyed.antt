@@ -33,33 +33,40 @@ module _ {K : Type 0} (cmp : K → K → Ordering) (total : IsTotalOrder cmp) wh
   get_same m k q same = λ i. lookup (λ x. is_eq (total.congr k q x same i)) m.entries
 
   -- one item more
-  module _ {X : Type 0} (old now : BTreeMap K (Vec X)) (keyed : List (K × X)) (k : K) (x : X) (before : (q : K) → items_at cmp old q ≡ items_of cmp keyed q)
-      (own : items_at cmp now k ≡ items_at cmp old k ++ x ∷ []) (others : (q : K) → is_eq (cmp k q) ≡ false → get cmp now q ≡ get cmp old q) where
+  module _ {X : Type 0} (keyed : List (K × X)) (k : K) (x : X) where
     abbrev test : K → K × X → Bool
     test q one = is_eq (cmp one.0 q)
 
-    abbrev listed : Option (Vec X) → List X
-    listed found = option_map_or (λ list. list.items) found []
-
-    -- the items of a key are those before, and this one, if it has the key
-    more : (q : K) → items_of cmp (keyed ++ (k, x) ∷ []) q ≡ items_of cmp keyed q ++ map (λ (one : K × X). one.1) (cond (is_eq (cmp k q)) ((k, x) ∷ []) [])
-    more q =
+    more : (b : Bool) (q : K) → is_eq (cmp k q) ≡ b → items_of cmp (keyed ++ (k, x) ∷ []) q ≡ items_of cmp keyed q ++ map (λ (one : K × X). one.1) (cond b ((k, x) ∷ []) [])
+    more b q is =
         ap (map (λ (one : K × X). one.1)) (filter-append (test q) keyed ((k, x) ∷ []))
         ∙ map-append (λ (one : K × X). one.1) (filter (test q) keyed) (cond (is_eq (cmp k q)) ((k, x) ∷ []) [])
+        ∙ ap (λ b. items_of cmp keyed q ++ map (λ (one : K × X). one.1) (cond b ((k, x) ∷ []) [])) is
 
-    -- so the map lists those of each key
-    pub one_more : (q : K) → items_at cmp now q ≡ items_of cmp (keyed ++ (k, x) ∷ []) q
-    one_more q = by (is_eq (cmp k q)) refl
-      where
-        by : (b : Bool) → is_eq (cmp k q) ≡ b → items_at cmp now q ≡ items_of cmp (keyed ++ (k, x) ∷ []) q
-        by true is =
-            let same = is_equal (cmp k q) is in
-            sym (ap listed (get_same now k q same)) ∙ own ∙ ap (λ (found : Option (Vec X)). listed found ++ x ∷ []) (get_same old k q same)
-            ∙ ap (λ (items : List X). items ++ x ∷ []) (before q)
-            ∙ sym (more q ∙ ap (λ b. items_of cmp keyed q ++ map (λ (one : K × X). one.1) (cond b ((k, x) ∷ []) [])) is)
-        by false is =
-            ap listed (others q is) ∙ before q ∙ sym (append-nil (items_of cmp keyed q))
-            ∙ sym (more q ∙ ap (λ b. items_of cmp keyed q ++ map (λ (one : K × X). one.1) (cond b ((k, x) ∷ []) [])) is)
+    -- stands behind those of its key
+    pub item_behind : (q : K) → is_eq (cmp k q) ≡ true → items_of cmp (keyed ++ (k, x) ∷ []) q ≡ items_of cmp keyed q ++ x ∷ []
+    item_behind q is = more true q is
+
+    -- and not among those of another
+    pub item_elsewhere : (q : K) → is_eq (cmp k q) ≡ false → items_of cmp (keyed ++ (k, x) ∷ []) q ≡ items_of cmp keyed q
+    item_elsewhere q is = more false q is ∙ append-nil (items_of cmp keyed q)
+
+    module _ (old now : BTreeMap K (Vec X)) (before : (q : K) → items_at cmp old q ≡ items_of cmp keyed q)
+        (own : items_at cmp now k ≡ items_at cmp old k ++ x ∷ []) (others : (q : K) → is_eq (cmp k q) ≡ false → get cmp now q ≡ get cmp old q) where
+      abbrev listed : Option (Vec X) → List X
+      listed found = option_map_or (λ list. list.items) found []
+
+      -- so a map to which it is added lists those of each key
+      pub one_more : (q : K) → items_at cmp now q ≡ items_of cmp (keyed ++ (k, x) ∷ []) q
+      one_more q = by (is_eq (cmp k q)) refl
+        where
+          by : (b : Bool) → is_eq (cmp k q) ≡ b → items_at cmp now q ≡ items_of cmp (keyed ++ (k, x) ∷ []) q
+          by true is =
+              let same = is_equal (cmp k q) is in
+              sym (ap listed (get_same now k q same)) ∙ own ∙ ap (λ (found : Option (Vec X)). listed found ++ x ∷ []) (get_same old k q same)
+              ∙ ap (λ (items : List X). items ++ x ∷ []) (before q)
+              ∙ sym (item_behind q is)
+          by false is = ap listed (others q is) ∙ before q ∙ sym (item_elsewhere q is)
 
   module _ {X : Type 0} (groups : BTreeMap K (Vec X)) (keyed : List (K × X)) (at : (q : K) → items_at cmp groups q ≡ items_of cmp keyed q) where
     -- each list of the map is that of a key

@@ -1,4 +1,4 @@
-ghost use Rattle.std.specs.Prelude.{◌≡◌, ◌++◌, ◌∷◌, [], IfOk, false};
+ghost use Rattle.std.specs.Prelude.{◌≡◌, ◌++◌, ◌∷◌, [], IfOk, IsSortedByKey, false};
 ghost use Rattle.std.specs.BTreeMap.{get};
 ghost use Rattle.std.specs.Ordering.{is_eq};
 ghost use Rattle.item_groups.specs.Groups.{items_at, items_of};
@@ -23,9 +23,10 @@ pub fn group<K: Ord + Drop, T: Drop>(
     Ok(groups)
 }
 
-// The items in the order of their keys; those of each key in their order.
-fn in_order<K: Ord + Drop, T: Drop>(keyed: Vec<(K, T)>) -> Result<Vec<(K, T)>, Memory>
-    ensures { IfOk result (λ sorted. (key : K) → items_of K.cmp sorted.items key ≡ items_of K.cmp keyed.items key) }
+/// The items in the order of their keys; those of each key in their order. `Memory` comes where memory ran out.
+pub fn in_order<K: Ord + Drop, T: Drop>(keyed: Vec<(K, T)>) -> Result<Vec<(K, T)>, Memory>
+    ensures rising { IfOk result (λ sorted. IsSortedByKey (λ one. one.0) K.cmp sorted.items) }
+    ensures items { IfOk result (λ sorted. (key : K) → items_of K.cmp sorted.items key ≡ items_of K.cmp keyed.items key) }
 {
     let mut sorted = keyed;
     sorted.sort_by(|one, other| one.0.cmp(&other.0))?;

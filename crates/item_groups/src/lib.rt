@@ -3,4 +3,4 @@
 
 mod groups;
 
-pub use groups::group;
+pub use groups::{group, in_order};

@@ -1,3 +1,4 @@
-mod Grouped
 mod LentKeys
+mod OneMore
+mod Regrouped
 pub mod WithKey

@@ -1,6 +1,6 @@
 -- Items with keys, grouped by their keys in the order of these.
 -- Source: this project's.
-use Rattle.std.specs.Prelude.{◌≡◌, ◌≢◌, List, [], map, All, AllPairs, Contains}
+use Rattle.std.specs.Prelude.{◌≡◌, ◌≢◌, ◌++◌, List, [], ◌∷◌, map, All, AllPairs, Contains}
 use Rattle.std.specs.Cmp.Lexicographic.{slice_cmp}
 use Rattle.std.specs.declared.cmp.Ordering.TheVariants.{Less}
 use Rattle.emc_base.specs.Order.{value_cmp}
@@ -17,3 +17,10 @@ pub record AreKeyGroups {X : Type 0} (keyed : List (List Value × X)) (groups : 
   pub items : All (λ group. group.1 ≡ with_key keyed group.0) groups
   pub some : All (λ group. group.1 ≢ []) groups
   pub all : All (λ one. Contains (map (λ group. group.0) groups) one.0) keyed
+
+-- groups with an item more: in the last one where this has its key, and in one of its own behind them where it hasn't
+pub data HasOneMore {X : Type 0} (groups : List (List Value × List X)) (key : List Value) (item : X) (more : List (List Value × List X)) : Type 0 where
+  joined : (before : List (List Value × List X)) (items : List X) → groups ≡ before ++ (key, items) ∷ [] → more ≡ before ++ (key, items ++ item ∷ []) ∷ []
+      → HasOneMore groups key item more
+  started : ((before : List (List Value × List X)) (last : List Value × List X) → groups ≡ before ++ last ∷ [] → last.0 ≢ key) → more ≡ groups ++ (key, item ∷ []) ∷ []
+      → HasOneMore groups key item more

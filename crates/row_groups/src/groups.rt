@@ -1,9 +1,9 @@
-ghost use Rattle.std.specs.Prelude.{◌≡◌, ◌≢◌, ◌∷◌, ◌++◌, [], IfOk, map};
-ghost use Rattle.row_groups.specs.KeyGroups.{AreKeyGroups};
-ghost use Rattle.row_groups.specs.Shown.{shown_group, shown_keyed};
+ghost use Rattle.std.specs.Prelude.{IfOk, map};
+ghost use Rattle.row_groups.specs.KeyGroups.{AreKeyGroups, HasOneMore};
+ghost use Rattle.row_groups.specs.Shown.{shown_cells, shown_group, shown_keyed};
 
 use emc_base::{Memory, Value};
-use item_groups::group;
+use item_groups::in_order;
 use std::alloc::Global;
 
 /// The items of one key.
@@ -23,24 +23,29 @@ pub fn key_groups<'t, T: Drop>(
     ensures { IfOk result (λ groups. AreKeyGroups (map shown_keyed keyed.entry.items) (map shown_group groups.items)) }
 {
     let mut groups = Vec::new(alloc);
-    for (key, items) in group(alloc, keyed)? {
-        add(&mut groups, key, items)?;
+    for (key, item) in in_order(keyed)? {
+        add(alloc, &mut groups, key, item)?;
     }
     Ok(groups)
 }
 
-// Adds a group behind the others, if it has an item.
+// Adds an item to the last group where this has its key, and in a group of its own behind the others where it hasn't.
 fn add<'t, T: Drop>(
+    alloc: Global,
     groups: &mut Vec<KeyGroup<'t, T>>,
     key: Vec<&'t Value>,
-    items: Vec<T>,
+    item: T,
 ) -> Result<(), Memory>
-    ensures some { items.items ≢ [] → IfOk result (λ _. groups.new.items ≡ groups.old.items ++ record { key = key.entry; items = items } ∷ []) }
-    ensures none { items.items ≡ [] → groups.new ≡ groups.old }
+    ensures { IfOk result (λ _. HasOneMore (map shown_group groups.old.items) (shown_cells key.entry) item (map shown_group groups.new.items)) }
 {
-    if items.is_empty() {
-        return Ok(());
+    if let Some(last) = groups.last_mut() {
+        if last.key.cmp(&key).is_eq() {
+            last.items.push(item)?;
+            return Ok(());
+        }
     }
+    let mut items = Vec::new(alloc);
+    items.push(item)?;
     groups.push(KeyGroup { key, items })?;
     Ok(())
 }

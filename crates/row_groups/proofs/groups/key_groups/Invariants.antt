@@ -1,8 +1,10 @@
 use Rattle.std.proofs.Common.{◌≡◌, ◌++◌, map}
-use Rattle.row_groups.specs.Shown.{shown_group}
-use Rattle.row_groups.proofs.Grouped.{filled}
+use Rattle.std.specs.List.Sorted.{IsSortedByKey}
+use Rattle.row_groups.proofs.LentKeys.{lent_cmp}
+use Rattle.row_groups.specs.KeyGroups.{AreKeyGroups}
+use Rattle.row_groups.specs.Shown.{shown_group, shown_keyed}
 use Rattle.row_groups.proofs.groups.key_groups.Given as goal
 
--- the groups so far are the entries so far that have an item; behind these come the ones that are left
+-- the items so far are grouped; behind these come the ones that are left
 abbrev pub invariant-loop-key : goal.invariant-loop-key
-invariant-loop-key g l = (map shown_group l.groups.items ≡ filled l.yielded) × (l.initial.key-iterator ≡ l.yielded ++ l.key-iterator)
+invariant-loop-key g l = AreKeyGroups (map shown_keyed l.yielded) (map shown_group l.groups.items) × (l.initial.key-iterator.rest.items ≡ l.yielded ++ l.key-iterator.rest.items) × IsSortedByKey (λ one. one.0) lent_cmp l.initial.key-iterator.rest.items
