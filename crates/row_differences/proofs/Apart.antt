@@ -1,5 +1,5 @@
 -- Values and rows that differ, or hold the same.
-use Rattle.std.proofs.Common.{◌≡◌, ◌≢◌, ◌↔◌, ◌⊎◌, inl, inr, List, true, true≢false, IsTrue, refl, sym, ap, ◌∙◌}
+use Rattle.std.proofs.Common.{◌≡◌, ◌≢◌, ◌↔◌, ◌⊎◌, inl, inr, List, true, false, true≢false, IsTrue, refl, sym, ap, ◌∙◌}
 use Rattle.std.specs.Cmp.{tied_itself}
 use Rattle.std.specs.Cmp.Lexicographic.{slice_cmp}
 use Rattle.std.specs.Ordering.{is_ne}
@@ -42,3 +42,11 @@ one_key_or_two x y = by (slice_cmp value_cmp x y) refl
     by Equal is = inl (key_cmp_apart x y is)
     by Less is = inr (differ Less refl is)
     by Greater is = inr (differ Greater refl is)
+
+-- values that their order doesn't tell apart are one
+pub one_value : (x y : Value) → is_ne (value_cmp x y) ≡ false → x ≡ y
+one_value x y even = by (one_or_two x y)
+  where
+    by : (x ≡ y) ⊎ (x ≢ y) → x ≡ y
+    by (inl same) = same
+    by (inr differ) = absurd (true≢false (sym ((two_values x y).1 differ) ∙ even))

@@ -6,5 +6,6 @@ mod Law
 pub mod NoDifference
 pub mod OfState
 mod OneTable
+mod SideBySide
 mod SidedGroups
 mod Reordered

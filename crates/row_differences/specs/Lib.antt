@@ -1,4 +1,5 @@
 pub mod SameButFree
 pub mod Differences
+pub mod Alike
 pub mod Sides
 pub mod InTable

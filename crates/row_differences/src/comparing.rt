@@ -22,7 +22,13 @@ fn cell_differs(cells: &Cells, id: TableId, col: ColId, held: &Row, demanded: &R
 }
 
 // Whether rows hold different values in a column of their table that isn't free.
-fn cells_differ(cells: &Cells, id: TableId, table: &Table, held: &Row, demanded: &Row) -> bool
+pub(crate) fn cells_differ(
+    cells: &Cells,
+    id: TableId,
+    table: &Table,
+    held: &Row,
+    demanded: &Row,
+) -> bool
     requires shape { length held.now.cells ≡ length table.now.cols }
     requires demanded_shape { length demanded.now.cells ≡ length table.now.cols }
     ensures { IsTrue result ↔ HasDifferentCell (is_free_in cells.now id) table.now held.now demanded.now }

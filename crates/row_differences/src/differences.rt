@@ -7,6 +7,7 @@ ghost use Rattle.row_differences.specs.Differences.{TellsDifference};
 ghost use Rattle.row_differences.specs.InTable.{IsDifferenceOf, TellsInTable, TellsOfGroup};
 ghost use Rattle.row_differences.specs.SameButFree.{HasKeysWithin, HaveNullFreeCells, HaveRowsApart};
 
+use crate::alike::are_alike;
 use crate::comparing::rows_differ;
 use crate::copies::{copied_key, copied_row};
 use crate::sides::{Side, SidedRow, row_groups, row_of};
@@ -61,7 +62,7 @@ pub fn first_difference(
     Ok(None)
 }
 
-// The first row in which a table differs from the fresh one.
+// The first row in which a table differs from the fresh one. Mostly none does, and then the rows are compared as they stand side by side.
 fn first_in_table(
     alloc: Global,
     cells: &Cells,
@@ -77,6 +78,9 @@ fn first_in_table(
     requires demanded_apart { AreToldApartBy table.now.key (lent_rows demanded.now) }
     ensures { IfOk result (TellsInTable (is_free_in cells.now id) table.now (lent_rows held.now) (lent_rows demanded.now)) }
 {
+    if are_alike(cells, id, table, held, demanded) {
+        return Ok(None);
+    }
     let groups = row_groups(alloc, table.key.as_slice(), held, demanded)?;
     for group in groups.as_slice() {
         let found = of_group(alloc, cells, id, table, group)?;

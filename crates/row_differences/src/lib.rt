@@ -1,6 +1,7 @@
 //! The first row, by table and key, in which two tables differ, but for what free cells hold.
 #![tactic(auto)]
 
+mod alike;
 mod comparing;
 mod copies;
 mod differences;

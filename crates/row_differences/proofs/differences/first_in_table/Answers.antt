@@ -1,4 +1,4 @@
-use Rattle.std.proofs.Common.{List, All, length, sym, subst}
+use Rattle.std.proofs.Common.{refl, List, All, length, sym, subst}
 use Rattle.std.proofs.lemmas.List.{take_all}
 use Rattle.cells.specs.Cells.{is_free_in}
 use Rattle.round_trip.specs.Words.{ColId}
@@ -7,6 +7,7 @@ use Rattle.table_files.specs.InOrder.{lent_rows}
 use Rattle.row_differences.specs.Sides.{AreRowGroups}
 use Rattle.row_differences.specs.declared.sides.SidedRow.{SidedRow}
 use Rattle.row_differences.proofs.OneTable.{IsClean, none_differ, none_told, rows_as_long, some_told}
+use Rattle.row_differences.proofs.SideBySide.{alike_none_differ}
 use Rattle.row_differences.proofs.differences.first_in_table.Goals as goal
 
 pub of_group-requires : goal.of_group-requires
@@ -17,6 +18,10 @@ of_group-requires c =
     rows_as_long (is_free_in c.args.cells.now c.args.id) c.args.table.now (lent_rows c.args.held.now) (lent_rows c.args.demanded.now) groups
     (subst P c.as_slice.ensures.items (subst Q (sym c.as_slice-group-items.ensures.value) c.in_ok-groups.ensures)) (length c.args.table.now.cols)
     c.requires.shape c.requires.demanded_shape c.group-item.result (c.loop-group.group-index, c.loop-group-test.true, sym c.group-item.is)
+
+pub returns-then-are_alike : goal.returns-then-are_alike
+returns-then-are_alike c = alike_none_differ (is_free_in c.args.cells.now c.args.id) c.args.table.now (lent_rows c.args.held.now) (lent_rows c.args.demanded.now)
+    c.requires.demanded_apart (c.if-are_alike.ensures.0 refl)
 
 pub returns-then-is_some : goal.returns-then-is_some
 returns-then-is_some c =
