@@ -1,4 +1,4 @@
-//! Items that have keys, grouped by their keys in an ordered map.
+//! Items that have keys, in the order of their keys, and grouped by them in an ordered map.
 #![tactic(auto)]
 
 mod groups;

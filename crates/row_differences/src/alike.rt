@@ -10,7 +10,7 @@ use edm_types::{Row, Table};
 use emc_base::{ColId, TableId, compare};
 use table_files::KeyOrder;
 
-/// Whether the rows of a table and those of the fresh one are alike, one beside the other.
+// Whether the rows of a table and those of the fresh one are alike, one beside the other.
 pub(crate) fn are_alike(
     cells: &Cells,
     id: TableId,

@@ -62,7 +62,7 @@ pub fn first_difference(
     Ok(None)
 }
 
-// The first row in which a table differs from the fresh one. Mostly none does, and then the rows are compared as they stand side by side.
+// The first row in which a table differs from the fresh one. The rows are compared side by side first; they are grouped by their keys only where some pair isn't alike.
 fn first_in_table(
     alloc: Global,
     cells: &Cells,

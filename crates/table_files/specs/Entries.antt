@@ -1,4 +1,5 @@
 -- The entries by which rows are put in order: a row, and beside it its cells in the first two of the columns.
+-- Source: this project's.
 use Rattle.std.specs.Prelude.{◌≡◌, List, drop, get_or}
 use Rattle.std.specs.Cmp.Lexicographic.{slice_cmp}
 use Rattle.std.specs.declared.cmp.Ordering.{Ordering}

@@ -1,4 +1,4 @@
-//! Tests of tables: what is read of documents, rows by their keys, and their order.
+//! Tests of tables: what is read of documents, rows by their keys, their order, and whether columns tell them apart.
 #![tactic(auto)]
 
 #[cfg(test)]
