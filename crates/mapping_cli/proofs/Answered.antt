@@ -4,16 +4,16 @@ use Rattle.std.proofs.lemmas.Option.{none-some, same_Some}
 use Rattle.std.proofs.lemmas.Bool.Decides.{nat_tests}
 use Rattle.emc_base.specs.declared.memory.Memory.{Memory}
 use Rattle.emc_files.specs.Files.{FileMap}
-use Rattle.command_answers.specs.declared.answer.Answer.{Answer}
-use Rattle.command_answers.specs.declared.status.Status.{Status}
-use Rattle.command_answers.specs.declared.status.Status.TheVariants.{Usage}
-use Rattle.command_answers.specs.declared.command.Command.{Command}
-use Rattle.command_answers.specs.Commands.{input_count}
+use Rattle.mapping_cli.specs.declared.answers.answer.Answer.{Answer}
+use Rattle.mapping_cli.specs.declared.answers.status.Status.{Status}
+use Rattle.mapping_cli.specs.declared.answers.status.Status.TheVariants.{Usage}
+use Rattle.mapping_cli.specs.declared.answers.command.Command.{Command}
+use Rattle.mapping_cli.specs.answers.Commands.{input_count}
 use Rattle.mapping_cli.specs.Commands.{command_named, command_of, inputs_of, with_names}
 use Rattle.mapping_cli.specs.Inputs.{AreInputs}
-use Rattle.command_answers.specs.Gives.{GivesOn, Says}
+use Rattle.mapping_cli.specs.answers.Gives.{GivesOn, Says}
 use Rattle.mapping_cli.specs.Gives.{GivesInputs}
-use Rattle.command_answers.specs.Answers.{AnswersOn}
+use Rattle.mapping_cli.specs.answers.Answers.{AnswersOn}
 use Rattle.mapping_cli.specs.RunSteps.{EndsWith}
 use Rattle.mapping_cli.specs.Runs.{Ends}
 use Rattle.command_texts.specs.Texts.{usage_text}

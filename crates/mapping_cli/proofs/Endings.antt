@@ -5,12 +5,12 @@ use Rattle.std.specs.Bool.{⊤}
 use Rattle.std.proofs.lemmas.List.{append-nil}
 use Rattle.emc_files.specs.Files.{FileMap}
 use Rattle.mapping_core.specs.Words.{Schema, State, Tables}
-use Rattle.command_answers.specs.declared.status.Status.{Status}
-use Rattle.command_answers.specs.declared.status.Status.TheVariants.{Done, MappingRefused, DocumentRefused, Usage, FileFault, SinkFault, Memory}
-use Rattle.command_answers.specs.declared.command.Command.{Command}
-use Rattle.command_answers.specs.declared.command.Command.TheVariants.{Check, Views, Store, Load}
+use Rattle.mapping_cli.specs.declared.answers.status.Status.{Status}
+use Rattle.mapping_cli.specs.declared.answers.status.Status.TheVariants.{Done, MappingRefused, DocumentRefused, Usage, FileFault, SinkFault, Memory}
+use Rattle.mapping_cli.specs.declared.answers.command.Command.{Command}
+use Rattle.mapping_cli.specs.declared.answers.command.Command.TheVariants.{Check, Views, Store, Load}
 use Rattle.mapping_cli.specs.Commands.{command_of, inputs_of}
-use Rattle.command_answers.specs.Gives.{GivesBy, GivesLoaded, GivesOn, GivesState, GivesStored, GivesTables, RefusesMapping, RefusesSchema, Says}
+use Rattle.mapping_cli.specs.answers.Gives.{GivesBy, GivesLoaded, GivesOn, GivesState, GivesStored, GivesTables, RefusesMapping, RefusesSchema, Says}
 use Rattle.mapping_cli.specs.Gives.{GivesInputs}
 use Rattle.mapping_cli.specs.Inputs.{FailsToRead}
 use Rattle.mapping_cli.specs.Runs.{Ends, Finishes, Runs}

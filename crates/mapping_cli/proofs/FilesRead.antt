@@ -5,8 +5,8 @@ use Rattle.emc_files.specs.declared.files.ReadFault.TheVariants as fault
 use Rattle.emc_files.specs.Files.{FileMap, CountsRead, Tells}
 use Rattle.emc_base.specs.Lists.{At}
 use Rattle.emc_base.proofs.Loops.{take_item}
-use Rattle.command_answers.specs.declared.answer.Halt.{Halt}
-use Rattle.command_answers.specs.declared.answer.Halt.TheVariants as halt
+use Rattle.mapping_cli.specs.declared.answers.answer.Halt.{Halt}
+use Rattle.mapping_cli.specs.declared.answers.answer.Halt.TheVariants as halt
 use Rattle.mapping_cli.specs.Inputs.{AreInputs, IsFirstUnread, IsInput, StandsAt, largest_file}
 use Rattle.mapping_cli.specs.RunSteps.{ReadsInput, ReadsInputs, TellsReadFault}
 

@@ -1,9 +1,9 @@
 -- The forms of words that are commands.
 use Rattle.std.specs.Prelude.{ℕ, List, [], ◌∷◌, drop, length, ◌==◌, Option, Some, None, option_and_then, if◌then◌else◌, codes}
 use Rattle.std.specs.Str.{bytes_eq}
-use Rattle.command_answers.specs.declared.command.Command.{Command}
-use Rattle.command_answers.specs.declared.command.Command.TheVariants.{Check, Views, Store, Load}
-use Rattle.command_answers.specs.Commands.{input_count}
+use Rattle.mapping_cli.specs.declared.answers.command.Command.{Command}
+use Rattle.mapping_cli.specs.declared.answers.command.Command.TheVariants.{Check, Views, Store, Load}
+use Rattle.mapping_cli.specs.answers.Commands.{input_count}
 
 -- the command of a name
 abbrev pub command_named : List ℕ → Option Command

@@ -2,10 +2,10 @@
 use Rattle.std.specs.Prelude.{◌⊎◌, List, ℕ, Option, MatchOption}
 use Rattle.emc_files.specs.Files.{FileMap}
 use Rattle.command_texts.specs.Texts.{usage_text}
-use Rattle.command_answers.specs.declared.status.Status.{Status}
-use Rattle.command_answers.specs.declared.status.Status.TheVariants.{Usage, FileFault}
-use Rattle.command_answers.specs.declared.command.Command.{Command}
-use Rattle.command_answers.specs.Gives.{GivesOn, Says}
+use Rattle.mapping_cli.specs.declared.answers.status.Status.{Status}
+use Rattle.mapping_cli.specs.declared.answers.status.Status.TheVariants.{Usage, FileFault}
+use Rattle.mapping_cli.specs.declared.answers.command.Command.{Command}
+use Rattle.mapping_cli.specs.answers.Gives.{GivesOn, Says}
 use Rattle.mapping_cli.specs.Commands.{command_of, inputs_of}
 use Rattle.mapping_cli.specs.Inputs.{AreInputs, LacksInput}
 

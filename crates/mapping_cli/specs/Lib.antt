@@ -1,3 +1,4 @@
+pub mod answers
 pub mod Commands
 pub mod Inputs
 pub mod Gives

@@ -4,10 +4,10 @@ use Rattle.emc_files.specs.declared.files.ReadFault.{ReadFault}
 use Rattle.emc_files.specs.declared.files.ReadFault.TheVariants as fault
 use Rattle.emc_base.specs.Faults.{RoseOrStands}
 use Rattle.emc_files.specs.Files.{FileMap}
-use Rattle.command_answers.specs.declared.answer.Answer.{Answer}
-use Rattle.command_answers.specs.declared.answer.Halt.{Halt}
-use Rattle.command_answers.specs.declared.answer.Halt.TheVariants.{Tells, Memory}
-use Rattle.command_answers.specs.declared.status.Status.TheVariants.{FileFault}
+use Rattle.mapping_cli.specs.declared.answers.answer.Answer.{Answer}
+use Rattle.mapping_cli.specs.declared.answers.answer.Halt.{Halt}
+use Rattle.mapping_cli.specs.declared.answers.answer.Halt.TheVariants.{Tells, Memory}
+use Rattle.mapping_cli.specs.declared.answers.status.Status.TheVariants.{FileFault}
 use Rattle.mapping_cli.specs.Inputs.{AreInputs, FailsToRead, IsInput, IsLacking, LacksInput}
 use Rattle.mapping_cli.specs.Runs.{Ends}
 use Rattle.command_texts.specs.Texts.{file_text}

@@ -2,11 +2,11 @@
 use Rattle.std.specs.Prelude.{◌≡◌, ◌≢◌, ◌⊎◌, ℕ, List, [], ◌++◌, take, Option, MatchOption, option_map}
 use Rattle.emc_base.specs.Faults.{RoseOrStands}
 use Rattle.emc_files.specs.Files.{FileMap}
-use Rattle.command_answers.specs.declared.status.Status.{Status}
-use Rattle.command_answers.specs.declared.status.Status.TheVariants.{Done, MappingRefused, DocumentRefused, Usage, FileFault, SinkFault, Memory}
+use Rattle.mapping_cli.specs.declared.answers.status.Status.{Status}
+use Rattle.mapping_cli.specs.declared.answers.status.Status.TheVariants.{Done, MappingRefused, DocumentRefused, Usage, FileFault, SinkFault, Memory}
 use Rattle.mapping_cli.specs.Commands.{command_of, inputs_of}
 use Rattle.mapping_cli.specs.Inputs.{FailsToRead}
-use Rattle.command_answers.specs.Gives.{Says}
+use Rattle.mapping_cli.specs.answers.Gives.{Says}
 use Rattle.mapping_cli.specs.Gives.{Gives}
 use Rattle.mapping_cli.specs.World.{World}
 

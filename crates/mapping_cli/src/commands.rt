@@ -1,15 +1,15 @@
 ghost use Rattle.std.specs.Prelude.{◌≡◌, IfOk};
 ghost use Rattle.emc_files.specs.contracts.files.Files as F;
 ghost use Rattle.emc_files.specs.contracts.sink.Sink as W;
-ghost use Rattle.command_answers.specs.declared.status.Status.TheVariants.{Usage};
+ghost use Rattle.mapping_cli.specs.declared.answers.status.Status.TheVariants.{Usage};
 ghost use Rattle.command_texts.specs.Texts.{usage_text};
 ghost use Rattle.mapping_cli.specs.Runs.{Runs};
 ghost use Rattle.mapping_cli.specs.RunSteps.{EndsWith};
 ghost use Rattle.mapping_cli.specs.World.{world};
 
+use crate::answers::{Answer, Halt, Status, answer_on};
 use crate::inputs::read_inputs;
 use crate::words::{command_of, inputs_of};
-use command_answers::{Answer, Halt, Status, answer_on};
 use command_texts::usage_text;
 use emc_base::{Memory, Txt};
 use emc_files::{Files, Sink, SinkFault};

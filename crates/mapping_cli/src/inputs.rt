@@ -3,7 +3,7 @@ ghost use Rattle.emc_files.specs.contracts.files.Files as F;
 ghost use Rattle.mapping_cli.specs.RunSteps.{IsTold, ReadsInput, ReadsInputs, TellsReadFault};
 ghost use Rattle.command_texts.specs.Texts.{file_text};
 
-use command_answers::{Answer, Halt, Status};
+use crate::answers::{Answer, Halt, Status};
 use command_texts::file_text;
 use emc_base::{Bin, Memory, Seq, Txt};
 use emc_files::{Files, ReadFault};

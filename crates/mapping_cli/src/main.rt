@@ -1,11 +1,12 @@
 //! The command line of the mapping compiler.
 #![tactic(auto)]
 
+mod answers;
 mod commands;
 mod inputs;
 mod words;
 
-use command_answers::Status;
+use answers::Status;
 pub use commands::run;
 use emc_base::Txt;
 use emc_files::{DiskFiles, OutSink};

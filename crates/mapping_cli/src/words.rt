@@ -1,7 +1,7 @@
 ghost use Rattle.std.specs.Prelude.{◌≡◌, drop};
 ghost use Rattle.mapping_cli.specs.Commands.{command_named, command_of, inputs_of};
 
-use command_answers::{Command, input_count};
+use crate::answers::{Command, input_count};
 use emc_base::Txt;
 
 // The command that these words are; `None` where they are none.

@@ -1,0 +1,46 @@
+ghost use Rattle.std.specs.Prelude.{◌≡◌, IfOk, length};
+ghost use Rattle.mapping_cli.specs.answers.Answers.{AnswersBy, AnswersOn};
+ghost use Rattle.mapping_cli.specs.answers.Commands.{input_count};
+
+use crate::answers::accepting::accepted;
+use crate::answers::answer::{Answer, Halt};
+use crate::answers::command::Command;
+use crate::answers::load::loaded;
+use crate::answers::status::Status;
+use crate::answers::store::stored;
+use crate::answers::views::viewed;
+use command_texts::accepted_text;
+use emc_base::{Bin, Memory, Seq};
+use mapping_core::Compiled;
+use std::alloc::Global;
+
+/// What a command answers on the contents of its input files: what is told of the documents of the mapping where they aren't accepted; else what the command gives
+/// by the mapping. `Memory` comes where memory ran out.
+pub fn answer_on(alloc: Global, command: Command, contents: &Seq<Bin>) -> Result<Answer, Memory>
+    requires { length contents.now ≡ input_count command }
+    ensures { IfOk result (AnswersOn command contents.now) }
+{
+    match accepted(alloc, contents) {
+        Ok(compiled) => answer_by(alloc, command, &compiled, contents),
+        Err(Halt::Tells(answer)) => Ok(answer),
+        Err(Halt::Memory) => Err(Memory),
+    }
+}
+
+// What a command gives by an accepted mapping.
+fn answer_by(
+    alloc: Global,
+    command: Command,
+    compiled: &Compiled,
+    contents: &Seq<Bin>,
+) -> Result<Answer, Memory>
+    requires { length contents.now ≡ input_count command }
+    ensures { IfOk result (AnswersBy command contents.now compiled.now) }
+{
+    match command {
+        Command::Check => Ok(Answer::of_text(accepted_text(alloc)?, Status::Done)),
+        Command::Views => viewed(alloc, compiled),
+        Command::Store => stored(alloc, compiled, contents.at(3)),
+        Command::Load => loaded(alloc, compiled, contents.at(3)),
+    }
+}
