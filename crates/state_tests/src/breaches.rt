@@ -20,15 +20,42 @@ fn key(alloc: Global, first: i64, second: i64) -> Result<Key, Memory> {
     Ok(key)
 }
 
+// A breach of a rule at a spot, which is told of the table T.
+fn found(alloc: Global, rule: u8, spot: &[usize]) -> Result<Found, Memory> {
+    let place = place(alloc, "T")?;
+    Found::at(alloc, rule, spot, place)
+}
+
 #[test]
-fn breaches_are_ordered_by_rule_and_spot(rt: HostRuntime) -> Result<(), Fail> {
-    let alloc = rt.alloc();
-    let found = |rule: u8, spot: &[usize]| Found::at(alloc, rule, spot, place(alloc, "T")?);
-    assert!(rt; found(1, &[7])? < found(2, &[0])?);
-    assert!(rt; found(2, &[0, 9])? < found(2, &[1, 0])?);
-    assert!(rt; found(2, &[1])? < found(2, &[1, 0])?);
-    assert!(rt; found(2, &[1])? == Found::at(alloc, 2, &[1], place(alloc, "U")?)?);
-    let told = found(2, &[1])?.breach();
+fn breaches_are_ordered_by_rule(rt: HostRuntime) -> Result<(), Fail> {
+    let first = found(rt.alloc(), 1, &[7])?;
+    let second = found(rt.alloc(), 2, &[0])?;
+    assert!(rt; first < second);
+    Ok(())
+}
+
+#[test]
+fn breaches_of_a_rule_are_ordered_by_spot(rt: HostRuntime) -> Result<(), Fail> {
+    let first = found(rt.alloc(), 2, &[0, 9])?;
+    let second = found(rt.alloc(), 2, &[1])?;
+    let third = found(rt.alloc(), 2, &[1, 0])?;
+    assert!(rt; first < second);
+    assert!(rt; second < third);
+    Ok(())
+}
+
+#[test]
+fn breaches_at_one_spot_are_alike(rt: HostRuntime) -> Result<(), Fail> {
+    let one = found(rt.alloc(), 2, &[1])?;
+    let place = place(rt.alloc(), "U")?;
+    let other = Found::at(rt.alloc(), 2, &[1], place)?;
+    assert!(rt; one == other);
+    Ok(())
+}
+
+#[test]
+fn a_breach_is_told(rt: HostRuntime) -> Result<(), Fail> {
+    let told = found(rt.alloc(), 2, &[1])?.breach();
     assert_eq!(rt; told.rule, 2);
     assert_eq!(rt; told.place.name.as_str(), "T");
     Ok(())
