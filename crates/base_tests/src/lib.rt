@@ -1,6 +1,8 @@
-//! Tests of the lowest crates: values, documents, and the trees of types.
+//! Tests of the lowest crates: values, documents, names, orders, chains of bases, links, keys, files and outputs.
 #![tactic(auto)]
 
+mod chain_tests;
+mod file_tests;
 #[cfg(test)]
 mod trees;
 #[cfg(test)]

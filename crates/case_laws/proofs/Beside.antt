@@ -2,11 +2,11 @@
 use Rattle.std.proofs.Common.{◌≡◌, ◌≢◌, ◌==◌, List, [], ◌∷◌, length, map, Bool, true, false, if◌then◌else◌, Contains, refl, sym, ap, ◌∙◌, arith}
 use Rattle.std.proofs.lemmas.List.Elements.{All-contains}
 use Rattle.emc_base.specs.Lists.{AreApart}
-use Rattle.region_laws.proofs.Choices.{pairs_head, pairs_tail}
-use Rattle.region_laws.proofs.Symbols.{Decides-prop}
+use Rattle.regions.proofs.region_laws.Choices.{pairs_head, pairs_tail}
+use Rattle.regions.proofs.region_laws.Symbols.{Decides-prop}
 use Rattle.round_trip.specs.Words.{PropId, Value, value_beside}
-use Rattle.state_demand.proofs.Lists.{head_stands, tail_stands}
-use Rattle.state_demand.proofs.Owners.{beside_map}
+use Rattle.schema_laws.proofs.state_demand.Lists.{head_stands, tail_stands}
+use Rattle.schema_laws.proofs.state_demand.Owners.{beside_map}
 use Rattle.std.proofs.lemmas.List.{length-map}
 
 abbrev beside : Bool → Value → Value → Value

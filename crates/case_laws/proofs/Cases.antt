@@ -14,11 +14,11 @@ use Rattle.regions.specs.declared.pattern.PatternRow.{PatternRow}
 use Rattle.regions.specs.declared.pattern.Symbol.{Symbol}
 use Rattle.regions.specs.Basis.{Basis}
 use Rattle.regions.specs.Patterns.{pattern_of}
-use Rattle.region_laws.specs.pattern.Listed.{HasCell as IsCellOf}
-use Rattle.region_cases.specs.declared.case.CaseCell.{CaseCell}
-use Rattle.region_cases.specs.declared.case.CaseRow.{CaseRow}
-use Rattle.region_cases.specs.Cases.{case_cell, case_of, case_row}
-use Rattle.region_cases.specs.Meets.{HasCell, StandsHere}
+use Rattle.regions.specs.region_laws.pattern.Listed.{HasCell as IsCellOf}
+use Rattle.case_laws.specs.declared.region_cases.case.CaseCell.{CaseCell}
+use Rattle.case_laws.specs.declared.region_cases.case.CaseRow.{CaseRow}
+use Rattle.case_laws.specs.region_cases.Cases.{case_cell, case_of, case_row}
+use Rattle.case_laws.specs.region_cases.Meets.{HasCell, StandsHere}
 
 -- an item of a list of images is an image
 at_image : {X Y : Type 0} (f : X → Y) (xs : List X) (i : ℕ) (y : Y) → At (map f xs) i y → (x : X) × At xs i x × (f x ≡ y)

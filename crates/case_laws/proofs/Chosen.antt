@@ -3,8 +3,8 @@ use Rattle.std.proofs.Common.{◌≡◌, ◌≢◌, ⊎_elim, List, [], ◌∷�
 use Rattle.std.proofs.lemmas.List.Elements.{All-contains}
 use Rattle.emc_base.specs.Lists.{AreApart}
 use Rattle.round_trip.specs.Words.{PropId, Value, value_beside}
-use Rattle.state_demand.proofs.Lists.{head_stands, member_cases, none_in_nil, tail_stands}
-use Rattle.region_laws.proofs.Choices.{pairs_head, pairs_tail}
+use Rattle.schema_laws.proofs.state_demand.Lists.{head_stands, member_cases, none_in_nil, tail_stands}
+use Rattle.regions.proofs.region_laws.Choices.{pairs_head, pairs_tail}
 use Rattle.case_laws.proofs.Beside.{beside_first, beside_later}
 
 -- values that are chosen for properties

@@ -4,10 +4,10 @@ use Rattle.std.proofs.lemmas.List.Elements.{All-contains, Contains-append_left, 
 use Rattle.emc_base.proofs.Mapped.{contains_filter, contains_map}
 use Rattle.emc_base.proofs.Numbered.{map_contains}
 use Rattle.round_trip.specs.Words.{SetId, TableId, ColId, AssocId, PropId, Assoc, End, LinkFragment, Pair, At, key_props}
-use Rattle.state_demand.specs.Owners.{props_in}
-use Rattle.state_demand.proofs.Lists.{contains_flat_map}
+use Rattle.schema_laws.specs.state_demand.Owners.{props_in}
+use Rattle.schema_laws.proofs.state_demand.Lists.{contains_flat_map}
 use Rattle.round_trip.specs.soundness.Mappings.{IsSoundLinkFragment}
-use Rattle.sound_demand.proofs.Fitting.{sound_link}
+use Rattle.schema_laws.proofs.sound_demand.Fitting.{sound_link}
 use Rattle.regions.specs.declared.region.Region.{Region}
 use Rattle.regions.specs.declared.pattern.Focus.TheVariants as focus
 use Rattle.regions.specs.declared.pattern.Symbol.{Symbol}
@@ -15,15 +15,15 @@ use Rattle.regions.specs.declared.pattern.Symbol.TheVariants as symbol
 use Rattle.regions.specs.Basis.{Basis, Host, partner_end}
 use Rattle.regions.specs.Regions.{regions_of}
 use Rattle.regions.specs.Symbols.{SymbolWriting, conds_symbols, end_symbols, fragment_writing, fragments_of, host_writings, is_linked, link_fragment_writing, link_fragments_of, region_writings}
-use Rattle.region_laws.specs.IsBasis.{IsBasis, IsHostOf}
-use Rattle.region_laws.proofs.Listed.{set_is}
-use Rattle.region_laws.proofs.Symbols.{Decides-assoc}
-use Rattle.region_laws.specs.pattern.Allowed.{end_at}
-use Rattle.region_laws.proofs.pattern.Hosting.{assoc_here, end_prop, the_assoc}
-use Rattle.region_laws.proofs.pattern.Laws.{listed_from}
-use Rattle.region_laws.proofs.pattern.Cells.{written_listed}
-use Rattle.region_laws.proofs.pattern.Origins.{linked_decided, side}
-use Rattle.region_laws.proofs.pattern.Standing.{IsEndOf, end_of}
+use Rattle.regions.specs.region_laws.IsBasis.{IsBasis, IsHostOf}
+use Rattle.regions.proofs.region_laws.Listed.{set_is}
+use Rattle.regions.proofs.region_laws.Symbols.{Decides-assoc}
+use Rattle.regions.specs.region_laws.pattern.Allowed.{end_at}
+use Rattle.regions.proofs.region_laws.pattern.Hosting.{assoc_here, end_prop, the_assoc}
+use Rattle.regions.proofs.region_laws.pattern.Laws.{listed_from}
+use Rattle.regions.proofs.region_laws.pattern.Cells.{written_listed}
+use Rattle.regions.proofs.region_laws.pattern.Origins.{linked_decided, side}
+use Rattle.regions.proofs.region_laws.pattern.Standing.{IsEndOf, end_of}
 use Rattle.region_states.proofs.focus.Listed.{lists_written}
 use Rattle.case_laws.proofs.Cases.{IsCell}
 

@@ -4,27 +4,27 @@ use Rattle.std.proofs.lemmas.Bool.{and_from, not_from_false}
 use Rattle.emc_base.proofs.Numbered.{map_contains}
 use Rattle.round_trip.specs.Words.{SetId, TableId, ColId, AssocId, Entity, Hosted, RoundTrips, Row, Tables, Value}
 use Rattle.cells.specs.Limits.{IsWithinLimits}
-use Rattle.state_demand.proofs.Lists.{head_stands, of_any}
+use Rattle.schema_laws.proofs.state_demand.Lists.{head_stands, of_any}
 use Rattle.regions.specs.declared.region.Region.{Region}
 use Rattle.regions.specs.declared.pattern.Focus.TheVariants as focus
 use Rattle.regions.specs.declared.pattern.Symbol.{Symbol}
 use Rattle.regions.specs.Basis.{Basis}
 use Rattle.regions.specs.Patterns.{Valuation, pattern_of}
 use Rattle.regions.specs.Regions.{regions_of}
-use Rattle.region_laws.specs.IsBasis.{IsBasis}
-use Rattle.region_laws.proofs.Listed.{set_is}
-use Rattle.region_laws.proofs.Symbols.{Decides-assoc}
-use Rattle.region_laws.specs.pattern.Described.{value_in}
+use Rattle.regions.specs.region_laws.IsBasis.{IsBasis}
+use Rattle.regions.proofs.region_laws.Listed.{set_is}
+use Rattle.regions.proofs.region_laws.Symbols.{Decides-assoc}
+use Rattle.regions.specs.region_laws.pattern.Described.{value_in}
 use Rattle.region_states.specs.focus.Held.{HasRow}
-use Rattle.conflicts.specs.SameFacts.{are_rivals, match_all, same_region}
+use Rattle.region_states.specs.conflicts.SameFacts.{are_rivals, match_all, same_region}
 use Rattle.conflict_laws.specs.rival.Alike.{AreComparable, AreWrittenAlike, PatternsMatch, patterns_match}
 use Rattle.conflict_laws.proofs.rival.Alike.{alike_match}
 use Rattle.conflict_laws.proofs.rival.Matching.{match_self}
 use Rattle.conflict_laws.proofs.rival.Told.{told_same}
 use Rattle.region_states.specs.LoneStates.{HasNoAssociationSets}
-use Rattle.region_cases.specs.declared.case.CaseRow.{CaseRow}
-use Rattle.region_cases.specs.Cases.{case_of, case_row}
-use Rattle.region_cases.specs.Meets.{StandsAtKey}
+use Rattle.case_laws.specs.declared.region_cases.case.CaseRow.{CaseRow}
+use Rattle.case_laws.specs.region_cases.Cases.{case_of, case_row}
+use Rattle.case_laws.specs.region_cases.Meets.{StandsAtKey}
 use Rattle.case_laws.specs.Reading.{DecidesFree}
 use Rattle.case_laws.specs.Told.{AreTold, IsMet, IsReadable}
 use Rattle.case_laws.proofs.Cases.{IsCell, Stands}

@@ -5,9 +5,9 @@ use Rattle.emc_base.proofs.Mapped.{contains_map}
 use Rattle.emc_base.proofs.Numbered.{map_contains}
 use Rattle.round_trip.specs.Words.{SetId, TableId, ColId, AssocId, PropId, Assoc, DemandsRow, Entity, EntityWrites, Fragment, Hosted, InDomain, IsErasedRow, IsFree, IsLegal, IsWritten, Link, LinkFragment, LinkWrites, Null, Prop, Row, State, Table, Tables, Value, Writing, At, cell_of, key_of, row_key, rows_in, value_of}
 use Rattle.condition_logic.specs.declared.atoms.Atom.TheVariants as atom
-use Rattle.state_demand.specs.Writings.{entity_writing, link_writing}
-use Rattle.state_demand.proofs.Lists.{any_of, head_stands}
-use Rattle.state_demand.proofs.ReadBack.{cells_demanded, row_demanded}
+use Rattle.schema_laws.specs.state_demand.Writings.{entity_writing, link_writing}
+use Rattle.schema_laws.proofs.state_demand.Lists.{any_of, head_stands}
+use Rattle.schema_laws.proofs.state_demand.ReadBack.{cells_demanded, row_demanded}
 use Rattle.regions.specs.declared.region.Region.{Region}
 use Rattle.regions.specs.declared.pattern.Focus.TheVariants as focus
 use Rattle.regions.specs.declared.pattern.PatternRow.{PatternRow}
@@ -17,27 +17,27 @@ use Rattle.regions.specs.Atoms.{Allows, atom_at}
 use Rattle.regions.specs.Basis.{Basis}
 use Rattle.regions.specs.Patterns.{Valuation, by_entity, pattern_of}
 use Rattle.regions.specs.Regions.{regions_of}
-use Rattle.region_laws.specs.IsBasis.{IsBasis}
-use Rattle.region_laws.specs.Partners.{HasFewPartners}
-use Rattle.region_laws.proofs.Listed.{set_is}
-use Rattle.region_laws.specs.pattern.Allowed.{IsAllowed}
-use Rattle.region_laws.specs.pattern.Described.{value_in}
-use Rattle.region_laws.proofs.pattern.Laws.{listed_from}
-use Rattle.region_laws.proofs.pattern.Regions.{lies_in}
-use Rattle.region_laws.proofs.pattern.Standing.{listed_prop}
+use Rattle.regions.specs.region_laws.IsBasis.{IsBasis}
+use Rattle.regions.specs.region_laws.Partners.{HasFewPartners}
+use Rattle.regions.proofs.region_laws.Listed.{set_is}
+use Rattle.regions.specs.region_laws.pattern.Allowed.{IsAllowed}
+use Rattle.regions.specs.region_laws.pattern.Described.{value_in}
+use Rattle.regions.proofs.region_laws.pattern.Laws.{listed_from}
+use Rattle.regions.proofs.region_laws.pattern.Regions.{lies_in}
+use Rattle.regions.proofs.region_laws.pattern.Standing.{listed_prop}
 use Rattle.region_states.specs.focus.Held.{HasRow, IsAtRow, IsHeldAt}
-use Rattle.filled_rows.specs.Demanded.{IsHeldWith}
-use Rattle.filled_rows.proofs.Partners.{held_with_partners, parts}
+use Rattle.case_laws.specs.filled_rows.Demanded.{IsHeldWith}
+use Rattle.case_laws.proofs.filled_rows.Partners.{held_with_partners, parts}
 use Rattle.conflict_laws.specs.rival.Alike.{IsClear}
 use Rattle.conflict_laws.proofs.rival.Atoms.{open_atom}
 use Rattle.conflict_laws.proofs.rival.Clear.{known_value}
 use Rattle.conflict_laws.proofs.same.Cells.{cell_holds, held_allowed}
 use Rattle.conflict_laws.proofs.same.Rows.{HasRowAt, pattern_of_row, row_of_pattern}
-use Rattle.region_cases.specs.declared.case.Case.{Case}
-use Rattle.region_cases.specs.declared.case.CaseCell.TheVariants as cell
-use Rattle.region_cases.specs.declared.case.CaseRow.{CaseRow}
-use Rattle.region_cases.specs.Cases.{case_of, case_row}
-use Rattle.region_cases.specs.Meets.{HasCell, MayBe, MeetsCase, ShowsPart, ShowsValue, StandsAtKey}
+use Rattle.case_laws.specs.declared.region_cases.case.Case.{Case}
+use Rattle.case_laws.specs.declared.region_cases.case.CaseCell.TheVariants as cell
+use Rattle.case_laws.specs.declared.region_cases.case.CaseRow.{CaseRow}
+use Rattle.case_laws.specs.region_cases.Cases.{case_of, case_row}
+use Rattle.case_laws.specs.region_cases.Meets.{HasCell, MayBe, MeetsCase, ShowsPart, ShowsValue, StandsAtKey}
 use Rattle.case_laws.specs.Reading.{DecidesFree, HasStateTables}
 use Rattle.case_laws.proofs.Cases.{IsCell, Stands, cell_of_told}
 use Rattle.case_laws.proofs.Keys.{key_by_pairing, one_key}

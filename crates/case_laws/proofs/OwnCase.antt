@@ -10,14 +10,14 @@ use Rattle.regions.specs.declared.pattern.Focus.TheVariants as focus
 use Rattle.regions.specs.Basis.{Basis}
 use Rattle.regions.specs.Patterns.{pattern_of}
 use Rattle.regions.specs.Regions.{regions_of}
-use Rattle.region_laws.specs.IsBasis.{IsBasis}
-use Rattle.region_laws.proofs.Listed.{set_is}
+use Rattle.regions.specs.region_laws.IsBasis.{IsBasis}
+use Rattle.regions.proofs.region_laws.Listed.{set_is}
 use Rattle.region_states.proofs.focus.Flags.{some_region}
-use Rattle.region_laws.proofs.pattern.Regions.{parts_of}
-use Rattle.filled_rows.specs.Demanded.{IsHeldWith}
+use Rattle.regions.proofs.region_laws.pattern.Regions.{parts_of}
+use Rattle.case_laws.specs.filled_rows.Demanded.{IsHeldWith}
 use Rattle.region_states.specs.LoneStates.{HasNoAssociationSets}
-use Rattle.region_cases.specs.Cases.{case_of}
-use Rattle.region_cases.specs.Meets.{MeetsCase, StandsAtKey}
+use Rattle.case_laws.specs.region_cases.Cases.{case_of}
+use Rattle.case_laws.specs.region_cases.Meets.{MeetsCase, StandsAtKey}
 use Rattle.case_laws.specs.Reading.{DecidesFree, HasStateTables}
 use Rattle.case_laws.specs.Told.{AreTold, IsMet, IsReadable}
 use Rattle.case_laws.proofs.Keys.{set_key_is}

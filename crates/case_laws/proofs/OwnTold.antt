@@ -10,9 +10,9 @@ use Rattle.condition_logic.specs.declared.atoms.Atom.{Atom}
 use Rattle.condition_logic.specs.declared.atoms.Atom.TheVariants as atom
 use Rattle.condition_logic.specs.declared.atoms.AtomOf.{AtomOf}
 use Rattle.round_trip.specs.soundness.Joined.{prop}
-use Rattle.state_demand.specs.Selecting.{same_key}
-use Rattle.state_demand.proofs.Lists.{any_of, head_stands}
-use Rattle.state_demand.proofs.Selecting.{Decides-key}
+use Rattle.schema_laws.specs.state_demand.Selecting.{same_key}
+use Rattle.schema_laws.proofs.state_demand.Lists.{any_of, head_stands}
+use Rattle.schema_laws.proofs.state_demand.Selecting.{Decides-key}
 use Rattle.regions.specs.declared.region.Region.{Region}
 use Rattle.regions.specs.declared.pattern.Symbol.{Symbol}
 use Rattle.regions.specs.declared.pattern.Symbol.TheVariants as symbol
@@ -20,15 +20,15 @@ use Rattle.regions.specs.Atoms.{LiesIn}
 use Rattle.regions.specs.Basis.{Basis, Host, IsHostedLink, host_key, partner_end, partner_key}
 use Rattle.regions.specs.Regions.{TellsLinks}
 use Rattle.regions.specs.Settled.{multi, possible}
-use Rattle.region_laws.specs.IsBasis.{IsBasis, IsHostOf}
-use Rattle.region_laws.specs.Partners.{HasFewPartners}
-use Rattle.region_laws.specs.RegionAt.{links_at}
-use Rattle.region_laws.proofs.Listed.{set_is}
-use Rattle.filled_rows.specs.Demanded.{IsHeldWith}
+use Rattle.regions.specs.region_laws.IsBasis.{IsBasis, IsHostOf}
+use Rattle.regions.specs.region_laws.Partners.{HasFewPartners}
+use Rattle.regions.specs.region_laws.RegionAt.{links_at}
+use Rattle.regions.proofs.region_laws.Listed.{set_is}
+use Rattle.case_laws.specs.filled_rows.Demanded.{IsHeldWith}
 use Rattle.conflict_laws.specs.rival.Alike.{IsClear}
-use Rattle.region_cases.specs.declared.case.Case.{Case}
-use Rattle.region_cases.specs.Cases.{case_of}
-use Rattle.region_cases.specs.Meets.{AreLinksOf, IsEntityOf, IsLinkOf, ShowsPart}
+use Rattle.case_laws.specs.declared.region_cases.case.Case.{Case}
+use Rattle.case_laws.specs.region_cases.Cases.{case_of}
+use Rattle.case_laws.specs.region_cases.Meets.{AreLinksOf, IsEntityOf, IsLinkOf, ShowsPart}
 use Rattle.case_laws.specs.Reading.{DecidesFree, HasStateTables}
 use Rattle.case_laws.proofs.Links.{part_listed}
 use Rattle.case_laws.proofs.Present.{present_cell}

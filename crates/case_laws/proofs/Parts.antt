@@ -4,20 +4,20 @@ use Rattle.std.specs.Option.{option_map_or}
 use Rattle.std.proofs.lemmas.List.Elements.{All-contains}
 use Rattle.emc_base.proofs.Lists.{all_from_members, at_once}
 use Rattle.round_trip.specs.Words.{SetId, TableId, ColId, AssocId, PropId, Assoc, End, Hosted, Null, Tables, Value, At, key_props, value_beside}
-use Rattle.sound_demand.proofs.Keys.{keys_apart}
+use Rattle.schema_laws.proofs.sound_demand.Keys.{keys_apart}
 use Rattle.regions.specs.declared.region.Region.{Region}
 use Rattle.regions.specs.declared.pattern.Symbol.{Symbol}
 use Rattle.regions.specs.declared.pattern.Symbol.TheVariants as symbol
 use Rattle.regions.specs.Basis.{Basis, Host, partner_end}
 use Rattle.regions.specs.Settled.{multi, possible}
-use Rattle.region_laws.specs.IsBasis.{IsBasis, IsHostOf}
-use Rattle.region_laws.proofs.Listed.{set_is}
-use Rattle.region_laws.proofs.Symbols.{Decides-assoc}
-use Rattle.region_laws.specs.pattern.Allowed.{end_at, partner_parts}
-use Rattle.region_laws.proofs.pattern.Choices.{found_passes, none_passes}
-use Rattle.region_cases.specs.declared.case.Case.{Case}
-use Rattle.region_cases.specs.Cases.{case_of}
-use Rattle.region_cases.specs.Meets.{AreLinksOf, IsLinkOf, ShowsPart}
+use Rattle.regions.specs.region_laws.IsBasis.{IsBasis, IsHostOf}
+use Rattle.regions.proofs.region_laws.Listed.{set_is}
+use Rattle.regions.proofs.region_laws.Symbols.{Decides-assoc}
+use Rattle.regions.specs.region_laws.pattern.Allowed.{end_at, partner_parts}
+use Rattle.regions.proofs.region_laws.pattern.Choices.{found_passes, none_passes}
+use Rattle.case_laws.specs.declared.region_cases.case.Case.{Case}
+use Rattle.case_laws.specs.region_cases.Cases.{case_of}
+use Rattle.case_laws.specs.region_cases.Meets.{AreLinksOf, IsLinkOf, ShowsPart}
 use Rattle.case_laws.specs.Reading.{DecidesFree}
 use Rattle.case_laws.specs.Told.{IsMet, IsReadable}
 use Rattle.case_laws.proofs.Chosen.{AreChosen, chosen_values}

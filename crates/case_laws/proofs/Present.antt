@@ -9,9 +9,9 @@ use Rattle.regions.specs.declared.pattern.PatternRow.{PatternRow}
 use Rattle.regions.specs.declared.pattern.Symbol.{Symbol}
 use Rattle.regions.specs.Basis.{Basis}
 use Rattle.regions.specs.Patterns.{pattern_of}
-use Rattle.region_cases.specs.declared.case.CaseRow.{CaseRow}
-use Rattle.region_cases.specs.Cases.{case_of, case_row}
-use Rattle.region_cases.specs.Meets.{MeetsCase}
+use Rattle.case_laws.specs.declared.region_cases.case.CaseRow.{CaseRow}
+use Rattle.case_laws.specs.region_cases.Cases.{case_of, case_row}
+use Rattle.case_laws.specs.region_cases.Meets.{MeetsCase}
 use Rattle.case_laws.proofs.Cases.{IsCell, Stands}
 
 module _ (is_free : TableId → ColId → Bool) (basis : Basis) (region : Region) (tables : Tables) (key : List Value)

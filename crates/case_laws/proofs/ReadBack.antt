@@ -5,9 +5,9 @@ use Rattle.emc_base.proofs.Lists.{all_from_members}
 use Rattle.emc_base.specs.Lists.{AreApart}
 use Rattle.round_trip.specs.Words.{SetId, TableId, ColId, AssocId, PropId, TypeId, Entity, EntityType, Hosted, IsEntity, Row, Tables, Value, At, cell_of, key_of, key_props, props_of, row_key, rows_in, value_beside, value_of}
 use Rattle.round_trip.specs.soundness.Lookups.{set_key}
-use Rattle.state_demand.proofs.Lists.{any_of, head_stands, of_any, same_by_key}
-use Rattle.state_demand.proofs.Places.{map_agree}
-use Rattle.sound_demand.proofs.Keys.{keys_apart}
+use Rattle.schema_laws.proofs.state_demand.Lists.{any_of, head_stands, of_any, same_by_key}
+use Rattle.schema_laws.proofs.state_demand.Places.{map_agree}
+use Rattle.schema_laws.proofs.sound_demand.Keys.{keys_apart}
 use Rattle.regions.specs.declared.region.Region.{Region}
 use Rattle.regions.specs.declared.pattern.Focus.TheVariants as focus
 use Rattle.regions.specs.declared.pattern.PatternRow.{PatternRow}
@@ -17,17 +17,17 @@ use Rattle.regions.specs.Basis.{Basis, Host}
 use Rattle.regions.specs.Patterns.{Valuation, cell_symbols, pattern_of, value_under, writings_of}
 use Rattle.regions.specs.Regions.{Holds, TellsLinks}
 use Rattle.regions.specs.Settled.{Settled, free, known, settle}
-use Rattle.region_laws.specs.IsBasis.{IsBasis}
-use Rattle.region_laws.proofs.Listed.{set_is}
-use Rattle.region_laws.proofs.Possible.{type_fits}
-use Rattle.region_laws.specs.pattern.Described.{value_in}
-use Rattle.region_laws.proofs.pattern.Regions.{key_is, parts_of}
-use Rattle.filled_rows.proofs.Filled.{cell_is, cell_there, has_cell}
+use Rattle.regions.specs.region_laws.IsBasis.{IsBasis}
+use Rattle.regions.proofs.region_laws.Listed.{set_is}
+use Rattle.regions.proofs.region_laws.Possible.{type_fits}
+use Rattle.regions.specs.region_laws.pattern.Described.{value_in}
+use Rattle.regions.proofs.region_laws.pattern.Regions.{key_is, parts_of}
+use Rattle.case_laws.proofs.filled_rows.Filled.{cell_is, cell_there, has_cell}
 use Rattle.conflict_laws.proofs.rival.Clear.{known_value}
-use Rattle.region_cases.specs.declared.case.Case.{Case}
-use Rattle.region_cases.specs.declared.case.CaseCell.TheVariants as cell
-use Rattle.region_cases.specs.Cases.{by_settled, case_of}
-use Rattle.region_cases.specs.Meets.{ShowsPart, StandsAtKey}
+use Rattle.case_laws.specs.declared.region_cases.case.Case.{Case}
+use Rattle.case_laws.specs.declared.region_cases.case.CaseCell.TheVariants as cell
+use Rattle.case_laws.specs.region_cases.Cases.{by_settled, case_of}
+use Rattle.case_laws.specs.region_cases.Meets.{ShowsPart, StandsAtKey}
 use Rattle.case_laws.specs.Reading.{DecidesFree, HaveOneRowPerKey}
 use Rattle.case_laws.specs.Told.{AreTold, IsMet, IsReadBack, IsReadable, StandsWith}
 use Rattle.case_laws.proofs.Beside.{all_beside}

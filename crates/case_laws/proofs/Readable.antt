@@ -8,10 +8,10 @@ use Rattle.emc_base.proofs.Numbered.{map_contains}
 use Rattle.round_trip.specs.Words.{SetId, TableId, ColId, PropId, Pair, Row, Table, Tables, Value, At, cell_of, key_props, props_of, value_beside}
 use Rattle.round_trip.specs.soundness.Lookups.{set_key}
 use Rattle.round_trip.specs.soundness.Stores.{IsKeyColumn, IsSoundTable}
-use Rattle.state_demand.specs.Owners.{props_in}
-use Rattle.state_demand.specs.WellWritten.{cols_of}
-use Rattle.state_demand.proofs.Fitting.{key_is}
-use Rattle.state_demand.proofs.Lists.{head_stands}
+use Rattle.schema_laws.specs.state_demand.Owners.{props_in}
+use Rattle.schema_laws.specs.state_demand.WellWritten.{cols_of}
+use Rattle.schema_laws.proofs.state_demand.Fitting.{key_is}
+use Rattle.schema_laws.proofs.state_demand.Lists.{head_stands}
 use Rattle.regions.specs.declared.region.Region.{Region}
 use Rattle.regions.specs.declared.pattern.Focus.TheVariants as focus
 use Rattle.regions.specs.declared.pattern.PatternRow.{PatternRow}
@@ -20,15 +20,15 @@ use Rattle.regions.specs.declared.pattern.Symbol.TheVariants as symbol
 use Rattle.regions.specs.Basis.{Basis}
 use Rattle.regions.specs.Patterns.{cell_symbols, pattern_of, writings_of}
 use Rattle.regions.specs.Settled.{Possible, multi, possible, single}
-use Rattle.region_laws.specs.IsBasis.{IsBasis}
-use Rattle.region_laws.proofs.Listed.{set_is}
-use Rattle.region_laws.proofs.pattern.Keys.{key_cell}
-use Rattle.region_laws.proofs.pattern.Regions.{key_is as type_key_is}
-use Rattle.filled_rows.proofs.Filled.{has_cell}
+use Rattle.regions.specs.region_laws.IsBasis.{IsBasis}
+use Rattle.regions.proofs.region_laws.Listed.{set_is}
+use Rattle.regions.proofs.region_laws.pattern.Keys.{key_cell}
+use Rattle.regions.proofs.region_laws.pattern.Regions.{key_is as type_key_is}
+use Rattle.case_laws.proofs.filled_rows.Filled.{has_cell}
 use Rattle.region_states.proofs.defaults.Defaults.{Decides-among}
-use Rattle.conflicts.specs.SameFacts.{is_lost, is_multi, is_one_of, lists_anywhere}
+use Rattle.region_states.specs.conflicts.SameFacts.{is_lost, is_multi, is_one_of, lists_anywhere}
 use Rattle.conflict_laws.proofs.rival.Reading.{somewhere}
-use Rattle.region_cases.specs.Meets.{StandsAtKey}
+use Rattle.case_laws.specs.region_cases.Meets.{StandsAtKey}
 use Rattle.case_laws.specs.Reading.{DecidesFree}
 use Rattle.case_laws.specs.Told.{IsMet, IsReadable}
 use Rattle.case_laws.proofs.Cases.{IsCell, Stands}

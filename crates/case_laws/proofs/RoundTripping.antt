@@ -3,18 +3,18 @@ use Rattle.std.proofs.Common.{◌≡◌, List, [], ◌∷◌, Bool, true, false,
 use Rattle.round_trip.specs.Words.{SetId, AssocId, RoundTrips}
 use Rattle.round_trip.specs.declared.FailKind.TheVariants as kind
 use Rattle.cells.specs.Limits.{IsWithinLimits}
-use Rattle.state_demand.proofs.Lists.{head_stands}
+use Rattle.schema_laws.proofs.state_demand.Lists.{head_stands}
 use Rattle.regions.specs.declared.region.Region.{Region}
 use Rattle.regions.specs.Basis.{Basis}
 use Rattle.regions.specs.Regions.{regions_of}
-use Rattle.region_laws.specs.IsBasis.{IsBasis}
-use Rattle.region_laws.specs.Partners.{HasFewPartners}
-use Rattle.region_laws.proofs.Possible.{linked_hosts}
-use Rattle.conflicts.specs.Conflicts.{IsConflictAt}
-use Rattle.conflicts.specs.SameFacts.{are_rivals, is_absent, is_lost}
-use Rattle.conflicts.specs.There.{FailsThere}
-use Rattle.conflicts.specs.declared.conflict.Conflict.{Conflict}
-use Rattle.conflicts.specs.declared.conflict.Conflict.TheVariants as conflict
+use Rattle.regions.specs.region_laws.IsBasis.{IsBasis}
+use Rattle.regions.specs.region_laws.Partners.{HasFewPartners}
+use Rattle.regions.proofs.region_laws.Possible.{linked_hosts}
+use Rattle.region_states.specs.conflicts.Conflicts.{IsConflictAt}
+use Rattle.region_states.specs.conflicts.SameFacts.{are_rivals, is_absent, is_lost}
+use Rattle.region_states.specs.conflicts.There.{FailsThere}
+use Rattle.region_states.specs.declared.conflicts.conflict.Conflict.{Conflict}
+use Rattle.region_states.specs.declared.conflicts.conflict.Conflict.TheVariants as conflict
 use Rattle.region_states.specs.LoneStates.{HasNoAssociationSets, lone_focus}
 use Rattle.region_states.proofs.Alike.{lone_hosts}
 use Rattle.region_states.proofs.Legal.{no_host}

@@ -5,10 +5,10 @@ use Rattle.round_trip.specs.Words.{TableId, ColId, AssocId, PropId, Cond, Entity
 use Rattle.edm_types.specs.declared.mapping.CondOn.TheVariants as on
 use Rattle.condition_logic.specs.declared.atoms.AtomOf.{AtomOf}
 use Rattle.member_groups.specs.Tested.{HasCondition}
-use Rattle.state_demand.specs.WellWritten.{FitsTable, cols_of}
-use Rattle.state_demand.proofs.Lists.{any_of, of_any}
+use Rattle.schema_laws.specs.state_demand.WellWritten.{FitsTable, cols_of}
+use Rattle.schema_laws.proofs.state_demand.Lists.{any_of, of_any}
 use Rattle.emc_base.proofs.Numbered.{map_contains}
-use Rattle.sound_demand.proofs.Fitting.{well_written}
+use Rattle.schema_laws.proofs.sound_demand.Fitting.{well_written}
 use Rattle.regions.specs.declared.region.Region.{Region}
 use Rattle.regions.specs.declared.pattern.Focus.TheVariants as focus
 use Rattle.regions.specs.declared.pattern.Symbol.{Symbol}
@@ -16,17 +16,17 @@ use Rattle.regions.specs.declared.pattern.Symbol.TheVariants as symbol
 use Rattle.regions.specs.Basis.{Basis}
 use Rattle.regions.specs.Patterns.{writings_of}
 use Rattle.regions.specs.Settled.{Possible, Settled, known, free, multi, possible, settle, settled_by, single}
-use Rattle.region_laws.specs.IsBasis.{IsBasis}
-use Rattle.region_laws.proofs.pattern.Cells.{cell_apart, cell_of as made_cell}
-use Rattle.region_laws.proofs.pattern.Laws.{listed_from}
-use Rattle.region_laws.proofs.pattern.Hosting.{side_among}
-use Rattle.region_laws.proofs.pattern.Origins.{From, by_cond, by_end, by_host, by_pair, side}
-use Rattle.region_laws.proofs.pattern.Settled.{free_is}
+use Rattle.regions.specs.region_laws.IsBasis.{IsBasis}
+use Rattle.regions.proofs.region_laws.pattern.Cells.{cell_apart, cell_of as made_cell}
+use Rattle.regions.proofs.region_laws.pattern.Laws.{listed_from}
+use Rattle.regions.proofs.region_laws.pattern.Hosting.{side_among}
+use Rattle.regions.proofs.region_laws.pattern.Origins.{From, by_cond, by_end, by_host, by_pair, side}
+use Rattle.regions.proofs.region_laws.pattern.Settled.{free_is}
 use Rattle.conflict_laws.specs.rival.Alike.{IsClear}
 use Rattle.conflict_laws.proofs.rival.Clear.{clear_cell}
-use Rattle.region_cases.specs.declared.case.CaseCell.{CaseCell}
-use Rattle.region_cases.specs.declared.case.CaseCell.TheVariants as cell
-use Rattle.region_cases.specs.Cases.{by_settled}
+use Rattle.case_laws.specs.declared.region_cases.case.CaseCell.{CaseCell}
+use Rattle.case_laws.specs.declared.region_cases.case.CaseCell.TheVariants as cell
+use Rattle.case_laws.specs.region_cases.Cases.{by_settled}
 use Rattle.case_laws.specs.Reading.{DecidesFree}
 use Rattle.case_laws.proofs.Cases.{IsCell, told_of_cell}
 

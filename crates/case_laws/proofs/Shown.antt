@@ -3,8 +3,8 @@ use Rattle.std.proofs.Common.{◌≡◌, List, [], ◌∷◌, length, All, Bool,
 use Rattle.std.proofs.lemmas.List.Elements.{All-contains}
 use Rattle.emc_base.proofs.Lists.{at_once}
 use Rattle.round_trip.specs.Words.{SetId, TableId, ColId, AssocId, PropId, Hosted, Row, Tables, Value, At, cell_of, key_props, value_beside}
-use Rattle.state_demand.proofs.Lists.{head_stands}
-use Rattle.sound_demand.proofs.Keys.{keys_apart}
+use Rattle.schema_laws.proofs.state_demand.Lists.{head_stands}
+use Rattle.schema_laws.proofs.sound_demand.Keys.{keys_apart}
 use Rattle.regions.specs.declared.region.Region.{Region}
 use Rattle.regions.specs.declared.pattern.Focus.TheVariants as focus
 use Rattle.regions.specs.declared.pattern.Symbol.{Symbol}
@@ -12,15 +12,15 @@ use Rattle.regions.specs.declared.pattern.Symbol.TheVariants as symbol
 use Rattle.regions.specs.Basis.{Basis, Host, partner_end}
 use Rattle.regions.specs.Regions.{regions_of}
 use Rattle.regions.specs.Settled.{free, multi, possible, settle}
-use Rattle.region_laws.specs.IsBasis.{IsBasis}
-use Rattle.region_laws.proofs.pattern.Hosting.{one_host}
-use Rattle.region_laws.proofs.pattern.Laws.{end_once}
+use Rattle.regions.specs.region_laws.IsBasis.{IsBasis}
+use Rattle.regions.proofs.region_laws.pattern.Hosting.{one_host}
+use Rattle.regions.proofs.region_laws.pattern.Laws.{end_once}
 use Rattle.conflict_laws.specs.rival.Alike.{IsClear}
 use Rattle.conflict_laws.proofs.rival.Clear.{listed_free}
-use Rattle.region_cases.specs.declared.case.Case.{Case}
-use Rattle.region_cases.specs.declared.case.CaseCell.TheVariants as cell
-use Rattle.region_cases.specs.Cases.{by_settled, case_of}
-use Rattle.region_cases.specs.Meets.{IsLinkOf, ShowsPart, ShowsValue}
+use Rattle.case_laws.specs.declared.region_cases.case.Case.{Case}
+use Rattle.case_laws.specs.declared.region_cases.case.CaseCell.TheVariants as cell
+use Rattle.case_laws.specs.region_cases.Cases.{by_settled, case_of}
+use Rattle.case_laws.specs.region_cases.Meets.{IsLinkOf, ShowsPart, ShowsValue}
 use Rattle.case_laws.specs.Reading.{DecidesFree}
 use Rattle.case_laws.proofs.Beside.{same_beside}
 use Rattle.case_laws.proofs.Cases.{IsCell, Stands, Tells, cell_of_told, told_of_row}

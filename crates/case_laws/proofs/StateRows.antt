@@ -3,14 +3,14 @@ use Rattle.std.proofs.Common.{◌≡◌, ℕ, List, slice_get, Contains, Option,
 use Rattle.std.specs.List.{AllZip}
 use Rattle.std.specs.Option.{IsSomeAnd}
 use Rattle.std.proofs.lemmas.Slice.Zip.{AllZip-left, AllZip-right}
-use Rattle.base_chains.proofs.Orders.{place_of_member}
+use Rattle.graphs.proofs.base_chains.Orders.{place_of_member}
 use Rattle.emc_base.proofs.Lists.{at_once, same_place}
 use Rattle.emc_base.proofs.Mapped.{contains_at}
 use Rattle.round_trip.specs.Words.{TableId, IsErasedRow, IsFree, IsWritten, Row, State, Table, Tables, At, cell_of, row_key, rows_in}
-use Rattle.state_demand.proofs.Places.{map_agree}
-use Rattle.state_demand.proofs.ReadBack.{rows_demanded}
+use Rattle.schema_laws.proofs.state_demand.Places.{map_agree}
+use Rattle.schema_laws.proofs.state_demand.ReadBack.{rows_demanded}
 use Rattle.regions.specs.Basis.{Basis}
-use Rattle.region_laws.specs.IsBasis.{IsBasis}
+use Rattle.regions.specs.region_laws.IsBasis.{IsBasis}
 use Rattle.case_laws.specs.Reading.{HasStateTables}
 use Rattle.case_laws.proofs.Settling.{key_named}
 

@@ -14,14 +14,14 @@ use Rattle.regions.specs.Atoms.{Allows, LiesIn, atom_at}
 use Rattle.regions.specs.Basis.{Basis}
 use Rattle.regions.specs.Patterns.{Valuation, by_entity}
 use Rattle.regions.specs.Settled.{is_nullable, multi, of_atom, possible, single}
-use Rattle.region_laws.specs.IsBasis.{IsBasis}
-use Rattle.region_laws.specs.pattern.Allowed.{IsAllowed, partner_parts}
-use Rattle.region_laws.proofs.pattern.Regions.{atom_found}
+use Rattle.regions.specs.region_laws.IsBasis.{IsBasis}
+use Rattle.regions.specs.region_laws.pattern.Allowed.{IsAllowed, partner_parts}
+use Rattle.regions.proofs.region_laws.pattern.Regions.{atom_found}
 use Rattle.region_states.proofs.defaults.Listed.{IsTold, found_told, told_found, told_is}
 use Rattle.region_states.proofs.defaults.Valued.{Tells, atom_tells}
-use Rattle.region_cases.specs.declared.case.Case.{Case}
-use Rattle.region_cases.specs.Cases.{case_of}
-use Rattle.region_cases.specs.Meets.{MayBe}
+use Rattle.case_laws.specs.declared.region_cases.case.Case.{Case}
+use Rattle.case_laws.specs.region_cases.Cases.{case_of}
+use Rattle.case_laws.specs.region_cases.Meets.{MayBe}
 use Rattle.case_laws.specs.Reading.{DecidesFree}
 use Rattle.case_laws.specs.Told.{AreTold, IsMet, IsReadable}
 use Rattle.case_laws.proofs.Parts.{part_shows}

@@ -7,17 +7,17 @@ use Rattle.emc_base.proofs.Numbered.{map_contains}
 use Rattle.emc_base.specs.Lists.{AreApart}
 use Rattle.round_trip.specs.Words.{SetId, TableId, ColId, PropId, TypeId, Entity, EntitySet, Hosted, IsLegal, Pair, Row, State, Tables, Value, At, entities_in, key_of, key_props, props_of, row_key, value_beside, value_of}
 use Rattle.round_trip.specs.soundness.Lookups.{set_key}
-use Rattle.state_demand.specs.Owners.{StandsAt, props_in}
-use Rattle.state_demand.proofs.Lists.{none_in_nil}
-use Rattle.state_demand.proofs.Places.{agree_by_map, map_agree}
-use Rattle.sound_demand.proofs.Keys.{keys_apart}
-use Rattle.sound_demand.proofs.ReadBack.{rows_of}
-use Rattle.sound_types.proofs.Once.{props_once}
+use Rattle.schema_laws.specs.state_demand.Owners.{StandsAt, props_in}
+use Rattle.schema_laws.proofs.state_demand.Lists.{none_in_nil}
+use Rattle.schema_laws.proofs.state_demand.Places.{agree_by_map, map_agree}
+use Rattle.schema_laws.proofs.sound_demand.Keys.{keys_apart}
+use Rattle.schema_laws.proofs.sound_demand.ReadBack.{rows_of}
+use Rattle.schema_laws.proofs.sound_types.Once.{props_once}
 use Rattle.conflict_laws.proofs.same.Legal.{key_parts}
 use Rattle.regions.specs.declared.region.Region.{Region}
 use Rattle.regions.specs.Basis.{Basis}
-use Rattle.region_laws.specs.IsBasis.{IsBasis}
-use Rattle.region_cases.specs.Meets.{StandsAtKey}
+use Rattle.regions.specs.region_laws.IsBasis.{IsBasis}
+use Rattle.case_laws.specs.region_cases.Meets.{StandsAtKey}
 use Rattle.case_laws.specs.Reading.{DecidesFree, HasStateTables}
 use Rattle.case_laws.specs.Told.{AreTold, IsMet, IsReadable}
 use Rattle.case_laws.proofs.Beside.{all_beside, same_beside}

@@ -10,12 +10,12 @@ use Rattle.regions.specs.Atoms.{Allows}
 use Rattle.regions.specs.Basis.{Basis}
 use Rattle.regions.specs.Patterns.{Valuation, by_entity, pattern_of}
 use Rattle.regions.specs.Regions.{Holds, regions_of}
-use Rattle.region_laws.specs.pattern.Allowed.{partner_parts}
-use Rattle.region_laws.specs.pattern.Described.{row_for}
-use Rattle.conflicts.specs.SameFacts.{is_absent, is_lost}
+use Rattle.regions.specs.region_laws.pattern.Allowed.{partner_parts}
+use Rattle.regions.specs.region_laws.pattern.Described.{row_for}
+use Rattle.region_states.specs.conflicts.SameFacts.{is_absent, is_lost}
 use Rattle.conflict_laws.specs.rival.Alike.{IsClear}
-use Rattle.region_cases.specs.Cases.{case_of}
-use Rattle.region_cases.specs.Meets.{AreLinksOf, IsEntityOf, MeetsCase, StandsAtKey}
+use Rattle.case_laws.specs.region_cases.Cases.{case_of}
+use Rattle.case_laws.specs.region_cases.Meets.{AreLinksOf, IsEntityOf, MeetsCase, StandsAtKey}
 
 -- a region of the set that can be read: no cell of its pattern clashes, it has a row, and it loses no property
 pub record IsReadable (basis : Basis) (s : SetId) (region : Region) : Type 0 where

@@ -1,6 +1,11 @@
 //! From tables back to entities: the rows of an entity meet the case of its region and tell the entity, and they meet no other case.
 #![tactic(auto)]
 
+pub mod candidate_laws;
+mod candidates;
+pub mod filled_rows;
+mod region_cases;
+
 ghost use Rattle.std.specs.Prelude.{◌≡◌, ◌↔◌, Bool, Contains, List, length};
 ghost use Rattle.round_trip.specs.Words.{ColId, Entity, Hosted, IsLegal, RoundTrips, Row, SetId, State, TableId, Tables, Value, entities_in, key_of};
 ghost use Rattle.round_trip.specs.soundness.Lookups.{set_key};
@@ -8,15 +13,24 @@ ghost use Rattle.cells.specs.Limits.{IsWithinLimits};
 ghost use Rattle.regions.specs.declared.region.Region.{Region};
 ghost use Rattle.regions.specs.Basis.{Basis};
 ghost use Rattle.regions.specs.Regions.{regions_of};
-ghost use Rattle.region_laws.specs.IsBasis.{IsBasis};
-ghost use Rattle.region_laws.specs.Partners.{HasFewPartners};
-ghost use Rattle.filled_rows.specs.Demanded.{IsHeldWith};
+ghost use Rattle.regions.specs.region_laws.IsBasis.{IsBasis};
+ghost use Rattle.regions.specs.region_laws.Partners.{HasFewPartners};
+ghost use Rattle.case_laws.specs.filled_rows.Demanded.{IsHeldWith};
 ghost use Rattle.conflict_laws.specs.rival.Alike.{IsClear};
 ghost use Rattle.region_states.specs.LoneStates.{HasNoAssociationSets};
-ghost use Rattle.region_cases.specs.Cases.{case_of};
-ghost use Rattle.region_cases.specs.Meets.{AreLinksOf, IsEntityOf, MeetsCase, StandsAtKey};
+ghost use Rattle.case_laws.specs.region_cases.Cases.{case_of};
+ghost use Rattle.case_laws.specs.region_cases.Meets.{AreLinksOf, IsEntityOf, MeetsCase, StandsAtKey};
 ghost use Rattle.case_laws.specs.Reading.{DecidesFree, HasStateTables, HaveOneRowPerKey};
 ghost use Rattle.case_laws.specs.Told.{AreTold, IsMet, IsReadBack, IsReadable};
+
+pub use candidate_laws::{
+    a_state_is_its_candidate, cells_tell_free_columns, refused_tables_have_no_state,
+};
+pub use candidates::PlacedRow;
+pub use filled_rows::{
+    entity_rows_are_demanded, gathered_rows_are_the_tables, link_rows_are_demanded,
+};
+pub use region_cases::{Case, CaseCell, CaseRow, LinkCase, LinkCaseCell};
 
 /// The rows at the key of an entity of a legal state meet the case of the region that holds it, if no cell of the region's pattern clashes; and they tell
 /// the entity and the links that it hosts.

@@ -13,7 +13,7 @@ use Rattle.round_trip.specs.Words.{PropId, Schema, Value}
 use Rattle.round_trip.specs.soundness.Joined.{Member}
 use Rattle.member_groups.specs.Tested.{IsConstant}
 use Rattle.member_groups.specs.MemberGroups.{ListsJust}
-use Rattle.state_demand.proofs.Selecting.{Decides-value}
+use Rattle.schema_laws.proofs.state_demand.Selecting.{Decides-value}
 use Rattle.cells.specs.Limits.{HasFewConstants, most_constants}
 
 -- what is found is there

@@ -18,8 +18,8 @@ use Rattle.table_owners.specs.declared.places.LinkPlace.{LinkPlace}
 use Rattle.table_owners.specs.declared.places.LinkPlace.TheVariants as place
 use Rattle.table_owners.specs.Places.{AreHosted, AreToldHosted}
 use Rattle.table_owners.proofs.Hosting.{told_hosted}
-use Rattle.state_demand.proofs.Lists.{contains_flat_map, member_of_flat_map, none_in_nil}
-use Rattle.state_demand.proofs.Selecting.{Decides-key}
+use Rattle.schema_laws.proofs.state_demand.Lists.{contains_flat_map, member_of_flat_map, none_in_nil}
+use Rattle.schema_laws.proofs.state_demand.Selecting.{Decides-key}
 use Rattle.cells.specs.declared.cells.Cells.{Cells}
 use Rattle.cells.specs.Cells.{TellsCells}
 use Rattle.cells.specs.HostedLinks.{IsHostedLink, host_key, host_set, hosted_at, hosted_by, hosted_links, of_key, partner_key}

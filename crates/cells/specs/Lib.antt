@@ -2,3 +2,5 @@ pub mod Cells
 pub mod Limits
 pub mod Parts
 pub mod HostedLinks
+pub mod host_links
+pub mod region_basis

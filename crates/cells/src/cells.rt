@@ -1,7 +1,7 @@
 ghost use Rattle.std.specs.Prelude.{◌≡◌, ◌<◌, IfOk, IsSome, Some, length};
 ghost use Rattle.round_trip.specs.soundness.Joined.{prop, col};
 ghost use Rattle.round_trip.specs.soundness.Mappings.{IsSoundSchema};
-ghost use Rattle.link_places.specs.Between.{schema_of};
+ghost use Rattle.table_owners.specs.link_places.Between.{schema_of};
 ghost use Rattle.emc_base.specs.Lists.{At};
 ghost use Rattle.member_groups.specs.MemberGroups.{constants_in, group_in, is_tested_in};
 ghost use Rattle.cells.specs.Cells.{TellsCells, is_free_in};
@@ -10,8 +10,7 @@ use edm_types::{EntityModel, Mapping, StoreModel};
 use emc_base::{AssocId, ColId, GroupId, Memory, PropId, Seq, TableId, Value};
 use member_groups::MemberGroups;
 use std::alloc::Global;
-use table_owners::{LinkPlace, free_columns_of, owners_of, pairings_of, places_of};
-use table_writers::Owner;
+use table_owners::{LinkPlace, Owner, free_columns_of, owners_of, pairings_of, places_of};
 
 /// What a mapping between a model and a store says of tables, columns and properties.
 #[derive(Drop)]

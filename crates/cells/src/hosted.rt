@@ -5,8 +5,7 @@ ghost use Rattle.cells.specs.HostedLinks.{host_key, host_set, hosted_at, hosted_
 use crate::cells::Cells;
 use edm_types::{Assoc, EntityModel, Hosted, Link};
 use emc_base::{AssocId, Key, Memory, Seq, SetId};
-use entity_state::EntityState;
-use entity_values::links_at;
+use entity_state::{EntityState, links_at};
 use std::alloc::Global;
 use table_owners::LinkPlace;
 

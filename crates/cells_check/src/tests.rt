@@ -3,8 +3,8 @@ ghost use Rattle.cells.specs.Cells.{TellsCells};
 ghost use Rattle.cells.specs.Parts.{schema_in};
 
 use cells::{Cells, LinkPlace, Owner, Parts, hosted_links, is_within_limits};
+use data_documents::state_of_doc;
 use emc_base::{AssocId, ColId, GroupId, Key, Memory, PropId, Seq, SetId, TableId, Value};
-use entity_documents::state_of_doc;
 use schema_reader::{
     BOSS, CAMP, COLORS, CREW, KIND, PETS, RED, SHARED, SUMMER, document, read_texts,
 };

@@ -13,10 +13,10 @@ ghost use Rattle.round_trip.specs.Words.{SetId};
 ghost use Rattle.round_trip.specs.declared.FailKind.{FailKind};
 ghost use Rattle.cells.specs.Limits.{IsWithinLimits};
 ghost use Rattle.regions.specs.Basis.{Basis};
-ghost use Rattle.region_laws.specs.IsBasis.{IsBasis};
-ghost use Rattle.conflicts.specs.Conflicts.{IsConflictAt};
-ghost use Rattle.conflicts.specs.There.{FailsThere, NoneFailsBefore};
-ghost use Rattle.conflicts.specs.declared.conflict.Conflict.{Conflict};
+ghost use Rattle.regions.specs.region_laws.IsBasis.{IsBasis};
+ghost use Rattle.region_states.specs.conflicts.Conflicts.{IsConflictAt};
+ghost use Rattle.region_states.specs.conflicts.There.{FailsThere, NoneFailsBefore};
+ghost use Rattle.region_states.specs.declared.conflicts.conflict.Conflict.{Conflict};
 ghost use Rattle.region_states.specs.LoneStates.{HasNoAssociationSets};
 
 pub use clash_laws::{

@@ -6,10 +6,10 @@ ghost use Rattle.cells.specs.Limits.{IsWithinLimits};
 ghost use Rattle.regions.specs.Basis.{Basis};
 ghost use Rattle.regions.specs.Patterns.{Valuation};
 ghost use Rattle.regions.specs.declared.region.Region.{Region};
-ghost use Rattle.region_laws.specs.IsBasis.{IsBasis};
-ghost use Rattle.region_laws.specs.pattern.Allowed.{IsAllowed};
+ghost use Rattle.regions.specs.region_laws.IsBasis.{IsBasis};
+ghost use Rattle.regions.specs.region_laws.pattern.Allowed.{IsAllowed};
 ghost use Rattle.region_states.specs.defaults.Admissible.{IsAdmissible};
-ghost use Rattle.conflicts.specs.SameFacts.{same_region};
+ghost use Rattle.region_states.specs.conflicts.SameFacts.{same_region};
 ghost use Rattle.conflict_laws.specs.rival.Alike.{AreComparable, AreWrittenAlike, HaveOneKey, PatternsMatch};
 ghost use Rattle.conflict_laws.specs.rival.RivalValues.{first_values, second_values};
 

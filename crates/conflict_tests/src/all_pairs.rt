@@ -6,9 +6,8 @@ use condition_logic::AtomOf;
 use edm_types::EntityModel;
 use emc_base::{Memory, PropId, Seq};
 use regions::{Pattern, PatternRow, Region, Symbol};
-use settled_cells::{CanBe, can_be_null, possible};
 use std::alloc::Global;
-use symbolic_rows::region_pattern;
+use symbolic_rows::{CanBe, can_be_null, possible, region_pattern};
 
 /// A region with its pattern.
 #[derive(Drop)]

@@ -1,6 +1,6 @@
 ghost use Rattle.std.specs.Prelude.{◌≢◌};
 ghost use Rattle.cells.specs.Parts.{AreParts};
-ghost use Rattle.link_places.specs.Between.{schema_of};
+ghost use Rattle.table_owners.specs.link_places.Between.{schema_of};
 ghost use Rattle.round_trip.specs.declared.FailKind.TheVariants as fails;
 ghost use Rattle.round_trip.specs.soundness.Mappings.{IsSoundSchema};
 
@@ -11,10 +11,10 @@ use crate::examples::{
 };
 use cells::{Cells, Parts, is_within_limits};
 use condition_logic::Atom;
-use conflicts::Conflict;
 use containment::first_conflict;
 use emc_base::{Memory, SetId, Value};
-use region_lists::regions;
+use region_partition::regions;
+use region_states::Conflict;
 use regions::{Focus, Region, Symbol};
 use round_trip::FailKind;
 use schema_reader::{CAMP, COLORS, KIND, Meant, PETS, RED, read_texts};

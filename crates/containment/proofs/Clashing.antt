@@ -13,8 +13,8 @@ use Rattle.regions.specs.declared.pattern.Focus.TheVariants as focus
 use Rattle.regions.specs.declared.pattern.PatternRow.{PatternRow}
 use Rattle.regions.specs.declared.pattern.Symbol.{Symbol}
 use Rattle.regions.specs.declared.region.Region.{Region}
-use Rattle.region_laws.proofs.pattern.Choices.{found_passes, none_passes}
-use Rattle.conflicts.specs.Facts.{is_clash, lists}
+use Rattle.regions.proofs.region_laws.pattern.Choices.{found_passes, none_passes}
+use Rattle.region_states.specs.conflicts.Facts.{is_clash, lists}
 use Rattle.conflict_laws.proofs.clash.Listed.{Decides-lists}
 use Rattle.containment.specs.Cells.{HasNoClash, are_apart}
 use Rattle.containment.proofs.Listed.{listed_by, listed_row}

@@ -6,12 +6,12 @@ use Rattle.std.proofs.lemmas.List.Folds.{list_any-from_Any, list_any_none}
 use Rattle.std.proofs.lemmas.Slice.Eq.{bytes_eq-Decides}
 use Rattle.emc_base.proofs.Lists.{all_from_members}
 use Rattle.round_trip.specs.Words.{Fragment, LinkFragment}
-use Rattle.state_demand.proofs.Lists.{any_of}
+use Rattle.schema_laws.proofs.state_demand.Lists.{any_of}
 use Rattle.regions.specs.Basis.{Basis}
 use Rattle.regions.specs.declared.pattern.Focus.TheVariants as focus
 use Rattle.regions.specs.declared.region.Region.{Region}
-use Rattle.region_laws.proofs.pattern.Choices.{found_passes, none_passes}
-use Rattle.conflicts.specs.Facts.{differs_at, differs_at_links, disagrees_at}
+use Rattle.regions.proofs.region_laws.pattern.Choices.{found_passes, none_passes}
+use Rattle.region_states.specs.conflicts.Facts.{differs_at, differs_at_links, disagrees_at}
 
 -- an item that is found, by its place, and that there is none at any place where none is found
 module _ {X : Type 0} (place_of : X → List ℕ) (differs : X → Bool) (xs : List X) where

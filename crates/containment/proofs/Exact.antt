@@ -4,9 +4,9 @@ use Rattle.emc_base.specs.declared.memory.Memory.{Memory}
 use Rattle.round_trip.specs.Words.{SetId}
 use Rattle.round_trip.specs.declared.FailKind.{FailKind}
 use Rattle.regions.specs.Basis.{Basis}
-use Rattle.conflicts.specs.declared.conflict.Conflict.{Conflict}
-use Rattle.conflicts.specs.Conflicts.{IsConflictAt}
-use Rattle.conflicts.specs.There.{FailsThere}
+use Rattle.region_states.specs.declared.conflicts.conflict.Conflict.{Conflict}
+use Rattle.region_states.specs.conflicts.Conflicts.{IsConflictAt}
+use Rattle.region_states.specs.conflicts.There.{FailsThere}
 
 -- what is found is a conflict, where nothing is found there is none, and there is one exactly where some legal state fails
 exact_found : (basis : Basis) (s : SetId) (kind : FailKind) (found : Option Conflict)

@@ -13,8 +13,8 @@ use Rattle.regions.specs.declared.pattern.Focus.TheVariants as focus
 use Rattle.regions.specs.declared.pattern.PatternRow.{PatternRow}
 use Rattle.regions.specs.declared.pattern.Symbol.{Symbol}
 use Rattle.regions.specs.declared.region.Region.{Region}
-use Rattle.region_laws.proofs.pattern.Choices.{found_passes, none_passes}
-use Rattle.conflicts.specs.Facts.{can_be_null, has_row, is_null_in, is_required, listed_in, lists, stands_for_null}
+use Rattle.regions.proofs.region_laws.pattern.Choices.{found_passes, none_passes}
+use Rattle.region_states.specs.conflicts.Facts.{can_be_null, has_row, is_null_in, is_required, listed_in, lists, stands_for_null}
 use Rattle.conflict_laws.proofs.clash.Listed.{Decides-lists}
 use Rattle.conflict_laws.proofs.null.Listed.{Decides-row}
 use Rattle.containment.specs.Cells.{HasNoGap, lacks}

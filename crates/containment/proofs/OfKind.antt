@@ -7,9 +7,9 @@ use Rattle.regions.specs.declared.pattern.Focus.{Focus}
 use Rattle.regions.specs.declared.pattern.Focus.TheVariants as focus
 use Rattle.regions.specs.declared.pattern.Symbol.{Symbol}
 use Rattle.regions.specs.declared.region.Region.{Region}
-use Rattle.conflicts.specs.Facts.{disagrees_at, is_clash, is_null_in}
-use Rattle.conflicts.specs.declared.conflict.Conflict.{Conflict}
-use Rattle.conflicts.specs.declared.conflict.Conflict.TheVariants as conflict
+use Rattle.region_states.specs.conflicts.Facts.{disagrees_at, is_clash, is_null_in}
+use Rattle.region_states.specs.declared.conflicts.conflict.Conflict.{Conflict}
+use Rattle.region_states.specs.declared.conflicts.conflict.Conflict.TheVariants as conflict
 use Rattle.containment.specs.Found.{IsOneOf}
 
 module _ (basis : Basis) (region : Region) where

@@ -12,9 +12,9 @@ use Rattle.regions.specs.Regions.{regions_of}
 use Rattle.regions.specs.declared.pattern.Focus.{Focus}
 use Rattle.regions.specs.declared.pattern.Focus.TheVariants as focus
 use Rattle.regions.specs.declared.region.Region.{Region}
-use Rattle.conflicts.specs.Conflicts.{IsConflictAt, IsRegionOf, TellsOfSet, kind_of}
-use Rattle.conflicts.specs.declared.conflict.Conflict.{Conflict}
-use Rattle.conflicts.specs.declared.conflict.Conflict.TheVariants as conflict
+use Rattle.region_states.specs.conflicts.Conflicts.{IsConflictAt, IsRegionOf, TellsOfSet, kind_of}
+use Rattle.region_states.specs.declared.conflicts.conflict.Conflict.{Conflict}
+use Rattle.region_states.specs.declared.conflicts.conflict.Conflict.TheVariants as conflict
 use Rattle.containment.specs.Found.{FindsOne, IsOneOf, focus_of}
 
 module _ (basis : Basis) (s : SetId) (asked : FailKind) where

@@ -10,7 +10,7 @@ use Rattle.regions.specs.declared.region.Region.{Region}
 use Rattle.regions.specs.declared.pattern.Focus.TheVariants as focus
 use Rattle.regions.specs.declared.pattern.PatternRow.{PatternRow}
 use Rattle.regions.specs.declared.pattern.Symbol.{Symbol}
-use Rattle.conflicts.specs.Facts.{is_required, lists, stands_for_null}
+use Rattle.region_states.specs.conflicts.Facts.{is_required, lists, stands_for_null}
 use Rattle.containment.specs.declared.clashes.Clash.{Clash}
 use Rattle.containment.specs.declared.nulls.Gap.{Gap}
 use Rattle.containment.specs.Lent.{symbol_of}

@@ -6,9 +6,9 @@ use Rattle.regions.specs.Basis.{Basis}
 use Rattle.regions.specs.declared.region.Region.{Region}
 use Rattle.regions.specs.declared.pattern.Focus.{Focus}
 use Rattle.regions.specs.declared.pattern.Focus.TheVariants as focus
-use Rattle.conflicts.specs.Conflicts.{is_fact, kind_of}
-use Rattle.conflicts.specs.declared.conflict.Conflict.{Conflict}
-use Rattle.conflicts.specs.declared.conflict.Conflict.TheVariants as conflict
+use Rattle.region_states.specs.conflicts.Conflicts.{is_fact, kind_of}
+use Rattle.region_states.specs.declared.conflicts.conflict.Conflict.{Conflict}
+use Rattle.region_states.specs.declared.conflicts.conflict.Conflict.TheVariants as conflict
 
 -- whom a conflict tells of, where it is one of a cell or of a fragment
 abbrev pub focus_of : Conflict → Option Focus

@@ -5,20 +5,19 @@ ghost use Rattle.regions.specs.Patterns.{pattern_of};
 ghost use Rattle.regions.specs.Settled.{clashes};
 ghost use Rattle.regions.specs.declared.pattern.Focus.TheVariants as focus;
 ghost use Rattle.regions.specs.declared.pattern.Symbol.{Symbol};
-ghost use Rattle.region_basis.specs.BasisOf.{basis_of};
-ghost use Rattle.conflicts.specs.declared.conflict.Conflict.TheVariants as conflict;
+ghost use Rattle.cells.specs.region_basis.BasisOf.{basis_of};
+ghost use Rattle.region_states.specs.declared.conflicts.conflict.Conflict.TheVariants as conflict;
 ghost use Rattle.containment.specs.Cells.{ClashesIn, HasNoClash, are_apart};
 ghost use Rattle.containment.specs.Found.{FindsOne};
 
 use cells::Parts;
 use condition_logic::AtomOf;
-use conflicts::Conflict;
 use edm_types::EntityModel;
 use emc_base::{ColId, Memory, TableId};
+use region_states::Conflict;
 use regions::{Pattern, PatternRow, Region, Symbol};
-use settled_cells::{clash, focus_on};
 use std::alloc::Global;
-use symbolic_rows::copy_symbol;
+use symbolic_rows::{clash, copy_symbol, focus_on};
 
 // Two symbols of a cell that can differ.
 #[derive(Drop)]

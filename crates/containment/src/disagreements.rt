@@ -4,20 +4,18 @@ ghost use Rattle.round_trip.specs.declared.FailKind.TheVariants as kind;
 ghost use Rattle.cells.specs.Parts.{AreParts};
 ghost use Rattle.regions.specs.Patterns.{pattern_of};
 ghost use Rattle.regions.specs.declared.pattern.Focus.TheVariants as focus;
-ghost use Rattle.region_basis.specs.BasisOf.{basis_of};
-ghost use Rattle.conflicts.specs.Facts.{differs_at, differs_at_links, disagrees_at, is_hosted, shows_link_pattern, shows_pattern};
+ghost use Rattle.cells.specs.region_basis.BasisOf.{basis_of};
+ghost use Rattle.region_states.specs.conflicts.Facts.{differs_at, differs_at_links, disagrees_at, is_hosted, shows_link_pattern, shows_pattern};
 ghost use Rattle.containment.specs.Found.{FindsOne};
 
 use crate::shown::{shows_link_row, shows_row};
-use cells::Parts;
-use conflicts::Conflict;
+use cells::{Parts, hosting_end};
 use edm_types::{Fragment, LinkFragment};
 use emc_base::{AssocId, Memory, Txt};
-use region_basis::hosting_end;
+use region_states::Conflict;
 use regions::{Pattern, Region};
-use settled_cells::focus_on;
 use std::alloc::Global;
-use symbolic_rows::{is_linked, writes};
+use symbolic_rows::{focus_on, is_linked, writes};
 
 /// A fragment that disagrees with a region of this pattern. `Memory` comes where there is none to tell it.
 pub fn disagreement_at(

@@ -2,22 +2,22 @@ ghost use Rattle.std.specs.Prelude.{◌≡◌, ◌≢◌, ◌↔◌, IfOk, IsSom
 ghost use Rattle.cells.specs.Parts.{AreParts, schema_in};
 ghost use Rattle.round_trip.specs.declared.FailKind.TheVariants as fails;
 ghost use Rattle.regions.specs.Regions.{regions_of};
-ghost use Rattle.region_basis.specs.BasisOf.{basis_of};
+ghost use Rattle.cells.specs.region_basis.BasisOf.{basis_of};
 ghost use Rattle.region_states.specs.LoneStates.{HasNoAssociationSets};
-ghost use Rattle.conflicts.specs.Conflicts.{IsConflictAt};
-ghost use Rattle.conflicts.specs.There.{FailsThere, NoneFailsBefore};
-ghost use Rattle.conflicts.specs.declared.conflict.Conflict.{Conflict};
+ghost use Rattle.region_states.specs.conflicts.Conflicts.{IsConflictAt};
+ghost use Rattle.region_states.specs.conflicts.There.{FailsThere, NoneFailsBefore};
+ghost use Rattle.region_states.specs.declared.conflicts.conflict.Conflict.{Conflict};
 ghost use Rattle.containment.specs.Found.{FindsOne};
 
 use crate::clashes::clash_at;
 use crate::disagreements::disagreement_at;
 use crate::nulls::null_at;
+use crate::same_conflicts::first_same;
 use cells::Parts;
-use conflicts::Conflict;
 use emc_base::{Memory, Seq, SetId};
+use region_states::Conflict;
 use regions::Region;
 use round_trip::FailKind;
-use same_conflicts::first_same;
 use std::alloc::Global;
 use symbolic_rows::region_pattern;
 

@@ -5,6 +5,8 @@ mod clashes;
 mod disagreements;
 mod first;
 mod nulls;
+mod same_conflicts;
 mod shown;
 
 pub use first::first_conflict;
+pub use same_conflicts::first_same;

@@ -5,21 +5,20 @@ ghost use Rattle.regions.specs.Patterns.{pattern_of};
 ghost use Rattle.regions.specs.Settled.{possible};
 ghost use Rattle.regions.specs.declared.pattern.Focus.TheVariants as focus;
 ghost use Rattle.regions.specs.declared.pattern.Symbol.{Symbol};
-ghost use Rattle.region_basis.specs.BasisOf.{basis_of};
-ghost use Rattle.conflicts.specs.Facts.{can_be_null, stands_for_null};
-ghost use Rattle.conflicts.specs.declared.conflict.Conflict.TheVariants as conflict;
+ghost use Rattle.cells.specs.region_basis.BasisOf.{basis_of};
+ghost use Rattle.region_states.specs.conflicts.Facts.{can_be_null, stands_for_null};
+ghost use Rattle.region_states.specs.declared.conflicts.conflict.Conflict.TheVariants as conflict;
 ghost use Rattle.containment.specs.Cells.{GapsIn, HasNoGap};
 ghost use Rattle.containment.specs.Found.{FindsOne};
 ghost use Rattle.containment.specs.Lent.{symbol_of};
 
 use crate::shown::cell_in;
 use cells::Parts;
-use conflicts::Conflict;
 use emc_base::{ColId, Memory, TableId};
+use region_states::Conflict;
 use regions::{Pattern, PatternRow, Region, Symbol};
-use settled_cells::{can_be_null, focus_on, possible};
 use std::alloc::Global;
-use symbolic_rows::copy_symbol;
+use symbolic_rows::{can_be_null, copy_symbol, focus_on, possible};
 
 // Why a cell may be null.
 #[derive(Drop)]

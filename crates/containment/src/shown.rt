@@ -8,7 +8,7 @@ use condition_logic::AtomOf;
 use edm_types::{Cond, CondOn, EntityModel, Fragment, LinkFragment, Pair, Test};
 use emc_base::ColId;
 use regions::{PatternRow, Symbol};
-use settled_cells::cell_passes;
+use symbolic_rows::cell_passes;
 
 /// The symbols of a column; none where the row has no such column.
 pub fn cell_in(row: &PatternRow, col: ColId) -> &[Symbol]

@@ -11,13 +11,13 @@ use Rattle.round_trip.specs.Words.{EntityModel, EntityType, TypeId, HasBase, IsA
 use Rattle.edm_types.specs.Forest.{type_numbered}
 use Rattle.round_trip.specs.soundness.Inheritance.{HasNoCircle}
 use Rattle.round_trip.specs.soundness.Lookups.{IsAncestor as IsAbove}
-use Rattle.base_chains.specs.Chains.{IsAncestor, direct, further, StaysWithin}
-use Rattle.base_chains.proofs.Chains.{Ends, above_above, chain_root, chain_step, ends}
-use Rattle.name_places.specs.GivenNames.{first_place}
-use Rattle.name_places.proofs.FirstPlaces.{first_has}
-use Rattle.csdl_lists.specs.declared.raw.RawModel.{RawModel}
-use Rattle.csdl_lists.specs.declared.raw.RawType.{RawType}
-use Rattle.csdl_lists.specs.References.{local_name, names_in}
+use Rattle.graphs.specs.base_chains.Chains.{IsAncestor, direct, further, StaysWithin}
+use Rattle.graphs.proofs.base_chains.Chains.{Ends, above_above, chain_root, chain_step, ends}
+use Rattle.groupings.specs.name_places.GivenNames.{first_place}
+use Rattle.groupings.proofs.name_places.FirstPlaces.{first_has}
+use Rattle.csdl_names.specs.declared.csdl_lists.raw.RawModel.{RawModel}
+use Rattle.csdl_names.specs.declared.csdl_lists.raw.RawType.{RawType}
+use Rattle.csdl_names.specs.csdl_lists.References.{local_name, names_in}
 use Rattle.csdl_meaning.specs.Meaning.{IsMeant, base_in, chain_in, type_of}
 use Rattle.csdl_meaning.proofs.Lists.{at_numbered, numbered_at}
 

@@ -5,7 +5,7 @@ use Rattle.json_form.specs.declared.pointer.Step.{Step}
 use Rattle.json_form.specs.declared.pointer.Step.TheVariants.{Item, Member}
 use Rattle.layouts.specs.declared.fault.Fault.{Fault}
 use Rattle.layouts.specs.declared.rule.Rule.{Rule}
-use Rattle.rule_places.specs.Places.{InList}
+use Rattle.layouts.specs.rule_places.Places.{InList}
 
 -- the fault of a rule at a place
 abbrev pub fault_at : Rule → List Step → Fault

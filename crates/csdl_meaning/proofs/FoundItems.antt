@@ -6,7 +6,7 @@ use Rattle.std.proofs.lemmas.List.Elements.{All-contains, Contains-append_left, 
 use Rattle.std.proofs.lemmas.List.Kept.{AllPairs-cons}
 use Rattle.emc_base.specs.Lists.{HoldsEachOnce}
 use Rattle.emc_base.proofs.Lists.{all_from_members}
-use Rattle.base_chains.proofs.Members.{contains_nil, contains_cons_cases, contains_head, contains_tail}
+use Rattle.graphs.proofs.base_chains.Members.{contains_nil, contains_cons_cases, contains_head, contains_tail}
 use Rattle.csdl_meaning.proofs.Lists.{found_apart, in_found, pairs_head, pairs_tail}
 
 -- a member of which something holds

@@ -4,11 +4,11 @@ use Rattle.emc_base.specs.Lists.{At}
 use Rattle.json_form.specs.declared.pointer.Step.TheVariants.{Item, Member}
 use Rattle.layouts.specs.declared.fault.Fault.{Fault}
 use Rattle.layouts.specs.declared.rule.Rule.TheVariants.{NamedOnce}
-use Rattle.name_places.proofs.FirstPlaces.{names_apart}
-use Rattle.csdl_lists.specs.declared.raw.RawAssociation.{RawAssociation}
-use Rattle.csdl_lists.specs.declared.raw.RawModel.{RawModel}
-use Rattle.csdl_lists.specs.declared.raw.RawSet.{RawSet}
-use Rattle.csdl_lists.specs.declared.raw.RawType.{RawType}
+use Rattle.groupings.proofs.name_places.FirstPlaces.{names_apart}
+use Rattle.csdl_names.specs.declared.csdl_lists.raw.RawAssociation.{RawAssociation}
+use Rattle.csdl_names.specs.declared.csdl_lists.raw.RawModel.{RawModel}
+use Rattle.csdl_names.specs.declared.csdl_lists.raw.RawSet.{RawSet}
+use Rattle.csdl_names.specs.declared.csdl_lists.raw.RawType.{RawType}
 use Rattle.csdl_names.specs.Repeated.{IsGivenAgain, IsRepeated, IsRepeatedInAssociation, IsRepeatedInContainer}
 use Rattle.csdl_meaning.proofs.FaultPlaces.{fault_at, in_list}
 use Rattle.csdl_meaning.proofs.KeptNames.{repeated_in}

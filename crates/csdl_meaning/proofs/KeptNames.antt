@@ -3,17 +3,17 @@ use Rattle.std.proofs.Common.{◌≡◌, inl, inr, ℕ, List, [], ◌∷◌, map
 use Rattle.std.specs.Option.{MatchOption, option_and_then}
 use Rattle.emc_base.specs.Lists.{At, AreApart}
 use Rattle.emc_base.proofs.Mapped.{contains_at}
-use Rattle.base_chains.proofs.Orders.{place_of_member}
+use Rattle.graphs.proofs.base_chains.Orders.{place_of_member}
 use Rattle.json_form.specs.declared.pointer.Step.TheVariants.{Item, Member}
 use Rattle.layouts.specs.declared.fault.Fault.{Fault}
 use Rattle.layouts.specs.declared.rule.Rule.TheVariants.{NamedOnce, Resolves}
-use Rattle.rule_places.specs.Places.{IsAt}
-use Rattle.name_places.specs.GivenNames.{IsGivenBefore, first_place}
-use Rattle.name_places.proofs.FirstPlaces.{first_has, given_nowhere}
-use Rattle.csdl_lists.specs.declared.raw.RawModel.{RawModel}
-use Rattle.csdl_lists.specs.declared.raw.RawProp.{RawProp}
-use Rattle.csdl_lists.specs.declared.raw.RawType.{RawType}
-use Rattle.csdl_lists.specs.References.{names_in}
+use Rattle.layouts.specs.rule_places.Places.{IsAt}
+use Rattle.groupings.specs.name_places.GivenNames.{IsGivenBefore, first_place}
+use Rattle.groupings.proofs.name_places.FirstPlaces.{first_has, given_nowhere}
+use Rattle.csdl_names.specs.declared.csdl_lists.raw.RawModel.{RawModel}
+use Rattle.csdl_names.specs.declared.csdl_lists.raw.RawProp.{RawProp}
+use Rattle.csdl_names.specs.declared.csdl_lists.raw.RawType.{RawType}
+use Rattle.csdl_names.specs.csdl_lists.References.{names_in}
 use Rattle.csdl_names.specs.Repeated.{IsGivenAgain, IsRepeated, IsRepeatedIn, IsRepeatedInType}
 use Rattle.csdl_names.specs.Unresolved.{IsUnresolved, IsUnresolvedInKey, IsUnresolvedInType, IsUnresolvedProp, LacksProp, NamesNothing, root}
 use Rattle.csdl_meaning.specs.Meaning.{base_in}

@@ -9,16 +9,16 @@ use Rattle.emc_base.proofs.Lists.{item_at}
 use Rattle.json_form.specs.declared.pointer.Step.TheVariants.{Item, Member}
 use Rattle.layouts.specs.declared.fault.Fault.{Fault}
 use Rattle.layouts.specs.declared.rule.Rule.TheVariants.{Ancestors, Bound, InheritedName, KeyProperty, PropertyType, TypeKey}
-use Rattle.rule_places.specs.Places.{InList}
+use Rattle.layouts.specs.rule_places.Places.{InList}
 use Rattle.round_trip.specs.soundness.Kinds.{IsKeyKind, IsSoundKind}
-use Rattle.base_chains.specs.Chains.{IsAncestor}
-use Rattle.base_chains.proofs.Members.{contains_nil, in_map}
-use Rattle.base_chains.proofs.Orders.{place_of_member}
-use Rattle.csdl_lists.specs.declared.raw.RawEnum.{RawEnum}
-use Rattle.csdl_lists.specs.declared.raw.RawModel.{RawModel}
-use Rattle.csdl_lists.specs.declared.raw.RawProp.{RawProp}
-use Rattle.csdl_lists.specs.declared.raw.RawType.{RawType}
-use Rattle.csdl_lists.specs.References.{names_in}
+use Rattle.graphs.specs.base_chains.Chains.{IsAncestor}
+use Rattle.graphs.proofs.base_chains.Members.{contains_nil, in_map}
+use Rattle.graphs.proofs.base_chains.Orders.{place_of_member}
+use Rattle.csdl_names.specs.declared.csdl_lists.raw.RawEnum.{RawEnum}
+use Rattle.csdl_names.specs.declared.csdl_lists.raw.RawModel.{RawModel}
+use Rattle.csdl_names.specs.declared.csdl_lists.raw.RawProp.{RawProp}
+use Rattle.csdl_names.specs.declared.csdl_lists.raw.RawType.{RawType}
+use Rattle.csdl_names.specs.csdl_lists.References.{names_in}
 use Rattle.csdl_types.specs.Inherited.{HasName, IsAncestorFault, IsInherited, IsInheritedFault}
 use Rattle.csdl_types.specs.Keys.{BreaksKey, CanBeKey, IsKey, IsNoKeyPropFault}
 use Rattle.csdl_types.specs.Numbers.{numbers_of, under_of}

@@ -11,14 +11,14 @@ use Rattle.round_trip.specs.Words.{EntityModel, EntityType, PropId, TypeId, key_
 use Rattle.round_trip.specs.soundness.Kinds.{IsKeyKind}
 use Rattle.edm_types.specs.Forest.{type_numbered}
 use Rattle.round_trip.specs.soundness.Inheritance.{HasInheritedKey, IsKeyProp, IsRootKey, declared_props, prop_numbered}
-use Rattle.base_chains.specs.Chains.{IsAncestor}
-use Rattle.base_chains.proofs.Members.{contains_nil}
-use Rattle.base_chains.proofs.Orders.{place_of_member}
-use Rattle.name_places.specs.GivenNames.{first_place}
-use Rattle.name_places.proofs.FirstPlaces.{first_has, first_upto}
-use Rattle.csdl_lists.specs.declared.raw.RawModel.{RawModel}
-use Rattle.csdl_lists.specs.declared.raw.RawProp.{RawProp}
-use Rattle.csdl_lists.specs.declared.raw.RawType.{RawType}
+use Rattle.graphs.specs.base_chains.Chains.{IsAncestor}
+use Rattle.graphs.proofs.base_chains.Members.{contains_nil}
+use Rattle.graphs.proofs.base_chains.Orders.{place_of_member}
+use Rattle.groupings.specs.name_places.GivenNames.{first_place}
+use Rattle.groupings.proofs.name_places.FirstPlaces.{first_has, first_upto}
+use Rattle.csdl_names.specs.declared.csdl_lists.raw.RawModel.{RawModel}
+use Rattle.csdl_names.specs.declared.csdl_lists.raw.RawProp.{RawProp}
+use Rattle.csdl_names.specs.declared.csdl_lists.raw.RawType.{RawType}
 use Rattle.csdl_meaning.specs.Kinds.{kind_of}
 use Rattle.csdl_meaning.specs.Meaning.{IsMeant, base_in, chain_in, declared_before, declared_by, own_key, own_props, prop_named, prop_of}
 use Rattle.csdl_meaning.proofs.Bases.{along_chain, base_inside, raw_at}

@@ -9,13 +9,13 @@ use Rattle.emc_base.proofs.Lists.{all_from_members}
 use Rattle.emc_base.proofs.Mapped.{map-enumerated}
 use Rattle.round_trip.specs.Words.{EntityModel, EntityType, Prop, TypeId}
 use Rattle.round_trip.specs.soundness.ModelNames.{HasDistinctMembers, own_names}
-use Rattle.base_chains.specs.Chains.{IsAncestor}
-use Rattle.name_places.specs.GivenNames.{IsGivenBefore}
-use Rattle.name_places.proofs.FirstPlaces.{names_apart}
-use Rattle.csdl_lists.specs.declared.raw.RawModel.{RawModel}
-use Rattle.csdl_lists.specs.declared.raw.RawNav.{RawNav}
-use Rattle.csdl_lists.specs.declared.raw.RawProp.{RawProp}
-use Rattle.csdl_lists.specs.declared.raw.RawType.{RawType}
+use Rattle.graphs.specs.base_chains.Chains.{IsAncestor}
+use Rattle.groupings.specs.name_places.GivenNames.{IsGivenBefore}
+use Rattle.groupings.proofs.name_places.FirstPlaces.{names_apart}
+use Rattle.csdl_names.specs.declared.csdl_lists.raw.RawModel.{RawModel}
+use Rattle.csdl_names.specs.declared.csdl_lists.raw.RawNav.{RawNav}
+use Rattle.csdl_names.specs.declared.csdl_lists.raw.RawProp.{RawProp}
+use Rattle.csdl_names.specs.declared.csdl_lists.raw.RawType.{RawType}
 use Rattle.csdl_meaning.specs.Meaning.{IsMeant, base_in, nav_of, type_of}
 use Rattle.csdl_meaning.proofs.Bases.{above, raw_at}
 use Rattle.csdl_meaning.proofs.Lists.{all_from_places, apart-append, apart-map}

@@ -12,9 +12,9 @@ use Rattle.emc_base.proofs.Lists.{apart_by_test, passes_at, same_place}
 use Rattle.json_form.specs.declared.pointer.Step.{Step}
 use Rattle.layouts.specs.declared.fault.Fault.{Fault}
 use Rattle.layouts.specs.Inside.{Under}
-use Rattle.name_places.specs.GivenNames.{IsGivenBefore}
-use Rattle.rule_places.specs.Places.{InList}
-use Rattle.base_chains.specs.Chains.{IsAncestor, direct, further}
+use Rattle.groupings.specs.name_places.GivenNames.{IsGivenBefore}
+use Rattle.layouts.specs.rule_places.Places.{InList}
+use Rattle.graphs.specs.base_chains.Chains.{IsAncestor, direct, further}
 use Rattle.csdl_names.specs.Repeated.{IsRepeatedIn}
 
 -- nothing is wrong behind a step

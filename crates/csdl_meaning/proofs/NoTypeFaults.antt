@@ -14,14 +14,14 @@ use Rattle.layouts.specs.declared.fault.Fault.{Fault}
 use Rattle.layouts.specs.declared.rule.Rule.{Rule}
 use Rattle.layouts.specs.declared.rule.Rule.TheVariants.{KeyProperty}
 use Rattle.round_trip.specs.soundness.Kinds.{largest_bound}
-use Rattle.base_chains.specs.Chains.{IsAncestor}
-use Rattle.csdl_lists.specs.declared.raw.RawBound.{RawBound}
-use Rattle.csdl_lists.specs.declared.raw.RawBound.TheVariants.{Absent, Max, Number}
-use Rattle.csdl_lists.specs.declared.raw.RawModel.{RawModel}
-use Rattle.csdl_lists.specs.declared.raw.RawNav.{RawNav}
-use Rattle.csdl_lists.specs.declared.raw.RawProp.{RawProp}
-use Rattle.csdl_lists.specs.declared.raw.RawType.{RawType}
-use Rattle.csdl_lists.specs.References.{Names, base_of}
+use Rattle.graphs.specs.base_chains.Chains.{IsAncestor}
+use Rattle.csdl_names.specs.declared.csdl_lists.raw.RawBound.{RawBound}
+use Rattle.csdl_names.specs.declared.csdl_lists.raw.RawBound.TheVariants.{Absent, Max, Number}
+use Rattle.csdl_names.specs.declared.csdl_lists.raw.RawModel.{RawModel}
+use Rattle.csdl_names.specs.declared.csdl_lists.raw.RawNav.{RawNav}
+use Rattle.csdl_names.specs.declared.csdl_lists.raw.RawProp.{RawProp}
+use Rattle.csdl_names.specs.declared.csdl_lists.raw.RawType.{RawType}
+use Rattle.csdl_names.specs.csdl_lists.References.{Names, base_of}
 use Rattle.csdl_names.specs.Repeated.{IsRepeatedInType}
 use Rattle.csdl_names.specs.Unresolved.{Declares, LacksProp, derived, root}
 use Rattle.csdl_types.specs.Inherited.{HasName, IsInherited, IsInheritedNameFault}

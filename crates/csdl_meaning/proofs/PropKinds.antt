@@ -4,12 +4,12 @@ use Rattle.std.specs.Option.{option_and_then, option_map_or, option_or}
 use Rattle.emc_base.specs.declared.value.Kind.{Kind}
 use Rattle.emc_base.specs.declared.value.Kind.TheVariants as kind
 use Rattle.round_trip.specs.soundness.Kinds.{without_bound}
-use Rattle.csdl_lists.specs.declared.raw.RawBound.{RawBound}
-use Rattle.csdl_lists.specs.declared.raw.RawBound.TheVariants.{Absent}
-use Rattle.csdl_lists.specs.declared.raw.RawEnum.{RawEnum}
-use Rattle.csdl_lists.specs.declared.raw.RawModel.{RawModel}
-use Rattle.csdl_lists.specs.declared.raw.RawProp.{RawProp}
-use Rattle.csdl_lists.specs.References.{names_in}
+use Rattle.csdl_names.specs.declared.csdl_lists.raw.RawBound.{RawBound}
+use Rattle.csdl_names.specs.declared.csdl_lists.raw.RawBound.TheVariants.{Absent}
+use Rattle.csdl_names.specs.declared.csdl_lists.raw.RawEnum.{RawEnum}
+use Rattle.csdl_names.specs.declared.csdl_lists.raw.RawModel.{RawModel}
+use Rattle.csdl_names.specs.declared.csdl_lists.raw.RawProp.{RawProp}
+use Rattle.csdl_names.specs.csdl_lists.References.{names_in}
 use Rattle.csdl_types.specs.declared.simple.PropType.{PropType}
 use Rattle.csdl_types.specs.declared.simple.PropType.TheVariants as named
 use Rattle.csdl_types.specs.declared.simple.Simple.{Simple}

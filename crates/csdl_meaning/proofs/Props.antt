@@ -11,11 +11,11 @@ use Rattle.emc_base.proofs.Mapped.{map-enumerated, map-filter_enumerated}
 use Rattle.round_trip.specs.Words.{EntityModel, EntityType, Prop, TypeId, props_of}
 use Rattle.edm_types.specs.Forest.{type_numbered}
 use Rattle.round_trip.specs.soundness.Inheritance.{HasInheritedProps, declared_props, prop_numbered}
-use Rattle.base_chains.specs.Chains.{IsAncestor}
-use Rattle.base_chains.proofs.Members.{in_map}
-use Rattle.csdl_lists.specs.declared.raw.RawModel.{RawModel}
-use Rattle.csdl_lists.specs.declared.raw.RawProp.{RawProp}
-use Rattle.csdl_lists.specs.declared.raw.RawType.{RawType}
+use Rattle.graphs.specs.base_chains.Chains.{IsAncestor}
+use Rattle.graphs.proofs.base_chains.Members.{in_map}
+use Rattle.csdl_names.specs.declared.csdl_lists.raw.RawModel.{RawModel}
+use Rattle.csdl_names.specs.declared.csdl_lists.raw.RawProp.{RawProp}
+use Rattle.csdl_names.specs.declared.csdl_lists.raw.RawType.{RawType}
 use Rattle.csdl_meaning.specs.Meaning.{IsMeant, base_in, chain_in, declared_before, declared_by, own_props, prop_of, props_in, type_of}
 use Rattle.csdl_meaning.proofs.Bases.{along_chain, base_inside, raw_at, type_at}
 use Rattle.csdl_meaning.proofs.Declared.{declared_place, is_owned, owned}

@@ -7,16 +7,16 @@ use Rattle.json_form.specs.declared.pointer.Step.TheVariants.{Item, Member}
 use Rattle.layouts.specs.declared.fault.Fault.{Fault}
 use Rattle.layouts.specs.declared.rule.Rule.TheVariants.{Resolves}
 use Rattle.layouts.specs.Inside.{Under}
-use Rattle.rule_places.specs.Places.{InList}
-use Rattle.csdl_lists.specs.declared.raw.RawAssociation.{RawAssociation}
-use Rattle.csdl_lists.specs.declared.raw.RawAssociationSet.{RawAssociationSet}
-use Rattle.csdl_lists.specs.declared.raw.RawConstraint.{RawConstraint}
-use Rattle.csdl_lists.specs.declared.raw.RawEnd.{RawEnd}
-use Rattle.csdl_lists.specs.declared.raw.RawModel.{RawModel}
-use Rattle.csdl_lists.specs.declared.raw.RawRole.{RawRole}
-use Rattle.csdl_lists.specs.declared.raw.RawSet.{RawSet}
-use Rattle.csdl_lists.specs.declared.raw.RawSetEnd.{RawSetEnd}
-use Rattle.csdl_lists.specs.References.{names_in}
+use Rattle.layouts.specs.rule_places.Places.{InList}
+use Rattle.csdl_names.specs.declared.csdl_lists.raw.RawAssociation.{RawAssociation}
+use Rattle.csdl_names.specs.declared.csdl_lists.raw.RawAssociationSet.{RawAssociationSet}
+use Rattle.csdl_names.specs.declared.csdl_lists.raw.RawConstraint.{RawConstraint}
+use Rattle.csdl_names.specs.declared.csdl_lists.raw.RawEnd.{RawEnd}
+use Rattle.csdl_names.specs.declared.csdl_lists.raw.RawModel.{RawModel}
+use Rattle.csdl_names.specs.declared.csdl_lists.raw.RawRole.{RawRole}
+use Rattle.csdl_names.specs.declared.csdl_lists.raw.RawSet.{RawSet}
+use Rattle.csdl_names.specs.declared.csdl_lists.raw.RawSetEnd.{RawSetEnd}
+use Rattle.csdl_names.specs.csdl_lists.References.{names_in}
 use Rattle.csdl_names.specs.Unresolved.{IsUnresolved, IsUnresolvedInAssociation, IsUnresolvedInAssociationSet, IsUnresolvedInConstraint, IsUnresolvedInContainer, IsUnresolvedInEnd, IsUnresolvedInRole, IsUnresolvedInSet, IsUnresolvedInSetEnd, IsUnresolvedProp, LacksProp, end_of_role, type_of_role}
 use Rattle.csdl_meaning.proofs.FaultPlaces.{fault_at, in_list}
 use Rattle.csdl_meaning.proofs.Finds.{there_is}

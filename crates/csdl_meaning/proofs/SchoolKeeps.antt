@@ -5,10 +5,10 @@ use Rattle.std.specs.Str.{bytes_eq}
 use Rattle.std.proofs.lemmas.Int.{ints}
 use Rattle.json_form.specs.declared.pointer.Step.TheVariants.{Member}
 use Rattle.layouts.specs.declared.fault.Fault.{Fault}
-use Rattle.rule_places.specs.Places.{InList}
+use Rattle.layouts.specs.rule_places.Places.{InList}
 use Rattle.emc_base.specs.declared.value.Under.TheVariants as under
-use Rattle.base_chains.specs.Chains.{IsAncestor}
-use Rattle.csdl_lists.specs.References.{Names, names_in}
+use Rattle.graphs.specs.base_chains.Chains.{IsAncestor}
+use Rattle.csdl_names.specs.csdl_lists.References.{Names, names_in}
 use Rattle.csdl_names.specs.Repeated.{IsRepeated, IsRepeatedInAssociation, IsRepeatedInContainer, IsRepeatedInEnum, IsRepeatedInSchema, IsRepeatedInType}
 use Rattle.csdl_names.specs.Unresolved.{IsUnresolved, IsUnresolvedInAssociation, IsUnresolvedInAssociationSet, IsUnresolvedInContainer, IsUnresolvedInEnd, IsUnresolvedInNav, IsUnresolvedInSet, IsUnresolvedInType, IsUnresolvedProp, end_of_role}
 use Rattle.csdl_types.specs.declared.simple.Simple.TheVariants.{Text, Binary}

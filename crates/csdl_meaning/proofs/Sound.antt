@@ -6,9 +6,9 @@ use Rattle.emc_base.specs.Lists.{At}
 use Rattle.round_trip.specs.Words.{EntityModel, TypeId}
 use Rattle.round_trip.specs.soundness.Inheritance.{IsRootKey}
 use Rattle.round_trip.specs.soundness.Kinds.{IsSoundKind}
-use Rattle.csdl_lists.specs.declared.raw.RawModel.{RawModel}
-use Rattle.csdl_lists.specs.declared.raw.RawType.{RawType}
-use Rattle.csdl_lists.specs.References.{names_in}
+use Rattle.csdl_names.specs.declared.csdl_lists.raw.RawModel.{RawModel}
+use Rattle.csdl_names.specs.declared.csdl_lists.raw.RawType.{RawType}
+use Rattle.csdl_names.specs.csdl_lists.References.{names_in}
 use Rattle.csdl_meaning.specs.Meaning.{IsMeant, base_in, own_key, prop_named}
 use Rattle.csdl_meaning.specs.SoundTypes.{HasSoundTypes, KeepsTypeRules}
 use Rattle.csdl_meaning.proofs.Bases.{and_then_some, no_circle}

@@ -10,8 +10,8 @@ use Rattle.std.proofs.lemmas.Map.Made.{is_member-Decides}
 use Rattle.std.proofs.lemmas.Slice.Eq.{bytes_eq-Decides}
 use Rattle.emc_base.specs.Lists.{HoldsEachOnce}
 use Rattle.emc_base.proofs.Lists.{all_from_members}
-use Rattle.base_chains.specs.Chains.{IsAncestor, IsUpFrom, StaysWithin, chain}
-use Rattle.base_chains.proofs.Chains.{ancestor_in, ends, in_chain, itself_in}
+use Rattle.graphs.specs.base_chains.Chains.{IsAncestor, IsUpFrom, StaysWithin, chain}
+use Rattle.graphs.proofs.base_chains.Chains.{ancestor_in, ends, in_chain, itself_in}
 use Rattle.csdl_types.specs.declared.simple.Simple.{Simple}
 use Rattle.csdl_types.specs.declared.simple.Simple.TheVariants.{Byte, Int16, Int32, Int64, Boolean, Text, Binary}
 use Rattle.csdl_types.specs.Keys.{IsKey, IsKeySimple}

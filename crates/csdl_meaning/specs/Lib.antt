@@ -4,3 +4,5 @@ pub mod Meaning
 pub mod ModelMeaning
 pub mod SoundTypes
 pub mod School
+pub mod csdl_forests
+pub mod csdl_making

@@ -7,13 +7,13 @@ use Rattle.round_trip.specs.Words.{EntityModel, EntityType, Nav, Prop, PropId, T
 use Rattle.edm_types.specs.declared.model.TypeNode.{roll-TypeNode}
 use Rattle.edm_types.specs.Forest.{type_numbered}
 use Rattle.round_trip.specs.soundness.Inheritance.{prop_numbered}
-use Rattle.base_chains.specs.Chains.{chain}
-use Rattle.name_places.specs.GivenNames.{first_place}
-use Rattle.csdl_lists.specs.declared.raw.RawModel.{RawModel}
-use Rattle.csdl_lists.specs.declared.raw.RawNav.{RawNav}
-use Rattle.csdl_lists.specs.declared.raw.RawProp.{RawProp}
-use Rattle.csdl_lists.specs.declared.raw.RawType.{RawType}
-use Rattle.csdl_lists.specs.References.{base_of, names_in}
+use Rattle.graphs.specs.base_chains.Chains.{chain}
+use Rattle.groupings.specs.name_places.GivenNames.{first_place}
+use Rattle.csdl_names.specs.declared.csdl_lists.raw.RawModel.{RawModel}
+use Rattle.csdl_names.specs.declared.csdl_lists.raw.RawNav.{RawNav}
+use Rattle.csdl_names.specs.declared.csdl_lists.raw.RawProp.{RawProp}
+use Rattle.csdl_names.specs.declared.csdl_lists.raw.RawType.{RawType}
+use Rattle.csdl_names.specs.csdl_lists.References.{base_of, names_in}
 use Rattle.csdl_meaning.specs.Kinds.{kind_of}
 
 module _ (raw : RawModel) where

@@ -8,14 +8,14 @@ use Rattle.round_trip.specs.Words.{Assoc, Constraint, End, EntityModel, EntitySe
 use Rattle.edm_types.specs.declared.model.Mult.TheVariants.{Many, One, ZeroOrOne}
 use Rattle.edm_types.specs.Forest.{type_numbered}
 use Rattle.round_trip.specs.soundness.Inheritance.{prop_numbered}
-use Rattle.csdl_lists.specs.declared.raw.RawAssociation.{RawAssociation}
-use Rattle.csdl_lists.specs.declared.raw.RawAssociationSet.{RawAssociationSet}
-use Rattle.csdl_lists.specs.declared.raw.RawConstraint.{RawConstraint}
-use Rattle.csdl_lists.specs.declared.raw.RawEnd.{RawEnd}
-use Rattle.csdl_lists.specs.declared.raw.RawModel.{RawModel}
-use Rattle.csdl_lists.specs.declared.raw.RawRole.{RawRole}
-use Rattle.csdl_lists.specs.declared.raw.RawSet.{RawSet}
-use Rattle.csdl_lists.specs.References.{names_in}
+use Rattle.csdl_names.specs.declared.csdl_lists.raw.RawAssociation.{RawAssociation}
+use Rattle.csdl_names.specs.declared.csdl_lists.raw.RawAssociationSet.{RawAssociationSet}
+use Rattle.csdl_names.specs.declared.csdl_lists.raw.RawConstraint.{RawConstraint}
+use Rattle.csdl_names.specs.declared.csdl_lists.raw.RawEnd.{RawEnd}
+use Rattle.csdl_names.specs.declared.csdl_lists.raw.RawModel.{RawModel}
+use Rattle.csdl_names.specs.declared.csdl_lists.raw.RawRole.{RawRole}
+use Rattle.csdl_names.specs.declared.csdl_lists.raw.RawSet.{RawSet}
+use Rattle.csdl_names.specs.csdl_lists.References.{names_in}
 use Rattle.csdl_names.specs.PropPlaces.{prop_of_type}
 use Rattle.csdl_names.specs.SetRoles.{set_of_role}
 use Rattle.csdl_names.specs.Unresolved.{association_of, type_of_role}

@@ -6,14 +6,14 @@ use Rattle.emc_base.specs.declared.value.Under.TheVariants as under
 use Rattle.round_trip.specs.Words.{EntityType, Kind, Prop}
 use Rattle.edm_types.specs.Forest.{type_numbered}
 use Rattle.round_trip.specs.soundness.Inheritance.{prop_numbered}
-use Rattle.csdl_lists.specs.declared.raw.RawAssociation.{RawAssociation}
-use Rattle.csdl_lists.specs.declared.raw.RawBound.{RawBound}
-use Rattle.csdl_lists.specs.declared.raw.RawBound.TheVariants.{Absent, Max, Number}
-use Rattle.csdl_lists.specs.declared.raw.RawEnum.{RawEnum}
-use Rattle.csdl_lists.specs.declared.raw.RawMember.{RawMember}
-use Rattle.csdl_lists.specs.declared.raw.RawModel.{RawModel}
-use Rattle.csdl_lists.specs.declared.raw.RawProp.{RawProp}
-use Rattle.csdl_lists.specs.declared.raw.RawType.{RawType}
+use Rattle.csdl_names.specs.declared.csdl_lists.raw.RawAssociation.{RawAssociation}
+use Rattle.csdl_names.specs.declared.csdl_lists.raw.RawBound.{RawBound}
+use Rattle.csdl_names.specs.declared.csdl_lists.raw.RawBound.TheVariants.{Absent, Max, Number}
+use Rattle.csdl_names.specs.declared.csdl_lists.raw.RawEnum.{RawEnum}
+use Rattle.csdl_names.specs.declared.csdl_lists.raw.RawMember.{RawMember}
+use Rattle.csdl_names.specs.declared.csdl_lists.raw.RawModel.{RawModel}
+use Rattle.csdl_names.specs.declared.csdl_lists.raw.RawProp.{RawProp}
+use Rattle.csdl_names.specs.declared.csdl_lists.raw.RawType.{RawType}
 
 -- a property that may not be null, and one that may
 abbrev pub needed : List ℕ → List ℕ → RawProp

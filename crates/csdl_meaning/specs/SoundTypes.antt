@@ -8,7 +8,7 @@ use Rattle.emc_base.specs.Lists.{AreApart}
 use Rattle.round_trip.specs.soundness.ModelIds.{IsPropId, IsTypeId}
 use Rattle.round_trip.specs.soundness.ModelNames.{HasDistinctMembers}
 use Rattle.round_trip.specs.soundness.Models.{IsSoundType}
-use Rattle.csdl_lists.specs.declared.raw.RawModel.{RawModel}
+use Rattle.csdl_names.specs.declared.csdl_lists.raw.RawModel.{RawModel}
 use Rattle.csdl_names.specs.Repeated.{IsRepeated}
 use Rattle.csdl_names.specs.Unresolved.{IsUnresolved}
 use Rattle.csdl_types.specs.TypeRules.{BreaksTypeRules}

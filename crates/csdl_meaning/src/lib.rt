@@ -1,12 +1,18 @@
-//! What a CSDL document means, as far as its types and their properties go, and that this is sound where no rule is broken.
+//! What a CSDL document means, made from its lists: its types form a forest, and they and their properties are sound where no rule is broken.
 #![tactic(auto)]
+
+pub mod csdl_forests;
+pub mod csdl_making;
 
 ghost use Rattle.std.specs.Prelude.{◌≡◌};
 ghost use Rattle.round_trip.specs.Words.{EntityModel};
-ghost use Rattle.csdl_lists.specs.declared.raw.RawModel.{RawModel};
+ghost use Rattle.csdl_names.specs.declared.csdl_lists.raw.RawModel.{RawModel};
 ghost use Rattle.csdl_meaning.specs.Meaning.{IsMeant, props_in, types_in};
 ghost use Rattle.csdl_meaning.specs.School.{school, school_props, school_types};
 ghost use Rattle.csdl_meaning.specs.SoundTypes.{HasSoundTypes, KeepsTypeRules};
+
+pub use csdl_forests::{a_meant_forest_is_whole, a_school_is_two_trees};
+pub use csdl_making::{make_model, narrow, put_found, simple_kind};
 
 /// The types and the properties that a document means are sound where it breaks none of the rules V6 to V13.
 pub fn a_document_that_breaks_no_rule_has_sound_types()

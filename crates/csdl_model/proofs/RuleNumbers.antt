@@ -6,18 +6,18 @@ use Rattle.layouts.specs.declared.fault.Fault.{Fault}
 use Rattle.layouts.specs.declared.rule.Rule.{Rule}
 use Rattle.layouts.specs.declared.rule.Rule.TheVariants.{Arrows, ConcreteType, Constraint, DependentKey, EndRoles, EndType, Multiplicities, NamedOnce, Resolves}
 use Rattle.layouts.specs.Rules.{rule_number}
-use Rattle.rule_places.proofs.Rules.{after_number, rule_behind, rule_inside}
-use Rattle.csdl_lists.specs.declared.raw.RawContainer.{RawContainer}
-use Rattle.csdl_lists.specs.declared.raw.RawModel.{RawModel}
-use Rattle.csdl_lists.specs.References.{base_of, names_in}
+use Rattle.layouts.proofs.rule_places.Rules.{after_number, rule_behind, rule_inside}
+use Rattle.csdl_names.specs.declared.csdl_lists.raw.RawContainer.{RawContainer}
+use Rattle.csdl_names.specs.declared.csdl_lists.raw.RawModel.{RawModel}
+use Rattle.csdl_names.specs.csdl_lists.References.{base_of, names_in}
 use Rattle.csdl_names.specs.Repeated.{IsRepeated}
 use Rattle.csdl_names.specs.Unresolved.{IsUnresolved}
 use Rattle.csdl_types.specs.Inherited.{IsAncestorFault}
 use Rattle.csdl_types.specs.TypeRules.{BreaksTypeRules}
 use Rattle.csdl_types.proofs.Cycles.{last_rule, later_rule}
-use Rattle.csdl_constraints.specs.Constraints.{BreaksConstraintRules, IsAssociationFault}
-use Rattle.csdl_association_sets.specs.Concrete.{IsElementFault, IsEndsFault, IsEndTypeFault}
-use Rattle.csdl_association_sets.specs.SetRules.{BreaksSetRules, IsContainerFault, IsSetFault}
+use Rattle.csdl_associations.specs.csdl_constraints.Constraints.{BreaksConstraintRules, IsAssociationFault}
+use Rattle.csdl_associations.specs.csdl_association_sets.Concrete.{IsElementFault, IsEndsFault, IsEndTypeFault}
+use Rattle.csdl_associations.specs.csdl_association_sets.SetRules.{BreaksSetRules, IsContainerFault, IsSetFault}
 use Rattle.csdl_model.specs.ModelFaults.{BreaksAssociationRules, IsFaultAfterNames, IsFaultAfterReferences, IsListFault}
 use Rattle.csdl_names.proofs.RepeatedRule.{repeated_rule}
 use Rattle.csdl_names.proofs.UnresolvedRule.{unresolved_rule}

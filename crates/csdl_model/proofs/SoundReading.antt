@@ -1,14 +1,14 @@
 -- A document that breaks no rule means a sound model.
 use Rattle.std.proofs.Common.{◌≡◌, inl, inr, None, sym, subst}
 use Rattle.serde_json.specs.Data.{Data}
-use Rattle.least_fault.specs.Least.{IsLeast}
+use Rattle.groupings.specs.least_fault.Least.{IsLeast}
 use Rattle.layouts.specs.Faults.{fault_cmp}
 use Rattle.round_trip.specs.Words.{EntityModel}
 use Rattle.round_trip.specs.soundness.Models.{IsSoundModel}
-use Rattle.csdl_lists.specs.declared.raw.RawModel.{RawModel}
-use Rattle.csdl_lists.specs.Raw.{raw_model}
+use Rattle.csdl_names.specs.declared.csdl_lists.raw.RawModel.{RawModel}
+use Rattle.csdl_names.specs.csdl_lists.Raw.{raw_model}
 use Rattle.csdl_meaning.specs.ModelMeaning.{meaning}
-use Rattle.csdl_sound.specs.SoundMeaning.{KeepsRules}
+use Rattle.csdl_model.specs.csdl_sound.SoundMeaning.{KeepsRules}
 use Rattle.csdl_model.specs.ModelFaults.{IsModelFault}
 use Rattle.csdl_model.specs.ReadsModel.{IsModelOf}
 

@@ -1,2 +1,3 @@
 pub mod ModelFaults
 pub mod ReadsModel
+pub mod csdl_sound

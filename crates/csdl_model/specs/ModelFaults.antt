@@ -6,13 +6,13 @@ use Rattle.layouts.specs.declared.fault.Fault.{Fault}
 use Rattle.layouts.specs.declared.form.Form.TheVariants.{Object}
 use Rattle.layouts.specs.declared.form.Shape.TheVariants.{Model}
 use Rattle.layouts.specs.Forms.{IsFaultOf}
-use Rattle.csdl_lists.specs.declared.raw.RawModel.{RawModel}
-use Rattle.csdl_lists.specs.Raw.{raw_model}
+use Rattle.csdl_names.specs.declared.csdl_lists.raw.RawModel.{RawModel}
+use Rattle.csdl_names.specs.csdl_lists.Raw.{raw_model}
 use Rattle.csdl_names.specs.Repeated.{IsRepeated}
 use Rattle.csdl_names.specs.Unresolved.{IsUnresolved}
 use Rattle.csdl_types.specs.TypeRules.{BreaksTypeRules}
-use Rattle.csdl_constraints.specs.Constraints.{BreaksConstraintRules}
-use Rattle.csdl_association_sets.specs.SetRules.{BreaksSetRules}
+use Rattle.csdl_associations.specs.csdl_constraints.Constraints.{BreaksConstraintRules}
+use Rattle.csdl_associations.specs.csdl_association_sets.SetRules.{BreaksSetRules}
 
 -- V14 to V20: an association, a constraint, or a set that isn't well-formed
 abbrev pub BreaksAssociationRules : RawModel → Fault → Type 0

@@ -2,12 +2,12 @@
 use Rattle.std.specs.Prelude.{◌≡◌, Result}
 use Rattle.serde_json.specs.Data.{Data}
 use Rattle.layouts.specs.declared.fault.Fault.{Fault}
-use Rattle.told_rules.specs.Reads.{Answers}
+use Rattle.layouts.specs.told_rules.Reads.{Answers}
 use Rattle.edm_types.specs.declared.faults.VocabFault.{VocabFault}
 use Rattle.edm_types.specs.declared.faults.VocabFile.TheVariants.{Csdl}
 use Rattle.round_trip.specs.Words.{EntityModel}
 use Rattle.round_trip.specs.soundness.Models.{IsSoundModel}
-use Rattle.csdl_lists.specs.Raw.{raw_model}
+use Rattle.csdl_names.specs.csdl_lists.Raw.{raw_model}
 use Rattle.csdl_meaning.specs.ModelMeaning.{meaning}
 use Rattle.csdl_model.specs.ModelFaults.{IsModelFault}
 

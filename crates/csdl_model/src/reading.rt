@@ -1,34 +1,30 @@
 ghost use Rattle.std.specs.Prelude.{◌≡◌, ℕ, length, IfOk};
 ghost use Rattle.json_form.specs.Documents.{tree_of};
 ghost use Rattle.json_form.specs.Nodes.{part_of};
-ghost use Rattle.least_fault.specs.Least.{IsLeast};
+ghost use Rattle.groupings.specs.least_fault.Least.{IsLeast};
 ghost use Rattle.layouts.specs.Faults.{fault_cmp};
-ghost use Rattle.base_chains.specs.Chains.{base_at, IsAncestor};
-ghost use Rattle.base_chains.specs.Walks.{IsBasesFirst};
-ghost use Rattle.csdl_lists.specs.Raw.{raw_model};
-ghost use Rattle.csdl_lists.specs.References.{base_of, names_in};
-ghost use Rattle.csdl_lists.specs.Scopes.{IsScopeOf};
+ghost use Rattle.graphs.specs.base_chains.Chains.{base_at, IsAncestor};
+ghost use Rattle.graphs.specs.base_chains.Walks.{IsBasesFirst};
+ghost use Rattle.csdl_names.specs.csdl_lists.Raw.{raw_model};
+ghost use Rattle.csdl_names.specs.csdl_lists.References.{base_of, names_in};
+ghost use Rattle.csdl_names.specs.csdl_lists.Scopes.{IsScopeOf};
 ghost use Rattle.csdl_meaning.specs.ModelMeaning.{meaning};
 ghost use Rattle.csdl_model.specs.ModelFaults.{BreaksAssociationRules, IsFaultAfterNames, IsFaultAfterReferences, IsListFault, IsModelFault};
 ghost use Rattle.csdl_model.specs.ReadsModel.{ReadsModel};
-ghost use Rattle.told_rules.specs.Reads.{Reads};
+ghost use Rattle.layouts.specs.told_rules.Reads.{Reads};
 
-use base_chains::{Walk, chain_roots, walk_bases};
-use csdl_association_sets::first_set_fault;
-use csdl_constraints::{Sides, first_constraint_fault};
-use csdl_lists::{RawModel, Scope, bases_of};
-use csdl_making::make_model;
-use csdl_names::{Lookups, first_repeated, first_unresolved, props_of};
-use csdl_sound::a_document_that_breaks_no_rule_is_sound;
+use crate::csdl_sound::a_document_that_breaks_no_rule_is_sound;
+use csdl_associations::{Sides, first_constraint_fault, first_set_fault};
+use csdl_meaning::make_model;
+use csdl_names::{Lookups, RawModel, Scope, bases_of, first_repeated, first_unresolved, props_of};
 use csdl_types::first_type_fault;
 use edm_types::{EntityModel, VocabFault, VocabFile};
 use emc_base::Memory;
-use from_nodes::FromNode;
-use json_form::Doc;
-use layouts::{Fault, Form, Shape, first_fault};
-use least_fault::earlier;
+use graphs::{Walk, chain_roots, walk_bases};
+use groupings::earlier;
+use json_form::{Doc, FromNode};
+use layouts::{Fault, Form, Shape, Stop, first_fault, told};
 use std::alloc::Global;
-use told_rules::{Stop, told};
 
 /// Reads a CSDL document: `Ok` with the model that it means, which is sound, where it breaks no rule; else `Rule` with the least rule that it
 /// breaks, at its first place. `Memory` comes where memory ran out, and where types stand too deep, inherit too much, or take too many steps

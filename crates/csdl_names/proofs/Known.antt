@@ -3,18 +3,18 @@ use Rattle.std.proofs.Common.{◌≡◌, ◌⊎◌, ⊎_elim, inl, inr, ℕ, zer
 use Rattle.std.specs.Option.{is_some}
 use Rattle.std.proofs.lemmas.List.Elements.{Contains-append_cases, Contains-append_left, Contains-append_right}
 use Rattle.json_form.specs.declared.pointer.Step.TheVariants.{Member}
-use Rattle.least_fault.specs.Least.{IsLeast}
+use Rattle.groupings.specs.least_fault.Least.{IsLeast}
 use Rattle.layouts.specs.declared.fault.Fault.{Fault}
 use Rattle.layouts.specs.declared.rule.Rule.TheVariants.{NamedOnce}
 use Rattle.layouts.specs.Faults.{fault_cmp}
-use Rattle.name_places.specs.declared.places.Places.{Places}
-use Rattle.name_places.specs.GivenNames.{first_place, IsGivenBefore}
-use Rattle.name_places.specs.PlacesIn.{place_in}
-use Rattle.name_places.proofs.KnownNames.{name_of_item, place_of_name}
-use Rattle.rule_places.specs.Places.{IsAt, InList}
+use Rattle.groupings.specs.declared.name_places.places.Places.{Places}
+use Rattle.groupings.specs.name_places.GivenNames.{first_place, IsGivenBefore}
+use Rattle.groupings.specs.name_places.PlacesIn.{place_in}
+use Rattle.groupings.proofs.name_places.KnownNames.{name_of_item, place_of_name}
+use Rattle.layouts.specs.rule_places.Places.{IsAt, InList}
 use Rattle.csdl_names.specs.KnownNames.{AreNames, IsKnown, IsKnownAgainAt, IsLeastAgain}
 use Rattle.csdl_names.specs.Repeated.{IsGivenAgain}
-use Rattle.rule_places.proofs.LeastFound.{least_in_list}
+use Rattle.layouts.proofs.rule_places.LeastFound.{least_in_list}
 
 -- some item of a list: none of the empty one, the first or a later one
 module _ {X : Type 0} (P : X → Type 0) where

@@ -5,13 +5,13 @@ use Rattle.std.proofs.lemmas.List.Elements.{Contains-push_cases}
 use Rattle.std.proofs.lemmas.Option.{none-some, same_Some, slice_get_within}
 use Rattle.emc_base.specs.Lists.{At}
 use Rattle.emc_base.proofs.Lists.{at_once}
-use Rattle.base_chains.specs.Chains.{chain_upto}
-use Rattle.base_chains.proofs.Members.{contains_nil}
-use Rattle.csdl_lists.specs.declared.raw.RawModel.{RawModel}
-use Rattle.csdl_lists.specs.declared.raw.RawType.{RawType}
-use Rattle.csdl_lists.specs.References.{Names, base_of}
+use Rattle.graphs.specs.base_chains.Chains.{chain_upto}
+use Rattle.graphs.proofs.base_chains.Members.{contains_nil}
+use Rattle.csdl_names.specs.declared.csdl_lists.raw.RawModel.{RawModel}
+use Rattle.csdl_names.specs.declared.csdl_lists.raw.RawType.{RawType}
+use Rattle.csdl_names.specs.csdl_lists.References.{Names, base_of}
 use Rattle.csdl_names.specs.Unresolved.{Declares, LacksProp, derived, root}
-use Rattle.base_chains.proofs.Depths.{HasDepth, depth_root, depth_up, few_deep}
+use Rattle.graphs.proofs.base_chains.Depths.{HasDepth, depth_root, depth_up, few_deep}
 
 module _ (names : Names) (model : RawModel) where
   -- the base of a type that is there

@@ -3,11 +3,11 @@ use Rattle.std.proofs.Common.{◌≡◌, ℕ, List, map, Option, Some, None, sli
 use Rattle.std.specs.Option.{option_and_then, option_map}
 use Rattle.std.proofs.lemmas.Option.{none-some, same_Some, slice_get-map}
 use Rattle.emc_base.specs.Lists.{At}
-use Rattle.name_places.specs.declared.places.Places.{Places}
-use Rattle.name_places.specs.PlacesIn.{place_in}
-use Rattle.csdl_lists.specs.declared.raw.RawType.{RawType}
-use Rattle.csdl_lists.specs.declared.raw.RawModel.{RawModel}
-use Rattle.csdl_lists.specs.References.{names_in}
+use Rattle.groupings.specs.declared.name_places.places.Places.{Places}
+use Rattle.groupings.specs.name_places.PlacesIn.{place_in}
+use Rattle.csdl_names.specs.declared.csdl_lists.raw.RawType.{RawType}
+use Rattle.csdl_names.specs.declared.csdl_lists.raw.RawModel.{RawModel}
+use Rattle.csdl_names.specs.csdl_lists.References.{names_in}
 use Rattle.csdl_names.specs.PropPlaces.{own_prop, place_of_prop}
 
 module _ (props : List Places) (types : List RawType) (same : map place_in props ≡ map place_of_prop types) (i : ℕ) (type : RawType) (here : At types i type) where

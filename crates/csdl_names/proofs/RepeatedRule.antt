@@ -5,13 +5,13 @@ use Rattle.json_form.specs.declared.pointer.Step.TheVariants.{Member}
 use Rattle.layouts.specs.declared.fault.Fault.{Fault}
 use Rattle.layouts.specs.declared.rule.Rule.{Rule}
 use Rattle.layouts.specs.declared.rule.Rule.TheVariants.{NamedOnce}
-use Rattle.rule_places.specs.Places.{IsAt}
-use Rattle.rule_places.proofs.Rules.{rule_behind, rule_inside}
-use Rattle.csdl_lists.specs.declared.raw.RawAssociation.{RawAssociation}
-use Rattle.csdl_lists.specs.declared.raw.RawContainer.{RawContainer}
-use Rattle.csdl_lists.specs.declared.raw.RawEnum.{RawEnum}
-use Rattle.csdl_lists.specs.declared.raw.RawModel.{RawModel}
-use Rattle.csdl_lists.specs.declared.raw.RawType.{RawType}
+use Rattle.layouts.specs.rule_places.Places.{IsAt}
+use Rattle.layouts.proofs.rule_places.Rules.{rule_behind, rule_inside}
+use Rattle.csdl_names.specs.declared.csdl_lists.raw.RawAssociation.{RawAssociation}
+use Rattle.csdl_names.specs.declared.csdl_lists.raw.RawContainer.{RawContainer}
+use Rattle.csdl_names.specs.declared.csdl_lists.raw.RawEnum.{RawEnum}
+use Rattle.csdl_names.specs.declared.csdl_lists.raw.RawModel.{RawModel}
+use Rattle.csdl_names.specs.declared.csdl_lists.raw.RawType.{RawType}
 use Rattle.csdl_names.specs.Repeated.{IsGivenAgain, IsRepeated, IsRepeatedIn, IsRepeatedInAssociation, IsRepeatedInContainer, IsRepeatedInEnum, IsRepeatedInSchema, IsRepeatedInType}
 
 -- the rule

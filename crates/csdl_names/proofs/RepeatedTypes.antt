@@ -1,13 +1,13 @@
 -- Names that are given twice in a type, looked for at the place of the type.
 use Rattle.std.proofs.Common.{◌≡◌, ◌↔◌, ℕ, codes, slice_get, MatchOption, Option, Some, sym, subst}
-use Rattle.least_fault.specs.Least.{IsLeast}
-use Rattle.least_fault.proofs.Leasts.{least_same}
+use Rattle.groupings.specs.least_fault.Least.{IsLeast}
+use Rattle.groupings.proofs.least_fault.Leasts.{least_same}
 use Rattle.layouts.specs.declared.fault.Fault.{Fault}
 use Rattle.layouts.specs.Faults.{fault_cmp}
-use Rattle.rule_places.specs.Places.{InList}
-use Rattle.rule_places.proofs.Rules.{in_list_at}
-use Rattle.csdl_lists.specs.declared.raw.RawModel.{RawModel}
-use Rattle.csdl_lists.specs.declared.raw.RawType.{RawType}
+use Rattle.layouts.specs.rule_places.Places.{InList}
+use Rattle.layouts.proofs.rule_places.Rules.{in_list_at}
+use Rattle.csdl_names.specs.declared.csdl_lists.raw.RawModel.{RawModel}
+use Rattle.csdl_names.specs.declared.csdl_lists.raw.RawType.{RawType}
 use Rattle.csdl_names.specs.Repeated.{IsRepeatedInType}
 
 module _ (model : RawModel) where

@@ -6,18 +6,18 @@ use Rattle.layouts.specs.declared.fault.Fault.{Fault}
 use Rattle.layouts.specs.declared.rule.Rule.{Rule}
 use Rattle.layouts.specs.declared.rule.Rule.TheVariants.{Resolves}
 use Rattle.layouts.specs.Inside.{Under}
-use Rattle.rule_places.specs.Places.{InList}
-use Rattle.rule_places.proofs.Rules.{rule_behind, rule_inside, rule_where}
-use Rattle.csdl_lists.specs.declared.raw.RawAssociation.{RawAssociation}
-use Rattle.csdl_lists.specs.declared.raw.RawAssociationSet.{RawAssociationSet}
-use Rattle.csdl_lists.specs.declared.raw.RawConstraint.{RawConstraint}
-use Rattle.csdl_lists.specs.declared.raw.RawContainer.{RawContainer}
-use Rattle.csdl_lists.specs.declared.raw.RawModel.{RawModel}
-use Rattle.csdl_lists.specs.declared.raw.RawNav.{RawNav}
-use Rattle.csdl_lists.specs.declared.raw.RawRole.{RawRole}
-use Rattle.csdl_lists.specs.declared.raw.RawSetEnd.{RawSetEnd}
-use Rattle.csdl_lists.specs.declared.raw.RawType.{RawType}
-use Rattle.csdl_lists.specs.References.{Names, names_in}
+use Rattle.layouts.specs.rule_places.Places.{InList}
+use Rattle.layouts.proofs.rule_places.Rules.{rule_behind, rule_inside, rule_where}
+use Rattle.csdl_names.specs.declared.csdl_lists.raw.RawAssociation.{RawAssociation}
+use Rattle.csdl_names.specs.declared.csdl_lists.raw.RawAssociationSet.{RawAssociationSet}
+use Rattle.csdl_names.specs.declared.csdl_lists.raw.RawConstraint.{RawConstraint}
+use Rattle.csdl_names.specs.declared.csdl_lists.raw.RawContainer.{RawContainer}
+use Rattle.csdl_names.specs.declared.csdl_lists.raw.RawModel.{RawModel}
+use Rattle.csdl_names.specs.declared.csdl_lists.raw.RawNav.{RawNav}
+use Rattle.csdl_names.specs.declared.csdl_lists.raw.RawRole.{RawRole}
+use Rattle.csdl_names.specs.declared.csdl_lists.raw.RawSetEnd.{RawSetEnd}
+use Rattle.csdl_names.specs.declared.csdl_lists.raw.RawType.{RawType}
+use Rattle.csdl_names.specs.csdl_lists.References.{Names, names_in}
 use Rattle.csdl_names.specs.Unresolved.{NamesNothing, IsUnresolved, IsUnresolvedIn, IsUnresolvedInAssociation, IsUnresolvedInAssociationSet, IsUnresolvedInConstraint, IsUnresolvedInContainer, IsUnresolvedInEnd, IsUnresolvedInNav, IsUnresolvedInRole, IsUnresolvedInSet, IsUnresolvedInSetEnd, IsUnresolvedInType, IsUnresolvedProp, type_of_role}
 
 -- the rule

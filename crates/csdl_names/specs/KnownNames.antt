@@ -2,14 +2,14 @@
 use Rattle.std.specs.Prelude.{◌↔◌, ◌⊎◌, ℕ, List, [], ◌∷◌, Any, Contains, IsSome, Option}
 use Rattle.std.specs.Borrow.{Bor}
 use Rattle.json_form.specs.declared.pointer.Step.TheVariants.{Member}
-use Rattle.least_fault.specs.Least.{IsLeast}
+use Rattle.groupings.specs.least_fault.Least.{IsLeast}
 use Rattle.layouts.specs.declared.fault.Fault.{Fault}
 use Rattle.layouts.specs.declared.rule.Rule.TheVariants.{NamedOnce}
 use Rattle.layouts.specs.Faults.{fault_cmp}
-use Rattle.name_places.specs.declared.places.Places.{Places}
-use Rattle.name_places.specs.GivenNames.{IsGivenBefore}
-use Rattle.name_places.specs.PlacesIn.{place_in}
-use Rattle.rule_places.specs.Places.{IsAt}
+use Rattle.groupings.specs.declared.name_places.places.Places.{Places}
+use Rattle.groupings.specs.name_places.GivenNames.{IsGivenBefore}
+use Rattle.groupings.specs.name_places.PlacesIn.{place_in}
+use Rattle.layouts.specs.rule_places.Places.{IsAt}
 use Rattle.csdl_names.specs.Repeated.{IsRepeatedIn}
 
 -- one of the lists has the name

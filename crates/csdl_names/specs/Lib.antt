@@ -4,3 +4,4 @@ pub mod PropPlaces
 pub mod Repeated
 pub mod SetRoles
 pub mod Unresolved
+pub mod csdl_lists

@@ -2,11 +2,11 @@
 -- Source: CSDL version 3, EntityType, BaseType and Property.
 use Rattle.std.specs.Prelude.{ℕ, zero, suc, List, length, Option, None, option_map, slice_get}
 use Rattle.std.specs.Option.{option_and_then, option_or}
-use Rattle.name_places.specs.GivenNames.{first_place}
-use Rattle.csdl_lists.specs.declared.raw.RawModel.{RawModel}
-use Rattle.csdl_lists.specs.declared.raw.RawProp.{RawProp}
-use Rattle.csdl_lists.specs.declared.raw.RawType.{RawType}
-use Rattle.csdl_lists.specs.References.{Names, base_of}
+use Rattle.groupings.specs.name_places.GivenNames.{first_place}
+use Rattle.csdl_names.specs.declared.csdl_lists.raw.RawModel.{RawModel}
+use Rattle.csdl_names.specs.declared.csdl_lists.raw.RawProp.{RawProp}
+use Rattle.csdl_names.specs.declared.csdl_lists.raw.RawType.{RawType}
+use Rattle.csdl_names.specs.csdl_lists.References.{Names, base_of}
 use Rattle.csdl_names.specs.declared.lookups.PropPlace.{PropPlace}
 
 -- the place of the first property of this name

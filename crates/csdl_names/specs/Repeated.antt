@@ -6,13 +6,13 @@ use Rattle.json_form.specs.declared.pointer.Step.TheVariants.{Member}
 use Rattle.layouts.specs.declared.fault.Fault.{Fault}
 use Rattle.layouts.specs.declared.rule.Rule.TheVariants.{NamedOnce}
 use Rattle.layouts.specs.Inside.{Under}
-use Rattle.name_places.specs.GivenNames.{IsGivenBefore}
-use Rattle.rule_places.specs.Places.{IsAt, InList}
-use Rattle.csdl_lists.specs.declared.raw.RawAssociation.{RawAssociation}
-use Rattle.csdl_lists.specs.declared.raw.RawContainer.{RawContainer}
-use Rattle.csdl_lists.specs.declared.raw.RawEnum.{RawEnum}
-use Rattle.csdl_lists.specs.declared.raw.RawModel.{RawModel}
-use Rattle.csdl_lists.specs.declared.raw.RawType.{RawType}
+use Rattle.groupings.specs.name_places.GivenNames.{IsGivenBefore}
+use Rattle.layouts.specs.rule_places.Places.{IsAt, InList}
+use Rattle.csdl_names.specs.declared.csdl_lists.raw.RawAssociation.{RawAssociation}
+use Rattle.csdl_names.specs.declared.csdl_lists.raw.RawContainer.{RawContainer}
+use Rattle.csdl_names.specs.declared.csdl_lists.raw.RawEnum.{RawEnum}
+use Rattle.csdl_names.specs.declared.csdl_lists.raw.RawModel.{RawModel}
+use Rattle.csdl_names.specs.declared.csdl_lists.raw.RawType.{RawType}
 
 module _ {X : Type 0} (name_in : X → List ℕ) where
   -- the item's name is one of these, or that of an item before it

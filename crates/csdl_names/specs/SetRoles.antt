@@ -3,10 +3,10 @@
 use Rattle.std.specs.Prelude.{ℕ, List, Option, find, slice_get}
 use Rattle.std.specs.Option.{option_and_then}
 use Rattle.std.specs.Str.{bytes_eq}
-use Rattle.csdl_lists.specs.declared.raw.RawAssociationSet.{RawAssociationSet}
-use Rattle.csdl_lists.specs.declared.raw.RawModel.{RawModel}
-use Rattle.csdl_lists.specs.declared.raw.RawSetEnd.{RawSetEnd}
-use Rattle.csdl_lists.specs.References.{Names}
+use Rattle.csdl_names.specs.declared.csdl_lists.raw.RawAssociationSet.{RawAssociationSet}
+use Rattle.csdl_names.specs.declared.csdl_lists.raw.RawModel.{RawModel}
+use Rattle.csdl_names.specs.declared.csdl_lists.raw.RawSetEnd.{RawSetEnd}
+use Rattle.csdl_names.specs.csdl_lists.References.{Names}
 
 -- the end of an association set that names this role
 abbrev pub set_end_of_role : RawAssociationSet → List ℕ → Option RawSetEnd

@@ -9,19 +9,19 @@ use Rattle.json_form.specs.declared.pointer.Step.TheVariants.{Member}
 use Rattle.layouts.specs.declared.fault.Fault.{Fault}
 use Rattle.layouts.specs.declared.rule.Rule.TheVariants.{Resolves}
 use Rattle.layouts.specs.Inside.{Under}
-use Rattle.rule_places.specs.Places.{IsAt, InList}
-use Rattle.csdl_lists.specs.declared.raw.RawAssociation.{RawAssociation}
-use Rattle.csdl_lists.specs.declared.raw.RawAssociationSet.{RawAssociationSet}
-use Rattle.csdl_lists.specs.declared.raw.RawConstraint.{RawConstraint}
-use Rattle.csdl_lists.specs.declared.raw.RawContainer.{RawContainer}
-use Rattle.csdl_lists.specs.declared.raw.RawEnd.{RawEnd}
-use Rattle.csdl_lists.specs.declared.raw.RawModel.{RawModel}
-use Rattle.csdl_lists.specs.declared.raw.RawNav.{RawNav}
-use Rattle.csdl_lists.specs.declared.raw.RawRole.{RawRole}
-use Rattle.csdl_lists.specs.declared.raw.RawSet.{RawSet}
-use Rattle.csdl_lists.specs.declared.raw.RawSetEnd.{RawSetEnd}
-use Rattle.csdl_lists.specs.declared.raw.RawType.{RawType}
-use Rattle.csdl_lists.specs.References.{Names, base_of, names_in}
+use Rattle.layouts.specs.rule_places.Places.{IsAt, InList}
+use Rattle.csdl_names.specs.declared.csdl_lists.raw.RawAssociation.{RawAssociation}
+use Rattle.csdl_names.specs.declared.csdl_lists.raw.RawAssociationSet.{RawAssociationSet}
+use Rattle.csdl_names.specs.declared.csdl_lists.raw.RawConstraint.{RawConstraint}
+use Rattle.csdl_names.specs.declared.csdl_lists.raw.RawContainer.{RawContainer}
+use Rattle.csdl_names.specs.declared.csdl_lists.raw.RawEnd.{RawEnd}
+use Rattle.csdl_names.specs.declared.csdl_lists.raw.RawModel.{RawModel}
+use Rattle.csdl_names.specs.declared.csdl_lists.raw.RawNav.{RawNav}
+use Rattle.csdl_names.specs.declared.csdl_lists.raw.RawRole.{RawRole}
+use Rattle.csdl_names.specs.declared.csdl_lists.raw.RawSet.{RawSet}
+use Rattle.csdl_names.specs.declared.csdl_lists.raw.RawSetEnd.{RawSetEnd}
+use Rattle.csdl_names.specs.declared.csdl_lists.raw.RawType.{RawType}
+use Rattle.csdl_names.specs.csdl_lists.References.{Names, base_of, names_in}
 
 -- the rule is broken at this member: it names nothing
 abbrev pub NamesNothing : Option ℕ → List ℕ → Fault → Type 0

@@ -1,16 +1,14 @@
 ghost use Rattle.std.specs.Prelude.{◌≡◌, ◌↔◌, [], IfOk, IsTrue};
-ghost use Rattle.least_fault.specs.Least.{IsLeast};
+ghost use Rattle.groupings.specs.least_fault.Least.{IsLeast};
 ghost use Rattle.layouts.specs.Faults.{fault_cmp};
-ghost use Rattle.name_places.specs.GivenNames.{first_place};
-ghost use Rattle.name_places.specs.PlacesIn.{place_in};
+ghost use Rattle.groupings.specs.name_places.GivenNames.{first_place};
+ghost use Rattle.groupings.specs.name_places.PlacesIn.{place_in};
 ghost use Rattle.csdl_names.specs.KnownNames.{IsKnown, IsKnownAgain, IsKnownAgainAt, IsLeastAgain};
 ghost use Rattle.csdl_names.specs.Repeated.{IsRepeatedIn};
 
 use emc_base::{Memory, Seq, Txt};
-use layouts::{Fault, Rule};
-use least_fault::Finder;
-use name_places::{Named, Places};
-use rule_places::{fault_if, first_at};
+use groupings::{Finder, Named, Places};
+use layouts::{Fault, Rule, fault_if, first_at};
 use std::alloc::Global;
 
 /// A list in a scope, some of whose names may be given before.

@@ -1,9 +1,9 @@
 ghost use Rattle.std.specs.Prelude.{◌≡◌, ◌↔◌, IsOk, length};
-ghost use Rattle.csdl_lists.specs.References.{names_in};
+ghost use Rattle.csdl_names.specs.csdl_lists.References.{names_in};
 ghost use Rattle.csdl_names.specs.Climbs.{AllowsClimbs, Leaves, steps_of_constraint, steps_of_constraints, steps_of_key, steps_of_keys, steps_of_names, steps_of_role, steps_upto};
 
+use crate::csdl_lists::{RawAssociation, RawRole, RawType};
 use crate::lookups::Lookups;
-use csdl_lists::{RawAssociation, RawRole, RawType};
 use emc_base::{Memory, Seq, Txt};
 
 /// The most types that the look-ups of properties may look at, as many as the largest document has bytes. More counts as want of memory:

@@ -1,16 +1,18 @@
 ghost use Rattle.std.specs.Prelude.{◌≡◌, ◌↔◌, IsTrue, length, map};
 ghost use Rattle.std.specs.Option.{option_copied};
-ghost use Rattle.name_places.specs.PlacesIn.{place_in};
-ghost use Rattle.base_chains.specs.Chains.{base_at};
-ghost use Rattle.csdl_lists.specs.References.{base_of, names_in};
-ghost use Rattle.csdl_lists.specs.Scopes.{names_of};
+ghost use Rattle.groupings.specs.name_places.PlacesIn.{place_in};
+ghost use Rattle.graphs.specs.base_chains.Chains.{base_at};
+ghost use Rattle.csdl_names.specs.csdl_lists.References.{base_of, names_in};
+ghost use Rattle.csdl_names.specs.csdl_lists.Scopes.{names_of};
 ghost use Rattle.csdl_names.specs.PropPlaces.{own_prop, place_of_prop, prop_at, prop_of_type};
 ghost use Rattle.csdl_names.specs.SetRoles.{element_of, element_of_role, set_end_of_role, set_of_role};
 ghost use Rattle.csdl_names.specs.Unresolved.{end_of_role};
 
-use csdl_lists::{RawAssociation, RawAssociationSet, RawEnd, RawModel, RawProp, RawSetEnd, Scope};
+use crate::csdl_lists::{
+    RawAssociation, RawAssociationSet, RawEnd, RawModel, RawProp, RawSetEnd, Scope,
+};
 use emc_base::{Seq, Txt};
-use name_places::Places;
+use groupings::Places;
 
 /// A declared property: the place of its type in the list of types, and its own place among the properties that this type declares.
 #[derive(Clone, Copy, Debug, PartialEq, Eq)]
@@ -40,7 +42,7 @@ pub struct Lookups<'a> {
 
 impl<'a> Lookups<'a> {
     ghost use Rattle.emc_base.specs.Lists.{At};
-    ghost use Rattle.csdl_lists.specs.declared.raw.RawType.{RawType};
+    ghost use Rattle.csdl_names.specs.declared.csdl_lists.raw.RawType.{RawType};
     ghost use Rattle.csdl_names.specs.Unresolved.{Declares, LacksProp, LacksRole, association_of, type_of_role};
 
     /// The type that a reference names.

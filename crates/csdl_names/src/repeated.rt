@@ -1,19 +1,17 @@
 ghost use Rattle.std.specs.Prelude.{◌≡◌, IfOk};
-ghost use Rattle.least_fault.specs.Least.{IsLeast};
+ghost use Rattle.groupings.specs.least_fault.Least.{IsLeast};
 ghost use Rattle.layouts.specs.Faults.{fault_cmp};
-ghost use Rattle.name_places.specs.GivenNames.{first_place};
-ghost use Rattle.name_places.specs.PlacesIn.{place_in};
-ghost use Rattle.csdl_lists.specs.Scopes.{IsScopeOf};
+ghost use Rattle.groupings.specs.name_places.GivenNames.{first_place};
+ghost use Rattle.groupings.specs.name_places.PlacesIn.{place_in};
+ghost use Rattle.csdl_names.specs.csdl_lists.Scopes.{IsScopeOf};
 ghost use Rattle.csdl_names.specs.Repeated.{IsRepeated, IsRepeatedInBoth, IsRepeatedInContainer, IsRepeatedInSchema};
 
 use crate::again::{Again, first_twice};
+use crate::csdl_lists::{RawAssociation, RawContainer, RawEnum, RawModel, RawType, Scope};
 use crate::lookups::Lookups;
-use csdl_lists::{RawAssociation, RawContainer, RawEnum, RawModel, RawType, Scope};
 use emc_base::{Memory, Seq};
-use layouts::Fault;
-use least_fault::{Finder, earlier};
-use name_places::{Named, Places, places_of};
-use rule_places::{behind_member, first_at};
+use groupings::{Finder, Named, Places, earlier, places_of};
+use layouts::{Fault, behind_member, first_at};
 use std::alloc::Global;
 
 /// Searches the types of a model for names that are given twice in one.

@@ -1,10 +1,10 @@
 ghost use Rattle.std.specs.Prelude.{◌≡◌, IfOk, map};
-ghost use Rattle.name_places.specs.PlacesIn.{place_in};
+ghost use Rattle.groupings.specs.name_places.PlacesIn.{place_in};
 ghost use Rattle.csdl_names.specs.PropPlaces.{place_of_prop};
 
-use csdl_lists::RawType;
+use crate::csdl_lists::RawType;
 use emc_base::{Memory, Seq};
-use name_places::{Places, places_of};
+use groupings::{Places, places_of};
 use std::alloc::Global;
 
 /// The places of the properties of each type.

@@ -1,19 +1,18 @@
 ghost use Rattle.std.specs.Prelude.{◌≡◌, IfOk};
 ghost use Rattle.layouts.specs.Faults.{fault_cmp};
-ghost use Rattle.least_fault.specs.Least.{IsLeast};
-ghost use Rattle.csdl_lists.specs.References.{names_in};
+ghost use Rattle.groupings.specs.least_fault.Least.{IsLeast};
+ghost use Rattle.csdl_names.specs.csdl_lists.References.{names_in};
 ghost use Rattle.csdl_names.specs.Unresolved.{IsUnresolved, IsUnresolvedBase, IsUnresolvedInConstraint, IsUnresolvedInContainer, IsUnresolvedInKey, IsUnresolvedInRole, LacksRoleAt, NamesNothing};
 
 use crate::climbs::allow_climbs;
-use crate::lookups::{Lookups, end_of_role};
-use csdl_lists::{
+use crate::csdl_lists::{
     RawAssociation, RawAssociationSet, RawConstraint, RawContainer, RawEnd, RawNav, RawRole,
     RawSet, RawSetEnd, RawType,
 };
+use crate::lookups::{Lookups, end_of_role};
 use emc_base::{Memory, Seq, Txt};
-use layouts::{Fault, Rule};
-use least_fault::{Finder, earlier};
-use rule_places::{behind_member, fault_if, first_at};
+use groupings::{Finder, earlier};
+use layouts::{Fault, Rule, behind_member, fault_if, first_at};
 use std::alloc::Global;
 
 /// An entity set: its element type.

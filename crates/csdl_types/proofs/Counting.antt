@@ -3,7 +3,7 @@ use Rattle.std.proofs.Common.{rules, arith, ◌≡◌, ◌⊎◌, ⊎_elim, ◌�
 use Rattle.std.proofs.Math.Seq.{drop-cons}
 use Rattle.std.proofs.lemmas.Option.{slice_get_within, get_or_from_slice_get}
 use Rattle.emc_base.specs.Lists.{At}
-use Rattle.csdl_lists.specs.declared.raw.RawMember.{RawMember}
+use Rattle.csdl_names.specs.declared.csdl_lists.raw.RawMember.{RawMember}
 use Rattle.csdl_types.specs.Numbers.{numbers_from}
 
 -- the number of a member is made, and those behind it are left

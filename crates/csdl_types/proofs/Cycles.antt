@@ -3,28 +3,28 @@ use Rattle.std.proofs.Common.{◌≡◌, ⊎_elim, inr, ℕ, ◌<◌, ◌≤◌,
 use Rattle.std.specs.Option.{option_map}
 use Rattle.emc_base.specs.Lists.{At}
 use Rattle.json_form.specs.declared.pointer.Step.TheVariants.{Member, Item}
-use Rattle.least_fault.specs.Least.{IsLeast}
-use Rattle.least_fault.proofs.Leasts.{least_same}
+use Rattle.groupings.specs.least_fault.Least.{IsLeast}
+use Rattle.groupings.proofs.least_fault.Leasts.{least_same}
 use Rattle.layouts.specs.declared.fault.Fault.{Fault}
 use Rattle.layouts.specs.declared.rule.Rule.{Rule}
 use Rattle.layouts.specs.declared.rule.Rule.TheVariants.{Ancestors, Bound, InheritedName, KeyProperty, PropertyType, TypeKey}
 use Rattle.layouts.specs.Faults.{fault_cmp}
 use Rattle.layouts.specs.Inside.{after}
 use Rattle.layouts.specs.Rules.{rule_number}
-use Rattle.rule_places.specs.Places.{InList}
-use Rattle.rule_places.proofs.Rules.{least_by_place, least_of_lower, rule_inside, upto_not_greater}
-use Rattle.base_chains.specs.Chains.{IsAncestor, direct, further, base_at}
-use Rattle.base_chains.specs.Walks.{IsFirst}
-use Rattle.csdl_lists.specs.declared.raw.RawEnum.{RawEnum}
-use Rattle.csdl_lists.specs.declared.raw.RawModel.{RawModel}
-use Rattle.csdl_lists.specs.declared.raw.RawType.{RawType}
-use Rattle.csdl_lists.specs.References.{base_of, names_in}
+use Rattle.layouts.specs.rule_places.Places.{InList}
+use Rattle.layouts.proofs.rule_places.Rules.{least_by_place, least_of_lower, rule_inside, upto_not_greater}
+use Rattle.graphs.specs.base_chains.Chains.{IsAncestor, direct, further, base_at}
+use Rattle.graphs.specs.base_chains.Walks.{IsFirst}
+use Rattle.csdl_names.specs.declared.csdl_lists.raw.RawEnum.{RawEnum}
+use Rattle.csdl_names.specs.declared.csdl_lists.raw.RawModel.{RawModel}
+use Rattle.csdl_names.specs.declared.csdl_lists.raw.RawType.{RawType}
+use Rattle.csdl_names.specs.csdl_lists.References.{base_of, names_in}
 use Rattle.csdl_types.specs.Inherited.{IsAncestorFault, IsInheritedFault}
 use Rattle.csdl_types.specs.Keys.{IsNoKeyPropFault}
 use Rattle.csdl_types.specs.PropTypes.{IsEnumFault, IsNoTypeFault, IsNumberFault, IsPropBoundFault}
 use Rattle.csdl_types.specs.Numbers.{numbers_of, under_of}
 use Rattle.csdl_types.specs.TypeRules.{BreaksLaterRules, BreaksTypeRules, IsLaterFault}
-use Rattle.csdl_lists.proofs.BaseTypes.{is_type}
+use Rattle.csdl_names.proofs.csdl_lists.BaseTypes.{is_type}
 
 -- what holds of these rules holds of the rule of each fault against them
 module _ (B : Rule → Type 0) (key : B TypeKey) (part : B KeyProperty) (inherited : B InheritedName) (type_is : B PropertyType) (bound : B Bound) (model : RawModel) where

@@ -4,15 +4,15 @@ use Rattle.std.specs.Ordering.{nat_cmp}
 use Rattle.std.proofs.lemmas.Option.{get_or_from_slice_get, slice_get-get_or, slice_get_within}
 use Rattle.emc_base.specs.Lists.{At}
 use Rattle.emc_base.proofs.Mapped.{contains_at}
-use Rattle.base_chains.proofs.Orders.{place_of_member}
-use Rattle.least_fault.specs.Least.{Among, IsLeast}
+use Rattle.graphs.proofs.base_chains.Orders.{place_of_member}
+use Rattle.groupings.specs.least_fault.Least.{Among, IsLeast}
 use Rattle.layouts.specs.declared.fault.Fault.{Fault}
 use Rattle.layouts.proofs.Walks.{among_none}
-use Rattle.rule_places.specs.Places.{InItem, InItems, InList}
-use Rattle.name_places.specs.GivenNames.{first_place}
-use Rattle.name_places.proofs.FirstPlaces.{first_has, first_upto}
-use Rattle.rule_places.proofs.Rules.{in_list_map, least_by_first}
-use Rattle.csdl_lists.specs.declared.raw.RawType.{RawType}
+use Rattle.layouts.specs.rule_places.Places.{InItem, InItems, InList}
+use Rattle.groupings.specs.name_places.GivenNames.{first_place}
+use Rattle.groupings.proofs.name_places.FirstPlaces.{first_has, first_upto}
+use Rattle.layouts.proofs.rule_places.Rules.{in_list_map, least_by_first}
+use Rattle.csdl_names.specs.declared.csdl_lists.raw.RawType.{RawType}
 use Rattle.csdl_types.specs.Inherited.{HasName, IsInNamesFault, IsInherited, IsInheritedFault}
 use Rattle.csdl_types.specs.OwnNames.{DeclaresNone, IsItemAbove, IsPlaceOfName}
 

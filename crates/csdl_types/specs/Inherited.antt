@@ -5,9 +5,9 @@ use Rattle.emc_base.specs.Lists.{At}
 use Rattle.json_form.specs.declared.pointer.Step.TheVariants.{Member}
 use Rattle.layouts.specs.declared.fault.Fault.{Fault}
 use Rattle.layouts.specs.declared.rule.Rule.TheVariants.{Ancestors, InheritedName}
-use Rattle.rule_places.specs.Places.{IsAt, InList}
-use Rattle.base_chains.specs.Chains.{IsAncestor}
-use Rattle.csdl_lists.specs.declared.raw.RawType.{RawType}
+use Rattle.layouts.specs.rule_places.Places.{IsAt, InList}
+use Rattle.graphs.specs.base_chains.Chains.{IsAncestor}
+use Rattle.csdl_names.specs.declared.csdl_lists.raw.RawType.{RawType}
 
 -- V8: the type is its own ancestor
 abbrev pub IsAncestorFault : (ℕ → Option ℕ) → ℕ → Fault → Type 0

@@ -5,9 +5,9 @@ use Rattle.json_form.specs.declared.pointer.Step.TheVariants.{Member}
 use Rattle.layouts.specs.declared.fault.Fault.{Fault}
 use Rattle.layouts.specs.declared.rule.Rule.{Rule}
 use Rattle.layouts.specs.declared.rule.Rule.TheVariants.{TypeKey, KeyProperty}
-use Rattle.rule_places.specs.Places.{IsAt, InList}
-use Rattle.csdl_lists.specs.declared.raw.RawProp.{RawProp}
-use Rattle.csdl_lists.specs.declared.raw.RawType.{RawType}
+use Rattle.layouts.specs.rule_places.Places.{IsAt, InList}
+use Rattle.csdl_names.specs.declared.csdl_lists.raw.RawProp.{RawProp}
+use Rattle.csdl_names.specs.declared.csdl_lists.raw.RawType.{RawType}
 use Rattle.csdl_types.specs.declared.simple.Simple.{Simple}
 use Rattle.csdl_types.specs.declared.simple.Simple.TheVariants.{Int16, Int32, Int64, Text}
 use Rattle.csdl_types.specs.Simple.{simple_of}

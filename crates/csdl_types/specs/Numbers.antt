@@ -4,8 +4,8 @@ use Rattle.std.specs.Prelude.{ℤ, ◌+ℤ◌, pos, List, [], ◌∷◌, Option,
 use Rattle.std.specs.Option.{option_and_then, option_map_or}
 use Rattle.emc_base.specs.declared.value.Under.{Under}
 use Rattle.emc_base.specs.declared.value.Under.TheVariants as under
-use Rattle.csdl_lists.specs.declared.raw.RawEnum.{RawEnum}
-use Rattle.csdl_lists.specs.declared.raw.RawMember.{RawMember}
+use Rattle.csdl_names.specs.declared.csdl_lists.raw.RawEnum.{RawEnum}
+use Rattle.csdl_names.specs.declared.csdl_lists.raw.RawMember.{RawMember}
 use Rattle.csdl_types.specs.declared.simple.Simple.{Simple}
 use Rattle.csdl_types.specs.declared.simple.Simple.TheVariants.{Byte, Int16, Int32, Int64, Boolean, Text, Binary}
 use Rattle.csdl_types.specs.Simple.{simple_of}

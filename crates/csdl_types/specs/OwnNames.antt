@@ -1,8 +1,8 @@
 -- How inherited names are found: by the places of a type's own names, which are known.
 use Rattle.std.specs.Prelude.{◌≡◌, ◌⊎◌, ℕ, List, [], Contains, Option, Some}
 use Rattle.emc_base.specs.Lists.{At}
-use Rattle.least_fault.specs.Least.{Among}
-use Rattle.csdl_lists.specs.declared.raw.RawType.{RawType}
+use Rattle.groupings.specs.least_fault.Least.{Among}
+use Rattle.csdl_names.specs.declared.csdl_lists.raw.RawType.{RawType}
 use Rattle.csdl_types.specs.Inherited.{IsInherited}
 
 -- the type has no name of its own: neither a property nor a navigation property

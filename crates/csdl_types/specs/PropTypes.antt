@@ -7,13 +7,13 @@ use Rattle.emc_base.specs.declared.value.Value.TheVariants.{Whole}
 use Rattle.json_form.specs.declared.pointer.Step.TheVariants.{Member}
 use Rattle.layouts.specs.declared.fault.Fault.{Fault}
 use Rattle.layouts.specs.declared.rule.Rule.TheVariants.{PropertyType, Bound}
-use Rattle.rule_places.specs.Places.{IsAt, InList}
+use Rattle.layouts.specs.rule_places.Places.{IsAt, InList}
 use Rattle.round_trip.specs.soundness.Kinds.{largest_bound, under_kind}
-use Rattle.csdl_lists.specs.declared.raw.RawBound.{RawBound}
-use Rattle.csdl_lists.specs.declared.raw.RawBound.TheVariants.{Absent, Max, Number}
-use Rattle.csdl_lists.specs.declared.raw.RawEnum.{RawEnum}
-use Rattle.csdl_lists.specs.declared.raw.RawProp.{RawProp}
-use Rattle.csdl_lists.specs.declared.raw.RawType.{RawType}
+use Rattle.csdl_names.specs.declared.csdl_lists.raw.RawBound.{RawBound}
+use Rattle.csdl_names.specs.declared.csdl_lists.raw.RawBound.TheVariants.{Absent, Max, Number}
+use Rattle.csdl_names.specs.declared.csdl_lists.raw.RawEnum.{RawEnum}
+use Rattle.csdl_names.specs.declared.csdl_lists.raw.RawProp.{RawProp}
+use Rattle.csdl_names.specs.declared.csdl_lists.raw.RawType.{RawType}
 use Rattle.csdl_types.specs.declared.simple.Simple.{Simple}
 use Rattle.csdl_types.specs.declared.simple.Simple.TheVariants.{Text, Binary}
 use Rattle.csdl_types.specs.Numbers.{numbers_of, under_of}

@@ -1,10 +1,10 @@
 -- The rules on types, on their properties and on enumeration types: V8 to V13.
 use Rattle.std.specs.Prelude.{ℕ, ◌⊎◌, codes}
 use Rattle.layouts.specs.declared.fault.Fault.{Fault}
-use Rattle.rule_places.specs.Places.{InList}
-use Rattle.csdl_lists.specs.declared.raw.RawModel.{RawModel}
-use Rattle.csdl_lists.specs.declared.raw.RawType.{RawType}
-use Rattle.csdl_lists.specs.References.{Names, base_of, names_in}
+use Rattle.layouts.specs.rule_places.Places.{InList}
+use Rattle.csdl_names.specs.declared.csdl_lists.raw.RawModel.{RawModel}
+use Rattle.csdl_names.specs.declared.csdl_lists.raw.RawType.{RawType}
+use Rattle.csdl_names.specs.csdl_lists.References.{Names, base_of, names_in}
 use Rattle.csdl_types.specs.Keys.{IsKeyFault, IsKeyPropFault}
 use Rattle.csdl_types.specs.Inherited.{IsAncestorFault, IsInheritedNameFault}
 use Rattle.csdl_types.specs.PropTypes.{IsBoundFault, IsEnumFault, IsPropTypeFault}

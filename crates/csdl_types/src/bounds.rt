@@ -1,15 +1,14 @@
 ghost use Rattle.std.specs.Prelude.{◌≡◌, ◌↔◌, IfOk, IsTrue};
-ghost use Rattle.least_fault.specs.Least.{IsLeast};
+ghost use Rattle.groupings.specs.least_fault.Least.{IsLeast};
 ghost use Rattle.layouts.specs.Faults.{fault_cmp};
 ghost use Rattle.csdl_types.specs.Simple.{simple_of};
 ghost use Rattle.csdl_types.specs.PropTypes.{BreaksBound, HasLength, IsBoundFault, IsNoBound};
 
 use crate::simple::{Simple, simple_of};
-use csdl_lists::{RawBound, RawProp, RawType};
+use csdl_names::{RawBound, RawProp, RawType};
 use emc_base::Memory;
-use layouts::{Fault, Rule};
-use least_fault::Finder;
-use rule_places::{fault_if, first_in_list};
+use groupings::Finder;
+use layouts::{Fault, Rule, fault_if, first_in_list};
 use std::alloc::Global;
 
 /// The largest bound of a text or a byte list.

@@ -1,15 +1,14 @@
 ghost use Rattle.std.specs.Prelude.{◌≡◌, ◌↔◌, IfOk, IsTrue, [], MatchOption, Option, None};
-ghost use Rattle.least_fault.specs.Least.{IsLeast};
+ghost use Rattle.groupings.specs.least_fault.Least.{IsLeast};
 ghost use Rattle.layouts.specs.Faults.{fault_cmp};
 ghost use Rattle.csdl_types.specs.Numbers.{numbers_of, under_of};
 ghost use Rattle.csdl_types.specs.PropTypes.{IsEnumFault, IsMemberFault, IsUnderFault, IsWithoutMembersFault};
 
 use crate::numbers::{is_outside, numbers_of, under_of};
-use csdl_lists::RawEnum;
+use csdl_names::RawEnum;
 use emc_base::{Memory, Under};
-use layouts::{Fault, Rule};
-use least_fault::{Finder, earlier};
-use rule_places::{fault_here_if, fault_if, first_in_list};
+use groupings::{Finder, earlier};
+use layouts::{Fault, Rule, fault_here_if, fault_if, first_in_list};
 use std::alloc::Global;
 
 /// V12: whether the number of a member lies outside of what underlies its enumeration.

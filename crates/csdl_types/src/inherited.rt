@@ -1,21 +1,19 @@
 ghost use Rattle.std.specs.Prelude.{◌≡◌, ◌↔◌, ℕ, length, Contains, IfOk, IsTrue};
 ghost use Rattle.std.specs.Ordering.{nat_cmp};
-ghost use Rattle.base_chains.specs.Chains.{base_at, IsAncestor, StaysWithin};
-ghost use Rattle.least_fault.specs.Least.{Among, IsLeast};
+ghost use Rattle.graphs.specs.base_chains.Chains.{base_at, IsAncestor, StaysWithin};
+ghost use Rattle.groupings.specs.least_fault.Least.{Among, IsLeast};
 ghost use Rattle.layouts.specs.Faults.{fault_cmp};
-ghost use Rattle.name_places.specs.GivenNames.{first_place};
-ghost use Rattle.name_places.specs.PlacesIn.{place_in};
-ghost use Rattle.rule_places.specs.Places.{InList};
+ghost use Rattle.groupings.specs.name_places.GivenNames.{first_place};
+ghost use Rattle.groupings.specs.name_places.PlacesIn.{place_in};
+ghost use Rattle.layouts.specs.rule_places.Places.{InList};
 ghost use Rattle.csdl_types.specs.Inherited.{IsInheritedFault, IsInheritedNameFault, IsInNamesFault};
 ghost use Rattle.csdl_types.specs.OwnNames.{DeclaresNone, IsItemAbove, IsPlaceOfName};
 
-use base_chains::places_above;
-use csdl_lists::{RawNav, RawProp, RawType};
+use csdl_names::{RawNav, RawProp, RawType};
 use emc_base::Memory;
-use layouts::{Fault, Rule};
-use least_fault::{Finder, earlier, first_among};
-use name_places::{Named, Places, first_places};
-use rule_places::fault_at_item;
+use graphs::places_above;
+use groupings::{Finder, Named, Places, earlier, first_among, first_places};
+use layouts::{Fault, Rule, fault_at_item};
 use std::alloc::Global;
 
 /// Looks for names among those whose places are known: finds the place of each.
@@ -26,7 +24,7 @@ struct OwnNames<'a> {
 
 impl<'a, T: Named> Finder<T, usize> for OwnNames<'a> {
     ghost use Rattle.std.specs.Prelude.{◌≡◌, Some};
-    ghost use Rattle.name_places.specs.PlacesIn.{place_in};
+    ghost use Rattle.groupings.specs.name_places.PlacesIn.{place_in};
 
     ghost wrong = { λ s _ item place. place_in s.own.now (T.name_in item) ≡ Some place };
 
@@ -44,7 +42,7 @@ struct TypesAbove<'a> {
 
 impl<'a> Finder<usize, usize> for TypesAbove<'a> {
     ghost use Rattle.std.specs.Prelude.{slice_get, MatchOption};
-    ghost use Rattle.name_places.specs.PlacesIn.{place_in};
+    ghost use Rattle.groupings.specs.name_places.PlacesIn.{place_in};
     ghost use Rattle.csdl_types.specs.OwnNames.{IsPlaceOfName};
 
     ghost wrong = { λ s _ ancestor place. MatchOption (slice_get s.types.now ancestor) ⊥ (λ type. IsPlaceOfName (place_in s.own.now) type place) };

@@ -1,18 +1,16 @@
 ghost use Rattle.std.specs.Prelude.{◌≡◌, ◌≢◌, ◌↔◌, AllPairs, Contains, List, ℕ, IfOk, IsTrue};
-ghost use Rattle.least_fault.specs.Least.{IsLeast};
+ghost use Rattle.groupings.specs.least_fault.Least.{IsLeast};
 ghost use Rattle.layouts.specs.Faults.{fault_cmp};
-ghost use Rattle.name_places.specs.GivenNames.{first_place};
-ghost use Rattle.name_places.specs.PlacesIn.{place_in};
-ghost use Rattle.csdl_lists.specs.declared.raw.RawProp.{RawProp};
+ghost use Rattle.groupings.specs.name_places.GivenNames.{first_place};
+ghost use Rattle.groupings.specs.name_places.PlacesIn.{place_in};
+ghost use Rattle.csdl_names.specs.declared.csdl_lists.raw.RawProp.{RawProp};
 ghost use Rattle.csdl_types.specs.Keys.{BreaksKey, CanBeKey, HasFailingKeyProp, IsKey, IsKeyFault, IsKeyPropFault, IsKeySimple};
 
 use crate::simple::{Simple, simple_of};
-use csdl_lists::{RawProp, RawType};
+use csdl_names::{RawProp, RawType};
 use emc_base::{Memory, Seq, Txt};
-use layouts::{Fault, Rule};
-use least_fault::Finder;
-use name_places::{Places, first_places};
-use rule_places::{fault_here_if, fault_if, first_in_list};
+use groupings::{Finder, Places, first_places};
+use layouts::{Fault, Rule, fault_here_if, fault_if, first_in_list};
 use std::alloc::Global;
 
 /// The least fault of a type against V9.

@@ -3,7 +3,7 @@ ghost use Rattle.csdl_types.specs.Numbers.{numbers_of, under_of, under_simple};
 ghost use Rattle.csdl_types.specs.PropTypes.{IsOutside};
 
 use crate::simple::{Simple, simple_of};
-use csdl_lists::{RawEnum, RawMember};
+use csdl_names::{RawEnum, RawMember};
 use emc_base::{Memory, Under};
 use std::alloc::Global;
 

@@ -1,15 +1,14 @@
 ghost use Rattle.std.specs.Prelude.{◌≡◌, ◌↔◌, IfOk, IsTrue};
-ghost use Rattle.least_fault.specs.Least.{IsLeast};
+ghost use Rattle.groupings.specs.least_fault.Least.{IsLeast};
 ghost use Rattle.layouts.specs.Faults.{fault_cmp};
-ghost use Rattle.csdl_lists.specs.Scopes.{names_of};
+ghost use Rattle.csdl_names.specs.csdl_lists.Scopes.{names_of};
 ghost use Rattle.csdl_types.specs.PropTypes.{HasNoType, IsPropTypeFault};
 
 use crate::simple::simple_of;
-use csdl_lists::{RawProp, RawType, Scope};
+use csdl_names::{RawProp, RawType, Scope};
 use emc_base::Memory;
-use layouts::{Fault, Rule};
-use least_fault::Finder;
-use rule_places::{fault_if, first_in_list};
+use groupings::Finder;
+use layouts::{Fault, Rule, fault_if, first_in_list};
 use std::alloc::Global;
 
 /// V12: whether a property's Type names nothing.
@@ -19,7 +18,7 @@ struct PropTypes<'a> {
 }
 
 impl<'a> Finder<RawProp, Fault> for PropTypes<'a> {
-    ghost use Rattle.csdl_lists.specs.Scopes.{names_of};
+    ghost use Rattle.csdl_names.specs.csdl_lists.Scopes.{names_of};
     ghost use Rattle.csdl_types.specs.PropTypes.{IsNoTypeFault};
 
     ghost wrong = { λ s _ prop. IsNoTypeFault (names_of s.scope.now).enum_named prop };

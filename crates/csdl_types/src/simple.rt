@@ -1,8 +1,8 @@
 ghost use Rattle.std.specs.Prelude.{◌≡◌};
-ghost use Rattle.csdl_lists.specs.Scopes.{names_of};
+ghost use Rattle.csdl_names.specs.csdl_lists.Scopes.{names_of};
 ghost use Rattle.csdl_types.specs.Simple.{prop_type, simple_named, simple_of};
 
-use csdl_lists::{Scope, rest_after};
+use csdl_names::{Scope, rest_after};
 
 /// A simple type of CSDL, its bound aside.
 #[derive(Clone, Copy, Debug, PartialEq, Eq)]

@@ -1,10 +1,10 @@
 ghost use Rattle.std.specs.Prelude.{◌≡◌, ◌<◌, ◌^◌, length, IfOk};
-ghost use Rattle.base_chains.specs.Chains.{base_at};
-ghost use Rattle.base_chains.specs.Walks.{IsBasesFirst};
+ghost use Rattle.graphs.specs.base_chains.Chains.{base_at};
+ghost use Rattle.graphs.specs.base_chains.Walks.{IsBasesFirst};
 
-use base_chains::chain_sizes;
-use csdl_lists::RawType;
+use csdl_names::RawType;
 use emc_base::Memory;
+use graphs::chain_sizes;
 use std::alloc::Global;
 
 /// How many names all types may have together, each with those of all types above it. Without a bound, a document that is one long chain

@@ -1,9 +1,9 @@
 ghost use Rattle.std.specs.Prelude.{◌≡◌, ℕ, length, IfOk};
-ghost use Rattle.base_chains.specs.Chains.{base_at, IsAncestor, StaysWithin};
-ghost use Rattle.least_fault.specs.Least.{IsLeast};
+ghost use Rattle.graphs.specs.base_chains.Chains.{base_at, IsAncestor, StaysWithin};
+ghost use Rattle.groupings.specs.least_fault.Least.{IsLeast};
 ghost use Rattle.layouts.specs.Faults.{fault_cmp};
-ghost use Rattle.csdl_lists.specs.References.{base_of, names_in};
-ghost use Rattle.csdl_lists.specs.Scopes.{IsScopeOf};
+ghost use Rattle.csdl_names.specs.csdl_lists.References.{base_of, names_in};
+ghost use Rattle.csdl_names.specs.csdl_lists.Scopes.{IsScopeOf};
 ghost use Rattle.csdl_types.specs.TypeRules.{BreaksTypeRules, BreaksLaterRules};
 
 use crate::bounds::first_bound_fault;
@@ -12,12 +12,11 @@ use crate::inherited::first_inherited_fault;
 use crate::keys::{first_key_fault, first_key_prop_fault};
 use crate::prop_types::first_prop_type_fault;
 use crate::sizes::keep_small;
-use base_chains::{Walk, walk_bases};
-use csdl_lists::{RawEnum, RawModel, RawType, Scope, bases_of};
+use csdl_names::{RawEnum, RawModel, RawType, Scope, bases_of};
 use emc_base::Memory;
-use layouts::{Fault, Rule};
-use least_fault::{Finder, earlier};
-use rule_places::{fault_at_item, first_in_list};
+use graphs::{Walk, walk_bases};
+use groupings::{Finder, earlier};
+use layouts::{Fault, Rule, fault_at_item, first_in_list};
 use std::alloc::Global;
 
 /// V9 to V13 of types, of which none is its own ancestor.
@@ -33,7 +32,7 @@ struct LaterRules<'a> {
 }
 
 impl<'a> Finder<RawType, Fault> for LaterRules<'a> {
-    ghost use Rattle.csdl_lists.specs.References.{names_in};
+    ghost use Rattle.csdl_names.specs.csdl_lists.References.{names_in};
     ghost use Rattle.csdl_types.specs.TypeRules.{IsLaterFault};
 
     ghost wrong = { λ s. IsLaterFault (names_in s.model.now) s.model.now };

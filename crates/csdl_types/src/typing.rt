@@ -2,7 +2,7 @@ ghost use Rattle.std.specs.Prelude.{◌≡◌, ℕ, List, Option};
 ghost use Rattle.csdl_types.specs.declared.simple.PropType.{PropType};
 
 use crate::simple::{PropType, prop_type};
-use csdl_lists::Scope;
+use csdl_names::Scope;
 
 /// What the Types of a document's properties name.
 pub trait Typing {
@@ -16,7 +16,7 @@ pub trait Typing {
 
 /// In CSDL a simple type, or an enumeration type of the model.
 impl Typing for Scope {
-    ghost use Rattle.csdl_lists.specs.Scopes.{names_of};
+    ghost use Rattle.csdl_names.specs.csdl_lists.Scopes.{names_of};
     ghost use Rattle.csdl_types.specs.Simple.{types_by};
 
     ghost types = { λ scope. types_by (names_of scope) };

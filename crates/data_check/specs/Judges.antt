@@ -5,10 +5,10 @@ use Rattle.serde_json.specs.Data.{Data}
 use Rattle.round_trip.specs.Words.{Breach, EntityModel, State, StoreModel, Tables}
 use Rattle.csdl_model.specs.ReadsModel.{IsModelOf, ReadsModel}
 use Rattle.ssdl_model.specs.ReadsStore.{IsStoreOf, ReadsStore}
-use Rattle.entity_documents.specs.Reading.{ReadsState}
+use Rattle.data_documents.specs.entity_documents.Reading.{ReadsState}
 use Rattle.state_legality.specs.Tells.{TellsState}
-use Rattle.table_documents.specs.Reading.{ReadsTables}
-use Rattle.table_legality.specs.Tells.{TellsTables}
+use Rattle.data_documents.specs.table_documents.Reading.{ReadsTables}
+use Rattle.table_files.specs.table_legality.Tells.{TellsTables}
 use Rattle.data_check.specs.declared.refusal.Refusal.{Refusal}
 use Rattle.data_check.specs.declared.refusal.Refusal.TheVariants.{Memory, Shape, Vocabulary}
 

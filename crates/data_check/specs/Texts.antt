@@ -5,7 +5,7 @@ use Rattle.serde_json.specs.Written.{compact_text}
 use Rattle.json_form.specs.Trees.{place_tree, quoted}
 use Rattle.round_trip.specs.Words.{Breach}
 use Rattle.edm_types.specs.declared.faults.VocabFault.TheVariants.{Rule}
-use Rattle.shape_faults.specs.declared.fault.ShapeFault.TheVariants as shape
+use Rattle.data_documents.specs.declared.shape_faults.fault.ShapeFault.TheVariants as shape
 use Rattle.data_check.specs.declared.refusal.Refusal.{Refusal}
 use Rattle.data_check.specs.declared.refusal.Refusal.TheVariants.{Shape, Vocabulary}
 use Rattle.data_check.specs.declared.text.DataKind.{DataKind}

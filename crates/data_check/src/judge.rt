@@ -3,12 +3,11 @@ ghost use Rattle.data_check.specs.Judges.{JudgesEntities, JudgesTables};
 
 use crate::refusal::Refusal;
 use csdl_model::read_csdl;
+use data_documents::{state_of_doc, tables_of_doc};
 use edm_types::Breach;
-use entity_documents::state_of_doc;
 use json_form::Doc;
 use ssdl_model::read_ssdl;
 use std::alloc::Global;
-use table_documents::tables_of_doc;
 
 /// The first breach in a document of entities, by the model that a CSDL document means; `None` where they are legal.
 pub fn judge_entities(alloc: Global, csdl: &Doc, entities: &Doc) -> Result<Option<Breach>, Refusal>
@@ -26,6 +25,6 @@ pub fn judge_tables(alloc: Global, ssdl: &Doc, tables: &Doc) -> Result<Option<Br
 {
     let store = read_ssdl(alloc, ssdl)?;
     let rows = tables_of_doc(alloc, tables, &store)?;
-    let breach = table_legality::first_breach(alloc, rows.as_slice(), &store)?;
+    let breach = table_files::first_breach(alloc, rows.as_slice(), &store)?;
     Ok(breach)
 }

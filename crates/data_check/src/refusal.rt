@@ -1,6 +1,6 @@
+use data_documents::ShapeFault;
 use edm_types::VocabFault;
 use emc_base::Memory;
-use shape_faults::ShapeFault;
 
 /// Why a data document isn't judged.
 #[derive(Drop)]

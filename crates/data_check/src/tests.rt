@@ -1,6 +1,6 @@
 use csdl_model::read_csdl;
+use data_documents::state_of_doc;
 use emc_base::Bin;
-use entity_documents::state_of_doc;
 use json_form::Doc;
 use state_legality::is_legal;
 use std::alloc::Global;

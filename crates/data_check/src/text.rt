@@ -2,10 +2,10 @@ ghost use Rattle.std.specs.Prelude.{◌≡◌, IfOk, Some, string_bytes};
 ghost use Rattle.data_check.specs.Texts.{breach_text, form_letter, rule_letter, rule_text, shape_text, told_text};
 
 use crate::refusal::Refusal;
+use data_documents::ShapeFault;
 use edm_types::{Breach, RuleFault, VocabFault};
 use emc_base::Memory;
 use json_form::{place_text, quoted};
-use shape_faults::ShapeFault;
 use std::alloc::Global;
 
 /// What a document holds.

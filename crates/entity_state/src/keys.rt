@@ -5,9 +5,9 @@ ghost use Rattle.round_trip.specs.Words.{key_props, value_of, values_of};
 ghost use Rattle.entity_state.specs.InOrder.{entity_cmp, link_cmp};
 ghost use Rattle.entity_state.specs.Lists.{HasKey};
 
+use crate::entity_values::{has_values, value_at};
 use edm_types::{Entity, EntityModel, Link};
 use emc_base::{Key, PropId, TypeId, Value, compare, compare_keys};
-use entity_values::{has_values, value_at};
 use std::cmp::Ordering;
 
 // The key properties of a type; none where the model has no such type.

@@ -5,3 +5,4 @@ pub mod Nodes
 pub mod Trees
 pub mod Pointers
 pub mod PlaceOrder
+pub mod from_nodes

@@ -8,7 +8,7 @@ use Rattle.std.specs.Ordering.{nat_cmp, ordering_then}
 use Rattle.json_form.specs.declared.pointer.Step.{Step}
 use Rattle.json_form.specs.PlaceOrder.{step_cmp_total}
 use Rattle.json_form.specs.Pointers.{steps_cmp}
-use Rattle.least_fault.specs.Least.{IsLeast}
+use Rattle.groupings.specs.least_fault.Least.{IsLeast}
 use Rattle.layouts.specs.declared.fault.Fault.{Fault}
 use Rattle.layouts.specs.FaultOrder.{fault_cmp_total}
 use Rattle.layouts.specs.Faults.{fault_cmp}

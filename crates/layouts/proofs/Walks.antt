@@ -10,8 +10,8 @@ use Rattle.json_form.specs.declared.pointer.Step.{Step}
 use Rattle.json_form.specs.declared.pointer.Step.TheVariants.{Member, Item}
 use Rattle.json_form.specs.TreeParts.{items_in, members_in}
 use Rattle.json_form.proofs.Views.{shown}
-use Rattle.least_fault.specs.Least.{Among, IsLeast, earlier}
-use Rattle.least_fault.proofs.Leasts.{AmongFirst, least_all, least_more, least_of_both, least_same, least_start}
+use Rattle.groupings.specs.least_fault.Least.{Among, IsLeast, earlier}
+use Rattle.groupings.proofs.least_fault.Leasts.{AmongFirst, least_all, least_more, least_of_both, least_same, least_start}
 use Rattle.layouts.specs.declared.fault.Fault.{Fault}
 use Rattle.layouts.specs.declared.form.Entry.{Entry}
 use Rattle.layouts.specs.declared.form.Form.{Form}

@@ -2,7 +2,7 @@ ghost use Rattle.std.specs.Prelude.{◌≡◌, ◌↔◌, IfOk, IsTrue};
 ghost use Rattle.serde_json.specs.Data.{Data};
 ghost use Rattle.json_form.specs.Members.{HasMember};
 ghost use Rattle.json_form.specs.Nodes.{part_of};
-ghost use Rattle.least_fault.specs.Least.{Among, IsLeast};
+ghost use Rattle.groupings.specs.least_fault.Least.{Among, IsLeast};
 ghost use Rattle.layouts.specs.Faults.{fault_cmp};
 ghost use Rattle.layouts.specs.Forms.{IsRequired, Lacks};
 ghost use Rattle.layouts.specs.Inside.{IsLackFault};
@@ -12,8 +12,8 @@ use crate::form::{Entry, Shape};
 use crate::names::entry_of;
 use crate::rule::Rule;
 use emc_base::{Memory, Txt};
+use groupings::Finder;
 use json_form::{Node, Step};
-use least_fault::Finder;
 use std::alloc::Global;
 
 /// Looks for members that an object lacks.

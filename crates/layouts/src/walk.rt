@@ -3,7 +3,7 @@ ghost use Rattle.serde_json.specs.Find.{as_object};
 ghost use Rattle.serde_json.specs.View.{members_view, view};
 ghost use Rattle.json_form.specs.Nodes.{part_of};
 ghost use Rattle.json_form.specs.TreeParts.{items_in, members_in};
-ghost use Rattle.least_fault.specs.Least.{Among, IsLeast};
+ghost use Rattle.groupings.specs.least_fault.Least.{Among, IsLeast};
 ghost use Rattle.layouts.specs.Faults.{fault_cmp};
 ghost use Rattle.layouts.specs.Forms.{Fits, IsFaultOf, IsSetFlag};
 ghost use Rattle.layouts.specs.Inside.{IsEntryFault, IsItemFault, IsMemberFault, IsPartFault};
@@ -15,8 +15,8 @@ use crate::missing::Missing;
 use crate::names::{entry_of, rows_of};
 use crate::rule::Rule;
 use emc_base::{Memory, Txt};
+use groupings::{earlier, first_among};
 use json_form::{Node, Step};
-use least_fault::{earlier, first_among};
 use serde_json::{Map, Value};
 use std::alloc::Global;
 

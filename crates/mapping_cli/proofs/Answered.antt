@@ -16,7 +16,7 @@ use Rattle.mapping_cli.specs.Gives.{GivesInputs}
 use Rattle.mapping_cli.specs.answers.Answers.{AnswersOn}
 use Rattle.mapping_cli.specs.RunSteps.{EndsWith}
 use Rattle.mapping_cli.specs.Runs.{Ends}
-use Rattle.command_texts.specs.Texts.{usage_text}
+use Rattle.texts.specs.command_texts.Texts.{usage_text}
 use Rattle.mapping_cli.proofs.FilesRead.{as_many}
 
 -- a command with its names has as many as it counts

@@ -14,7 +14,7 @@ use Rattle.mapping_cli.specs.answers.Gives.{GivesBy, GivesLoaded, GivesOn, Gives
 use Rattle.mapping_cli.specs.Gives.{GivesInputs}
 use Rattle.mapping_cli.specs.Inputs.{FailsToRead}
 use Rattle.mapping_cli.specs.Runs.{Ends, Finishes, Runs}
-use Rattle.command_texts.specs.Texts.{usage_text}
+use Rattle.texts.specs.command_texts.Texts.{usage_text}
 use Rattle.mapping_cli.specs.World.{World}
 
 -- a status of a whole text

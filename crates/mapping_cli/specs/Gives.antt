@@ -1,7 +1,7 @@
 -- What the words of a command give: what is printed, the status, and what is left in the files.
 use Rattle.std.specs.Prelude.{◌⊎◌, List, ℕ, Option, MatchOption}
 use Rattle.emc_files.specs.Files.{FileMap}
-use Rattle.command_texts.specs.Texts.{usage_text}
+use Rattle.texts.specs.command_texts.Texts.{usage_text}
 use Rattle.mapping_cli.specs.declared.answers.status.Status.{Status}
 use Rattle.mapping_cli.specs.declared.answers.status.Status.TheVariants.{Usage, FileFault}
 use Rattle.mapping_cli.specs.declared.answers.command.Command.{Command}

@@ -2,7 +2,7 @@
 use Rattle.std.specs.Prelude.{◌≡◌, ◌⊎◌, ℕ, ◌<◌, ◌≤◌, List, [], ◌∷◌, length, take, Option, Some, None, IfSome, codes, ⊤}
 use Rattle.emc_files.specs.Files.{FileMap}
 use Rattle.emc_base.specs.Lists.{At}
-use Rattle.command_texts.specs.Texts.{file_text}
+use Rattle.texts.specs.command_texts.Texts.{file_text}
 
 -- the largest input file, in bytes
 abbrev pub largest_file : ℕ

@@ -10,7 +10,7 @@ use Rattle.mapping_cli.specs.declared.answers.answer.Halt.TheVariants.{Tells, Me
 use Rattle.mapping_cli.specs.declared.answers.status.Status.TheVariants.{FileFault}
 use Rattle.mapping_cli.specs.Inputs.{AreInputs, FailsToRead, IsInput, IsLacking, LacksInput}
 use Rattle.mapping_cli.specs.Runs.{Ends}
-use Rattle.command_texts.specs.Texts.{file_text}
+use Rattle.texts.specs.command_texts.Texts.{file_text}
 
 -- a line on a file is told, or memory ran out
 abbrev pub IsTold : List ℕ → Halt → Type 0

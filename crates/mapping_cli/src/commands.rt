@@ -2,7 +2,7 @@ ghost use Rattle.std.specs.Prelude.{◌≡◌, IfOk};
 ghost use Rattle.emc_files.specs.contracts.files.Files as F;
 ghost use Rattle.emc_files.specs.contracts.sink.Sink as W;
 ghost use Rattle.mapping_cli.specs.declared.answers.status.Status.TheVariants.{Usage};
-ghost use Rattle.command_texts.specs.Texts.{usage_text};
+ghost use Rattle.texts.specs.command_texts.Texts.{usage_text};
 ghost use Rattle.mapping_cli.specs.Runs.{Runs};
 ghost use Rattle.mapping_cli.specs.RunSteps.{EndsWith};
 ghost use Rattle.mapping_cli.specs.World.{world};
@@ -10,10 +10,10 @@ ghost use Rattle.mapping_cli.specs.World.{world};
 use crate::answers::{Answer, Halt, Status, answer_on};
 use crate::inputs::read_inputs;
 use crate::words::{command_of, inputs_of};
-use command_texts::usage_text;
 use emc_base::{Memory, Txt};
 use emc_files::{Files, Sink, SinkFault};
 use std::alloc::Global;
+use texts::usage_text;
 
 /// Does what the words after the program's name ask for. Reads files, prints one text, and tells how it ended.
 pub fn run<F: Files, W: Sink>(alloc: Global, words: &[Txt], files: &mut F, out: &mut W) -> Status

@@ -1,13 +1,13 @@
 ghost use Rattle.std.specs.Prelude.{◌≡◌};
 ghost use Rattle.emc_files.specs.contracts.files.Files as F;
 ghost use Rattle.mapping_cli.specs.RunSteps.{IsTold, ReadsInput, ReadsInputs, TellsReadFault};
-ghost use Rattle.command_texts.specs.Texts.{file_text};
+ghost use Rattle.texts.specs.command_texts.Texts.{file_text};
 
 use crate::answers::{Answer, Halt, Status};
-use command_texts::file_text;
 use emc_base::{Bin, Memory, Seq, Txt};
 use emc_files::{Files, ReadFault};
 use std::alloc::Global;
+use texts::file_text;
 
 /// The largest input file, in bytes.
 const LARGEST_FILE: u64 = 16_777_216;

@@ -8,13 +8,13 @@ use Rattle.std.proofs.lemmas.Option.{slice_get_past}
 use Rattle.emc_base.proofs.Lists.{all_from_members, item_at}
 use Rattle.round_trip.specs.Words.{AreErased, AreLegalTables, ColId, IsErasedRow, IsFree, Row, Schema, State, StoreModel, Table, TableId, Tables, TablesAre, key_columns, rows_in}
 use Rattle.table_files.specs.InOrder.{AreToldApartBy}
-use Rattle.same_states.proofs.SameTables.{tables_moved}
+use Rattle.schema_laws.proofs.same_states.SameTables.{tables_moved}
 use Rattle.regions.specs.Basis.{Basis}
-use Rattle.region_laws.specs.IsBasis.{IsBasis}
+use Rattle.regions.specs.region_laws.IsBasis.{IsBasis}
 use Rattle.case_laws.specs.Reading.{DecidesFree, HasStateTables}
 use Rattle.case_laws.proofs.Settling.{answered, key_named}
-use Rattle.row_differences.specs.SameButFree.{AreSameButFree, HasKeptKeys, HaveRowsApart}
-use Rattle.row_differences.proofs.NoDifference.{columns_of_key, rows_beyond}
+use Rattle.keyed_rows.specs.row_differences.SameButFree.{AreSameButFree, HasKeptKeys, HaveRowsApart}
+use Rattle.keyed_rows.proofs.row_differences.NoDifference.{columns_of_key, rows_beyond}
 
 -- no two rows of legal tables have one primary key
 pub legal_apart : (store : StoreModel) (tables : Tables) → AreLegalTables store tables → HaveRowsApart store tables

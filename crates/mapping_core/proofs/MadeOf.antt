@@ -4,7 +4,7 @@ use Rattle.std.specs.Prelude.{unwrap_or, option_and_then}
 use Rattle.std.specs.Option.{option_map_or}
 use Rattle.round_trip.specs.Words.{Schema}
 use Rattle.member_groups.specs.MemberGroups.{constants_in, group_in, is_tested_in}
-use Rattle.sound_demand.specs.Deriving.{derives}
+use Rattle.schema_laws.specs.sound_demand.Deriving.{derives}
 use Rattle.cells.specs.declared.cells.Cells.{Cells}
 use Rattle.cells.specs.Cells.{is_free_in}
 use Rattle.cells.specs.Parts.{AreParts, schema_in}
@@ -12,9 +12,9 @@ use Rattle.cells.specs.declared.parts.Parts.{Parts}
 use Rattle.regions.specs.declared.region.Region.{Region}
 use Rattle.regions.specs.Basis.{Basis}
 use Rattle.regions.specs.Fitting.{fits}
-use Rattle.region_basis.specs.BasisOf.{basis_of, hosts_in}
+use Rattle.cells.specs.region_basis.BasisOf.{basis_of, hosts_in}
 use Rattle.mapping_core.specs.Accepted.{AreMadeOf}
-use Rattle.set_regions.specs.Regions.{AreRegions}
+use Rattle.region_partition.specs.set_regions.Regions.{AreRegions}
 use Rattle.update_views.specs.Views.{AreViewsOf}
 use Rattle.query_views.specs.Views.{AreQueryViewsOf}
 use Rattle.mapping_core.specs.declared.compiled.MappingViews.{MappingViews}

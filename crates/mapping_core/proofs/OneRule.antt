@@ -5,7 +5,7 @@ use Rattle.emc_base.proofs.Orders.{neither_after}
 use Rattle.layouts.specs.FaultOrder.{fault_cmp_apart, fault_cmp_total}
 use Rattle.layouts.specs.Faults.{fault_cmp}
 use Rattle.round_trip.specs.Words.{RuleFault}
-use Rattle.told_rules.specs.Told.{told_as}
+use Rattle.layouts.specs.told_rules.Told.{told_as}
 use Rattle.mapping_core.specs.Rules.{Breaks, IsToldRule}
 use Rattle.mapping_core.proofs.Told.{same_file}
 

@@ -6,11 +6,11 @@ use Rattle.std.proofs.lemmas.List.{map-id}
 use Rattle.emc_base.proofs.Lists.{all_from_members}
 use Rattle.emc_base.proofs.Mapped.{all_zip-map}
 use Rattle.round_trip.specs.Words.{TableId, ColId, ForeignKey, Null, Row, Schema, State, Tables, AreLegalTables, AreSameTables, HasAllowedNullCells, HasCellsInDomain, HasDemandedCells, IsErasedRow, IsFree, IsLegal, KeepsForeignKey, TablesAre, cell_of, rows_in}
-use Rattle.state_demand.proofs.SameTables.{same_tables}
-use Rattle.same_states.proofs.Reordered.{all_in_any_order}
-use Rattle.row_differences.proofs.OfState.{free_not_demanded}
+use Rattle.schema_laws.proofs.state_demand.SameTables.{same_tables}
+use Rattle.schema_laws.proofs.same_states.Reordered.{all_in_any_order}
+use Rattle.keyed_rows.proofs.row_differences.OfState.{free_not_demanded}
 use Rattle.case_laws.specs.Reading.{HasStateTables}
-use Rattle.table_legality.proofs.Kept.{no_breach}
+use Rattle.table_files.proofs.table_legality.Kept.{no_breach}
 use Rattle.mapping_core.specs.Accepted.{IsAccepted}
 use Rattle.mapping_core.specs.Loads.{Loads}
 use Rattle.mapping_core.specs.GivesBack.{GivesBack}

@@ -4,7 +4,7 @@ use Rattle.std.proofs.lemmas.Option.{slice_get_within}
 use Rattle.round_trip.specs.Words.{Assoc, At, IsLegal, Schema, SetId, State}
 use Rattle.round_trip.specs.TablesAre.{HasNoClash}
 use Rattle.regions.specs.Basis.{Basis}
-use Rattle.region_laws.specs.Partners.{HasFewPartners}
+use Rattle.regions.specs.region_laws.Partners.{HasFewPartners}
 use Rattle.region_states.specs.LoneStates.{HasNoAssociationSets}
 use Rattle.mapping_core.specs.Accepted.{IsAccepted}
 

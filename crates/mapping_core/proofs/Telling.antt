@@ -5,19 +5,19 @@ use Rattle.cells.specs.Cells.{is_free_in}
 use Rattle.cells.specs.Limits.{IsWithinLimits}
 use Rattle.cells.specs.Parts.{AreParts, schema_in}
 use Rattle.cells.specs.declared.parts.Parts.{Parts}
-use Rattle.region_basis.specs.BasisOf.{basis_of}
-use Rattle.region_basis.proofs.Bases.{basis_is}
+use Rattle.cells.specs.region_basis.BasisOf.{basis_of}
+use Rattle.cells.proofs.region_basis.Bases.{basis_is}
 use Rattle.regions.specs.Basis.{Basis}
-use Rattle.region_laws.specs.IsBasis.{IsBasis}
+use Rattle.regions.specs.region_laws.IsBasis.{IsBasis}
 use Rattle.region_states.specs.LoneStates.{HasNoAssociationSets}
-use Rattle.candidates.specs.Candidates.{IsCandidate, IsFirstLack}
-use Rattle.candidate_laws.proofs.FreeCells.{cells_tell}
-use Rattle.candidate_laws.proofs.OwnView.{case_met}
-use Rattle.candidate_laws.proofs.SameCandidate.{legal_too, rows_same, same}
+use Rattle.case_laws.specs.candidates.Candidates.{IsCandidate, IsFirstLack}
+use Rattle.case_laws.proofs.candidate_laws.FreeCells.{cells_tell}
+use Rattle.case_laws.proofs.candidate_laws.OwnView.{case_met}
+use Rattle.case_laws.proofs.candidate_laws.SameCandidate.{legal_too, rows_same, same}
 use Rattle.case_laws.specs.Reading.{DecidesFree, HasStateTables}
-use Rattle.row_differences.specs.Differences.{IsFirstDifference}
-use Rattle.row_differences.specs.SameButFree.{AreSameButFree}
-use Rattle.row_differences.specs.declared.differences.Difference.{Difference}
+use Rattle.keyed_rows.specs.row_differences.Differences.{IsFirstDifference}
+use Rattle.keyed_rows.specs.row_differences.SameButFree.{AreSameButFree}
+use Rattle.keyed_rows.specs.declared.row_differences.differences.Difference.{Difference}
 use Rattle.state_legality.proofs.Joined.{no_first_breach}
 use Rattle.mapping_core.specs.Accepted.{IsAccepted}
 use Rattle.query_views.specs.Answers.{StateOf}

@@ -6,7 +6,7 @@ use Rattle.std.proofs.lemmas.Option.{same_Some}
 use Rattle.std.specs.declared.cmp.Ordering.TheVariants.{Greater}
 use Rattle.serde_json.specs.Data.{Data, null}
 use Rattle.json_form.specs.TreeParts.{tree_at}
-use Rattle.least_fault.specs.Least.{IsLeast}
+use Rattle.groupings.specs.least_fault.Least.{IsLeast}
 use Rattle.layouts.specs.declared.fault.Fault.{Fault}
 use Rattle.layouts.specs.declared.rule.Rule.TheVariants.{IsBuilt, IsJson}
 use Rattle.layouts.specs.Faults.{fault_cmp}
@@ -15,21 +15,21 @@ use Rattle.edm_types.specs.declared.faults.VocabFault.{VocabFault}
 use Rattle.edm_types.specs.declared.faults.VocabFault.TheVariants as read
 use Rattle.edm_types.specs.declared.faults.VocabFile.TheVariants.{Csdl, Ssdl, Msl}
 use Rattle.round_trip.specs.Words.{EntityModel, StoreModel, Mapping, Schema, VocabFile}
-use Rattle.csdl_lists.specs.Raw.{raw_model}
+use Rattle.csdl_names.specs.csdl_lists.Raw.{raw_model}
 use Rattle.csdl_meaning.specs.ModelMeaning.{meaning}
 use Rattle.csdl_model.specs.ModelFaults.{IsModelFault}
 use Rattle.csdl_model.specs.ReadsModel.{IsModelOf}
-use Rattle.ssdl_lists.specs.RawStore.{raw_store}
-use Rattle.ssdl_making.specs.StoreMeaning.{store_meaning}
+use Rattle.ssdl_model.specs.ssdl_lists.RawStore.{raw_store}
+use Rattle.ssdl_model.specs.ssdl_making.StoreMeaning.{store_meaning}
 use Rattle.ssdl_model.specs.ReadsStore.{IsStoreOf}
 use Rattle.ssdl_model.specs.StoreFaults.{IsStoreFault}
-use Rattle.msl_lists.specs.Raw.{raw_mapping}
+use Rattle.msl_rules.specs.msl_lists.Raw.{raw_mapping}
 use Rattle.msl_rules.specs.MappingFaults.{IsMappingFault}
 use Rattle.msl_rules.specs.MappingMeaning.{schema_in}
 use Rattle.msl_fragments.specs.ReadsMapping.{IsMappingOf}
 use Rattle.mapping_core.specs.Accepted.{IsDecided}
-use Rattle.told_rules.specs.Reads.{Answers}
-use Rattle.told_rules.specs.Told.{IsToldOrMemory, told_as}
+use Rattle.layouts.specs.told_rules.Reads.{Answers}
+use Rattle.layouts.specs.told_rules.Told.{IsToldOrMemory, told_as}
 use Rattle.mapping_core.specs.Compiles.{IsReadSchema, ReadsSchema}
 use Rattle.mapping_core.specs.Reading.{IsReadOf, ReadsFile, ReadsTree}
 use Rattle.mapping_core.specs.Rules.{Breaks, IsFaultBy, IsFileFault, IsToldRule, file_number, model_in, schema_of_files, store_in, tree_in}

@@ -8,10 +8,10 @@ use Rattle.cells.specs.declared.parts.Parts.{Parts}
 use Rattle.cells.specs.Cells.{is_free_in}
 use Rattle.cells.specs.Parts.{AreParts, schema_in}
 use Rattle.regions.specs.declared.region.Region.{Region}
-use Rattle.region_basis.specs.BasisOf.{basis_of}
+use Rattle.cells.specs.region_basis.BasisOf.{basis_of}
 use Rattle.region_states.specs.LoneStates.{HasNoAssociationSets}
-use Rattle.mapping_limits.specs.FirstLimit.{IsFirstLimit}
-use Rattle.set_regions.specs.Regions.{AreRegions}
+use Rattle.region_partition.specs.mapping_limits.FirstLimit.{IsFirstLimit}
+use Rattle.region_partition.specs.set_regions.Regions.{AreRegions}
 use Rattle.update_views.specs.Views.{AreViewsOf}
 use Rattle.query_views.specs.declared.views.QueryViews.{QueryViews}
 use Rattle.query_views.specs.Views.{AreQueryViewsOf}

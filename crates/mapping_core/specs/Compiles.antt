@@ -5,8 +5,8 @@ use Rattle.edm_types.specs.declared.faults.VocabFault.TheVariants as read
 use Rattle.round_trip.specs.Words.{Keeps, RoundTrips, Schema}
 use Rattle.round_trip.specs.soundness.Mappings.{IsSoundSchema}
 use Rattle.cells.specs.declared.cells.Cells.{Cells}
-use Rattle.mapping_limits.specs.FirstLimit.{IsFirstLimit}
-use Rattle.mapping_verdict.specs.Words.{IsFailureOf}
+use Rattle.region_partition.specs.mapping_limits.FirstLimit.{IsFirstLimit}
+use Rattle.mapping_core.specs.mapping_verdict.Words.{IsFailureOf}
 use Rattle.mapping_core.specs.declared.compiled.Compiled.{Compiled}
 use Rattle.mapping_core.specs.declared.deciding.Judgement.{Judgement}
 use Rattle.mapping_core.specs.declared.deciding.Judgement.TheVariants as judgement

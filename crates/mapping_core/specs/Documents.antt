@@ -5,11 +5,11 @@ use Rattle.serde_json.specs.Data.{Data}
 use Rattle.json_form.specs.declared.doc.Doc.{Doc}
 use Rattle.json_form.specs.Documents.{tree_of}
 use Rattle.json_form.specs.TreeParts.{tree_at}
-use Rattle.shape_faults.specs.declared.fault.ShapeFault.{ShapeFault}
-use Rattle.shape_faults.specs.declared.fault.ShapeFault.TheVariants.{Shape, Memory}
-use Rattle.entity_documents.specs.DocShapes.{IsDocFault}
-use Rattle.entity_documents.specs.Reading.{FailsFirstAt, MeansState, ReadAs}
-use Rattle.table_documents.specs.Reading as table
+use Rattle.data_documents.specs.declared.shape_faults.fault.ShapeFault.{ShapeFault}
+use Rattle.data_documents.specs.declared.shape_faults.fault.ShapeFault.TheVariants.{Shape, Memory}
+use Rattle.data_documents.specs.entity_documents.DocShapes.{IsDocFault}
+use Rattle.data_documents.specs.entity_documents.Reading.{FailsFirstAt, MeansState, ReadAs}
+use Rattle.data_documents.specs.table_documents.Reading as table
 use Rattle.round_trip.specs.Words.{EntityModel, State, StoreModel, Tables}
 
 -- the document that a file holds; or that it holds none, which is told at the root. Memory says nothing.

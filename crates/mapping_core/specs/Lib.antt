@@ -9,3 +9,4 @@ pub mod Documents
 pub mod Loads
 pub mod ViewsText
 pub mod GivesBack
+pub mod mapping_verdict

@@ -9,18 +9,18 @@ use Rattle.round_trip.specs.TableBreaches.{IsBreachOfTables}
 use Rattle.cells.specs.declared.parts.Parts.{Parts}
 use Rattle.cells.specs.Cells.{is_free_in}
 use Rattle.cells.specs.Parts.{AreParts, schema_in}
-use Rattle.region_basis.specs.BasisOf.{basis_of}
+use Rattle.cells.specs.region_basis.BasisOf.{basis_of}
 use Rattle.update_views.specs.Views.{AreViewsOf}
 use Rattle.query_views.specs.Views.{AreQueryViewsOf}
 use Rattle.mapping_core.specs.declared.compiled.CompiledParts.{CompiledParts}
 use Rattle.mapping_core.specs.Accepted.{IsAccepted}
 use Rattle.regions.specs.Basis.{Basis}
-use Rattle.region_laws.specs.IsBasis.{IsBasis}
+use Rattle.regions.specs.region_laws.IsBasis.{IsBasis}
 use Rattle.case_laws.specs.Reading.{DecidesFree, HasStateTables}
-use Rattle.candidates.specs.Candidates.{IsCandidate, IsFirstLack}
-use Rattle.row_differences.specs.declared.differences.Difference.{Difference}
-use Rattle.row_differences.specs.Differences.{IsFirstDifference}
-use Rattle.row_differences.specs.SameButFree.{AreSameButFree}
+use Rattle.case_laws.specs.candidates.Candidates.{IsCandidate, IsFirstLack}
+use Rattle.keyed_rows.specs.declared.row_differences.differences.Difference.{Difference}
+use Rattle.keyed_rows.specs.row_differences.Differences.{IsFirstDifference}
+use Rattle.keyed_rows.specs.row_differences.SameButFree.{AreSameButFree}
 use Rattle.query_views.specs.declared.fault.StateFault.{StateFault}
 use Rattle.query_views.specs.declared.fault.StateFault.TheVariants as query
 use Rattle.mapping_core.specs.declared.loading.LoadFault.{LoadFault}

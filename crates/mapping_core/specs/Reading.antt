@@ -9,8 +9,8 @@ use Rattle.layouts.specs.declared.rule.Rule.TheVariants.{IsJson}
 use Rattle.edm_types.specs.declared.faults.VocabFault.{VocabFault}
 use Rattle.edm_types.specs.declared.faults.VocabFault.TheVariants.{Rule, Memory}
 use Rattle.round_trip.specs.Words.{VocabFile}
-use Rattle.told_rules.specs.Reads.{Answers}
-use Rattle.told_rules.specs.Told.{told_as}
+use Rattle.layouts.specs.told_rules.Reads.{Answers}
+use Rattle.layouts.specs.told_rules.Told.{told_as}
 use Rattle.mapping_core.specs.Rules.{IsFaultBy}
 
 -- the document that a file holds; or, as it is told, that it holds none

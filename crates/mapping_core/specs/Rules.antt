@@ -8,14 +8,14 @@ use Rattle.json_form.specs.TreeParts.{tree_at}
 use Rattle.layouts.specs.declared.fault.Fault.{Fault}
 use Rattle.layouts.specs.declared.rule.Rule.TheVariants.{IsBuilt, IsJson}
 use Rattle.layouts.specs.Faults.{fault_cmp}
-use Rattle.told_rules.specs.Told.{told_as}
-use Rattle.csdl_lists.specs.Raw.{raw_model}
+use Rattle.layouts.specs.told_rules.Told.{told_as}
+use Rattle.csdl_names.specs.csdl_lists.Raw.{raw_model}
 use Rattle.csdl_meaning.specs.ModelMeaning.{meaning}
 use Rattle.csdl_model.specs.ModelFaults.{IsModelFault}
-use Rattle.ssdl_lists.specs.RawStore.{raw_store}
-use Rattle.ssdl_making.specs.StoreMeaning.{store_meaning}
+use Rattle.ssdl_model.specs.ssdl_lists.RawStore.{raw_store}
+use Rattle.ssdl_model.specs.ssdl_making.StoreMeaning.{store_meaning}
 use Rattle.ssdl_model.specs.StoreFaults.{IsStoreFault}
-use Rattle.msl_lists.specs.Raw.{raw_mapping}
+use Rattle.msl_rules.specs.msl_lists.Raw.{raw_mapping}
 use Rattle.msl_rules.specs.MappingFaults.{IsMappingFault}
 use Rattle.msl_rules.specs.MappingMeaning.{schema_in}
 use Rattle.round_trip.specs.Words.{EntityModel, StoreModel, RuleFault, Schema, VocabFile}

@@ -6,9 +6,9 @@ pub use Rattle.edm_types.specs.declared.schema.Schema.{Schema}
 pub use Rattle.round_trip.specs.Words.{State, Tables, AreLegalTables, AreTables, IsBreachOf, IsLegal, IsState, Keeps, RoundTrips}
 pub use Rattle.round_trip.specs.TableBreaches.{IsBreachOfTables}
 pub use Rattle.round_trip.specs.soundness.Mappings.{IsSoundSchema}
-pub use Rattle.mapping_limits.specs.FirstLimit.{IsFirstLimit}
-pub use Rattle.mapping_verdict.specs.Words.{Failure}
-pub use Rattle.mapping_verdict.specs.Words.{IsFailureOf}
+pub use Rattle.region_partition.specs.mapping_limits.FirstLimit.{IsFirstLimit}
+pub use Rattle.mapping_core.specs.mapping_verdict.Words.{Failure}
+pub use Rattle.mapping_core.specs.mapping_verdict.Words.{IsFailureOf}
 pub use Rattle.mapping_core.specs.declared.loading.LoadFault.{LoadFault}
 pub use Rattle.mapping_core.specs.Accepted.{IsDecided, PassesNoLimit}
 pub use Rattle.mapping_core.specs.Rules.{IsMeant, IsToldRule, Means}

@@ -7,15 +7,14 @@ ghost use Rattle.mapping_core.specs.Compiles.{Decides, Judges};
 ghost use Rattle.mapping_core.specs.Rules.{IsMeant};
 
 use crate::compiled::{Compiled, MappingViews};
+use crate::mapping_verdict::{Failure, first_failure};
 use crate::verdict::Refusal;
 use cells::{Cells, Parts};
 use edm_types::{LimitFault, Schema};
 use emc_base::{Memory, Seq};
-use mapping_limits::first_limit;
-use mapping_verdict::{Failure, first_failure};
 use query_views::QueryViews;
+use region_partition::{first_limit, regions_of_sets};
 use regions::Region;
-use set_regions::regions_of_sets;
 use std::alloc::Global;
 use update_views::UpdateViews;
 

@@ -1,13 +1,11 @@
 ghost use Rattle.mapping_core.specs.Documents.{ReadsDocument, ReadsEntities, ReadsTables};
 
+use data_documents::{ShapeFault, state_of_doc, tables_of_doc};
 use edm_types::{EntityModel, StoreModel};
 use emc_base::{Bin, Txt};
-use entity_documents::state_of_doc;
 use entity_state::EntityState;
 use json_form::{Doc, DocFault};
-use shape_faults::ShapeFault;
 use std::alloc::Global;
-use table_documents::tables_of_doc;
 use table_files::Tables;
 
 /// The state of an entity document. `Shape` comes exactly where the document is of another shape than the model asks for, with the pointer of the first place

@@ -8,13 +8,16 @@ mod deciding;
 mod documents;
 mod loading;
 mod loading_laws;
+mod mapping_verdict;
 mod reading;
 mod storing;
 mod verdict;
 mod viewing;
 
+pub use crate::mapping_verdict::Failure;
 pub use compiled::{Compiled, CompiledParts, MappingViews};
 pub use compiling::compile;
+pub use data_documents::ShapeFault;
 pub use deciding::decide;
 pub use documents::{read_entities, read_tables};
 pub use edm_types::{
@@ -24,10 +27,9 @@ pub use entity_state::EntityState;
 pub use json_form::{Doc, DocFault, place_text, quoted};
 pub use loading::{LoadFault, load};
 pub use loading_laws::what_is_stored_is_loaded;
-pub use mapping_verdict::Failure;
+pub use mapping_verdict::first_failure;
 pub use reading::{one_rule, read};
 pub use round_trip::FailKind;
-pub use shape_faults::ShapeFault;
 pub use storing::{StoreFault, store_all};
 pub use table_files::Tables;
 pub use verdict::{Refusal, Verdict};

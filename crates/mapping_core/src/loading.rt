@@ -6,8 +6,8 @@ use crate::compiled::{Compiled, CompiledParts};
 use edm_types::{Breach, Row};
 use emc_base::{Memory, Place};
 use entity_state::EntityState;
+use keyed_rows::{first_difference, same_tables_have_no_difference};
 use query_views::StateFault;
-use row_differences::{first_difference, same_tables_have_no_difference};
 use state_legality::first_breach;
 use std::alloc::Global;
 use table_files::Tables;
@@ -65,7 +65,7 @@ pub fn load(alloc: Global, compiled: &Compiled, tables: &Tables) -> Result<Entit
 {
     let made = compiled.parts();
     let rows = tables.as_slice();
-    if let Some(breach) = table_legality::first_breach(alloc, rows, made.parts.store)? {
+    if let Some(breach) = table_files::first_breach(alloc, rows, made.parts.store)? {
         return Err(LoadFault::Breach(breach));
     }
     load_legal(alloc, &made, tables)

@@ -17,11 +17,10 @@ use csdl_model::read_csdl;
 use edm_types::{EntityModel, Mapping, RuleFault, Schema, StoreModel, VocabFault, VocabFile};
 use emc_base::Bin;
 use json_form::{Doc, DocFault};
-use layouts::{Fault, Rule};
+use layouts::{Fault, Rule, told};
 use msl_fragments::read_msl;
 use ssdl_model::read_ssdl;
 use std::alloc::Global;
-use told_rules::told;
 
 /// The law that no two different rules are told of three documents.
 pub fn one_rule()

@@ -1,5 +1,5 @@
+use crate::mapping_verdict::Failure;
 use edm_types::{LimitFault, RuleFault, Schema, VocabFault};
-use mapping_verdict::Failure;
 
 /// Why a schema is not accepted. It is given back, so that what is told can be told by its names.
 #[derive(Drop)]

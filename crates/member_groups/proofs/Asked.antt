@@ -4,14 +4,14 @@ use Rattle.std.proofs.lemmas.List.Elements.{Contains-append_cases, Contains-appe
 use Rattle.round_trip.specs.Words.{PropId, TableId, Value, Pair, LinkFragment, Cond, Test, Schema}
 use Rattle.edm_types.specs.declared.mapping.Test.TheVariants.{Equals, IsNull}
 use Rattle.round_trip.specs.soundness.Joined.{Member, col, prop, member_of}
-use Rattle.mapping_asks.specs.declared.asks.Ask.{Ask}
-use Rattle.mapping_asks.specs.declared.member.MemberId.{MemberId}
-use Rattle.mapping_asks.specs.declared.member.MemberId.TheVariants.{Column, Prop}
-use Rattle.mapping_asks.specs.Adding.{Each}
-use Rattle.mapping_asks.specs.Asks.{Asks, AsksByLink, ask_by, constant_in, id_of, member_at}
-use Rattle.mapping_asks.specs.Several.{StandsWithTwo}
+use Rattle.member_groups.specs.declared.mapping_asks.asks.Ask.{Ask}
+use Rattle.member_groups.specs.declared.mapping_asks.member.MemberId.{MemberId}
+use Rattle.member_groups.specs.declared.mapping_asks.member.MemberId.TheVariants.{Column, Prop}
+use Rattle.member_groups.specs.mapping_asks.Adding.{Each}
+use Rattle.member_groups.specs.mapping_asks.Asks.{Asks, AsksByLink, ask_by, constant_in, id_of, member_at}
+use Rattle.member_groups.specs.mapping_asks.Several.{StandsWithTwo}
 use Rattle.member_groups.specs.Tested.{HasCondition, IsAsked, IsComparedWith, IsImplied, IsWrittenTo, IsWrittenTwice, MakesTested}
-use Rattle.mapping_asks.specs.Writes.{WritesBy}
+use Rattle.member_groups.specs.mapping_asks.Writes.{WritesBy}
 
 -- ids tell properties and columns
 pub at_id : (member : Member) → member_at (id_of member) ≡ member

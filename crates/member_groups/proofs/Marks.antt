@@ -9,9 +9,9 @@ use Rattle.emc_base.specs.declared.value.EnumKind.{EnumKind}
 use Rattle.emc_base.specs.declared.value.Kind.TheVariants.{Byte, Int16, Int32, Int64, Boolean, Text, Binary, Enum}
 use Rattle.round_trip.specs.Words.{GroupId, Kind, PropId}
 use Rattle.round_trip.specs.soundness.Joined.{prop}
-use Rattle.group_numbers.specs.declared.numbered.Numbered.{Numbered}
-use Rattle.mapping_asks.specs.Adding.{HasKey}
-use Rattle.group_numbers.specs.Joint.{IsJointAt, joint_in}
+use Rattle.member_groups.specs.declared.group_numbers.numbered.Numbered.{Numbered}
+use Rattle.member_groups.specs.mapping_asks.Adding.{HasKey}
+use Rattle.member_groups.specs.group_numbers.Joint.{IsJointAt, joint_in}
 use Rattle.member_groups.specs.Causes.{makes_tested, mark_by}
 
 -- one of two tests says yes

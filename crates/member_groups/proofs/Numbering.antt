@@ -12,14 +12,14 @@ use Rattle.round_trip.specs.Words.{GroupId, Schema, Table, TableId, At}
 use Rattle.round_trip.specs.soundness.Joined.{IsNoKey, Joined, Member, col, prop}
 use Rattle.round_trip.specs.soundness.Joined as joined
 use Rattle.round_trip.specs.soundness.Lookups.{columns_of}
-use Rattle.joined_groups.specs.Groups.{AreGroups, group_of}
-use Rattle.joined_groups.specs.Labels.{label_eq, label_of}
-use Rattle.joined_groups.specs.declared.labels.Label.{Label}
-use Rattle.joined_groups.proofs.Grouping.{joined_free}
-use Rattle.joined_groups.proofs.Labelled.{equals_label, one_label}
-use Rattle.group_numbers.specs.declared.numbered.Numbered.{Numbered}
-use Rattle.group_numbers.specs.Joint.{IsJointAt}
-use Rattle.group_numbers.specs.Numbers.{AreNumbers, number_in}
+use Rattle.member_groups.specs.joined_groups.Groups.{AreGroups, group_of}
+use Rattle.member_groups.specs.joined_groups.Labels.{label_eq, label_of}
+use Rattle.member_groups.specs.declared.joined_groups.labels.Label.{Label}
+use Rattle.member_groups.proofs.joined_groups.Grouping.{joined_free}
+use Rattle.member_groups.proofs.joined_groups.Labelled.{equals_label, one_label}
+use Rattle.member_groups.specs.declared.group_numbers.numbered.Numbered.{Numbered}
+use Rattle.member_groups.specs.group_numbers.Joint.{IsJointAt}
+use Rattle.member_groups.specs.group_numbers.Numbers.{AreNumbers, number_in}
 use Rattle.member_groups.specs.Tested.{AreInOneGroup, IsMember}
 
 -- where no label comes twice it stands at one place

@@ -3,9 +3,9 @@ use Rattle.std.proofs.Common.{◌≡◌, ℕ, List, Option, Some, None, sym, ap,
 use Rattle.std.proofs.lemmas.Option.{same_Some}
 use Rattle.emc_base.proofs.Lists.{at_once}
 use Rattle.round_trip.specs.Words.{GroupId, Prop, At}
-use Rattle.mapping_asks.specs.declared.member.MemberId.{MemberId}
-use Rattle.mapping_asks.specs.Adding.{Tells}
-use Rattle.group_numbers.proofs.Joint.{one_joint}
+use Rattle.member_groups.specs.declared.mapping_asks.member.MemberId.{MemberId}
+use Rattle.member_groups.specs.mapping_asks.Adding.{Tells}
+use Rattle.member_groups.proofs.group_numbers.Joint.{one_joint}
 
 -- a property or a column stands with just the number of its group
 pub one_stands : (found : Option GroupId) (member : MemberId) (group : GroupId) → found ≡ Some group

@@ -7,22 +7,22 @@ use Rattle.emc_base.specs.declared.value.EnumKind.{EnumKind}
 use Rattle.emc_base.proofs.Lists.{item_at}
 use Rattle.round_trip.specs.Words.{GroupId, Prop, PropId, Schema, Value, Whole, At}
 use Rattle.round_trip.specs.soundness.Joined.{IsNoKey, Joined, Member, col, prop}
-use Rattle.joined_groups.specs.Groups.{AreGroups}
-use Rattle.mapping_asks.specs.declared.asks.Ask.{Ask}
-use Rattle.mapping_asks.specs.declared.member.MemberId.TheVariants as id
-use Rattle.group_numbers.specs.declared.numbered.Numbered.{Numbered}
-use Rattle.mapping_asks.specs.Adding.{Each, EachBelow, HasKey, Tells}
-use Rattle.mapping_asks.specs.Asks.{Asks, member_at}
-use Rattle.group_constants.specs.Constants.{IsValueOf, ListsGroups}
-use Rattle.group_numbers.specs.Joint.{IsJointAt}
+use Rattle.member_groups.specs.joined_groups.Groups.{AreGroups}
+use Rattle.member_groups.specs.declared.mapping_asks.asks.Ask.{Ask}
+use Rattle.member_groups.specs.declared.mapping_asks.member.MemberId.TheVariants as id
+use Rattle.member_groups.specs.declared.group_numbers.numbered.Numbered.{Numbered}
+use Rattle.member_groups.specs.mapping_asks.Adding.{Each, EachBelow, HasKey, Tells}
+use Rattle.member_groups.specs.mapping_asks.Asks.{Asks, member_at}
+use Rattle.member_groups.specs.group_constants.Constants.{IsValueOf, ListsGroups}
+use Rattle.member_groups.specs.group_numbers.Joint.{IsJointAt}
 use Rattle.member_groups.specs.MemberGroups.{TellsMemberGroups}
-use Rattle.group_numbers.specs.Numbers.{AreNumbers, number_in}
-use Rattle.mapping_asks.specs.Several.{StandsWithTwo}
+use Rattle.member_groups.specs.group_numbers.Numbers.{AreNumbers, number_in}
+use Rattle.member_groups.specs.mapping_asks.Several.{StandsWithTwo}
 use Rattle.member_groups.specs.Tested.{IsConstant, IsOfEnum, IsTested, MakesTested, SharesEnum}
 use Rattle.member_groups.specs.Causes.{AreTested, AsksGroup, IsSharer, MarksGroup}
 use Rattle.member_groups.proofs.Asked.{asked_listed, asked_tests, asks_what, compared_listed, compares_with, implied_asks, written_twice}
 use Rattle.member_groups.proofs.Marks.{HasCause, kind_from, kind_told, mark_from, mark_told}
-use Rattle.group_constants.proofs.Entries.{numbers_from, numbers_told}
+use Rattle.member_groups.proofs.group_constants.Entries.{numbers_from, numbers_told}
 use Rattle.member_groups.proofs.Numbering.{free_member, joint_parts, joint_told, number_below, only_number, same_number, some_number}
 
 module _ (schema : Schema) (numbered : Numbered) (are_groups : AreGroups schema numbered.groups) (are : AreNumbers numbered.groups schema.model schema.store numbered.numbers) where

@@ -6,14 +6,14 @@ use Rattle.std.specs.Ordering.{nat_cmp}
 use Rattle.round_trip.specs.Words.{PropId, Kind, EntityModel, Prop, Mapping, At}
 use Rattle.emc_base.specs.declared.value.Kind.TheVariants as kind
 use Rattle.round_trip.specs.soundness.Joined.{prop}
-use Rattle.mapping_asks.specs.declared.asks.Ask.{Ask}
-use Rattle.mapping_asks.specs.declared.member.MemberId.{MemberId}
-use Rattle.group_numbers.specs.declared.numbered.Numbered.{Numbered}
-use Rattle.mapping_asks.specs.Adding.{Each, EachBelow, HasKey, Tells}
-use Rattle.mapping_asks.specs.Asks.{id_of, member_at}
-use Rattle.group_numbers.specs.Joint.{IsJointAt, joint_in}
-use Rattle.mapping_asks.specs.Several.{StandsWithTwo}
-use Rattle.mapping_asks.specs.Writes.{WritesBy}
+use Rattle.member_groups.specs.declared.mapping_asks.asks.Ask.{Ask}
+use Rattle.member_groups.specs.declared.mapping_asks.member.MemberId.{MemberId}
+use Rattle.member_groups.specs.declared.group_numbers.numbered.Numbered.{Numbered}
+use Rattle.member_groups.specs.mapping_asks.Adding.{Each, EachBelow, HasKey, Tells}
+use Rattle.member_groups.specs.mapping_asks.Asks.{id_of, member_at}
+use Rattle.member_groups.specs.group_numbers.Joint.{IsJointAt, joint_in}
+use Rattle.member_groups.specs.mapping_asks.Several.{StandsWithTwo}
+use Rattle.member_groups.specs.mapping_asks.Writes.{WritesBy}
 
 -- the group of what is asked has the number
 abbrev pub AsksGroup : Numbered → Ask → ℕ → Type 0

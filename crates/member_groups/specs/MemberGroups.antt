@@ -6,8 +6,8 @@ use Rattle.std.specs.Ordering.{nat_cmp}
 use Rattle.round_trip.specs.Words.{GroupId, Value, Schema}
 use Rattle.round_trip.specs.soundness.Joined.{Member}
 use Rattle.member_groups.specs.declared.groups.MemberGroups.{MemberGroups}
-pub use Rattle.group_constants.specs.Constants.{ListsJust}
-use Rattle.group_numbers.specs.Numbers.{number_in}
+pub use Rattle.member_groups.specs.group_constants.Constants.{ListsJust}
+use Rattle.member_groups.specs.group_numbers.Numbers.{number_in}
 use Rattle.member_groups.specs.Tested.{AreInOneGroup, IsConstant, IsMember, IsTested}
 
 -- the group of a property or a column

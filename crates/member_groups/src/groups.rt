@@ -1,16 +1,16 @@
 ghost use Rattle.std.specs.Prelude.{◌≡◌, IfOk};
 ghost use Rattle.std.specs.Option.{option_copied};
 ghost use Rattle.round_trip.specs.soundness.Joined.{prop, col};
-ghost use Rattle.link_places.specs.Between.{schema_of};
+ghost use Rattle.table_owners.specs.link_places.Between.{schema_of};
 ghost use Rattle.member_groups.specs.MemberGroups.{TellsMemberGroups, constants_in, group_in, is_tested_in};
 
+use crate::group_constants::constants_of;
+use crate::group_numbers::{Numbered, Numbers};
+use crate::joined_groups::Groups;
+use crate::mapping_asks::asks_of;
 use crate::tested::tested_groups;
 use edm_types::{EntityModel, Mapping, StoreModel};
 use emc_base::{ColId, GroupId, Memory, PropId, Seq, TableId, Value};
-use group_constants::constants_of;
-use group_numbers::{Numbered, Numbers};
-use joined_groups::Groups;
-use mapping_asks::asks_of;
 use std::alloc::Global;
 use std::collections::BTreeSet;
 

@@ -1,11 +1,11 @@
 ghost use Rattle.std.specs.Prelude.{◌≡◌, Contains, IfOk, length};
-ghost use Rattle.mapping_asks.specs.Adding.{Adds, Each, EachBelow, HasKey, Tells};
+ghost use Rattle.member_groups.specs.mapping_asks.Adding.{Adds, Each, EachBelow, HasKey, Tells};
 ghost use Rattle.member_groups.specs.Causes.{AreTested, AsksGroup, IsSharer, MarksGroup, makes_tested, mark_by};
 
+use crate::group_numbers::Numbered;
+use crate::mapping_asks::{Ask, MemberId, with_several, writes_of};
 use edm_types::{EntityModel, Mapping};
 use emc_base::{Kind, Memory, PropId};
-use group_numbers::Numbered;
-use mapping_asks::{Ask, MemberId, with_several, writes_of};
 use std::alloc::Global;
 use std::collections::BTreeSet;
 

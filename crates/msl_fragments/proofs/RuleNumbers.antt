@@ -7,21 +7,21 @@ use Rattle.layouts.specs.declared.fault.Fault.{Fault}
 use Rattle.layouts.specs.declared.rule.Rule.{Rule}
 use Rattle.layouts.specs.declared.rule.Rule.TheVariants as rule
 use Rattle.layouts.specs.Rules.{rule_number}
-use Rattle.rule_places.specs.Places.{InList, IsAt}
-use Rattle.rule_places.proofs.Rules.{after_number, rule_behind, rule_inside, rule_where}
+use Rattle.layouts.specs.rule_places.Places.{InList, IsAt}
+use Rattle.layouts.proofs.rule_places.Rules.{after_number, rule_behind, rule_inside, rule_where}
 use Rattle.csdl_names.specs.Repeated.{IsGivenAgain, IsRepeatedIn}
 use Rattle.csdl_names.specs.Unresolved.{NamesNothing}
 use Rattle.round_trip.specs.Words.{PropId, EntityModel, StoreModel, EntitySet, Assoc, End, Schema}
 use Rattle.schema_names.specs.SchemaNames.{set_named, association_set_named, table_named, column_named}
-use Rattle.msl_lists.specs.declared.raw.RawPick.{RawPick}
-use Rattle.msl_lists.specs.declared.raw.RawPair.{RawPair}
-use Rattle.msl_lists.specs.declared.raw.RawCond.{RawCond}
-use Rattle.msl_lists.specs.declared.raw.RawFragment.{RawFragment}
-use Rattle.msl_lists.specs.declared.raw.RawTypeMapping.{RawTypeMapping}
-use Rattle.msl_lists.specs.declared.raw.RawSetMapping.{RawSetMapping}
-use Rattle.msl_lists.specs.declared.raw.RawEndMapping.{RawEndMapping}
-use Rattle.msl_lists.specs.declared.raw.RawLinkMapping.{RawLinkMapping}
-use Rattle.msl_lists.specs.declared.raw.RawMapping.{RawMapping}
+use Rattle.msl_rules.specs.declared.msl_lists.raw.RawPick.{RawPick}
+use Rattle.msl_rules.specs.declared.msl_lists.raw.RawPair.{RawPair}
+use Rattle.msl_rules.specs.declared.msl_lists.raw.RawCond.{RawCond}
+use Rattle.msl_rules.specs.declared.msl_lists.raw.RawFragment.{RawFragment}
+use Rattle.msl_rules.specs.declared.msl_lists.raw.RawTypeMapping.{RawTypeMapping}
+use Rattle.msl_rules.specs.declared.msl_lists.raw.RawSetMapping.{RawSetMapping}
+use Rattle.msl_rules.specs.declared.msl_lists.raw.RawEndMapping.{RawEndMapping}
+use Rattle.msl_rules.specs.declared.msl_lists.raw.RawLinkMapping.{RawLinkMapping}
+use Rattle.msl_rules.specs.declared.msl_lists.raw.RawMapping.{RawMapping}
 use Rattle.msl_rules.specs.Found.{prop_of_picks, role_end}
 use Rattle.msl_rules.specs.MappingMeaning.{schema_in}
 use Rattle.msl_rules.specs.NameRules.{HasOtherContainer, IsMappedTwice, IsPickedFault, IsSharedFault, IsSharedTypesFault, IsTypeNameFault, IsUnresolvedEnd, IsUnresolvedFragment, IsUnresolvedLink, IsUnresolvedName, IsUnresolvedSet, IsUnresolvedTypes, IsUnsharedName, BreaksTypeNameRules, LacksColumn, LacksColumns, LacksCondColumn, LacksEndColumns, LacksProp}

@@ -1,15 +1,15 @@
 -- A document that breaks no rule means a mapping that is sound with its model and its store.
 use Rattle.std.proofs.Common.{◌≡◌, inr, None, All, length, sym, subst}
 use Rattle.serde_json.specs.Data.{Data}
-use Rattle.least_fault.specs.Least.{IsLeast}
+use Rattle.groupings.specs.least_fault.Least.{IsLeast}
 use Rattle.layouts.specs.Faults.{fault_cmp}
 use Rattle.round_trip.specs.Words.{EntityModel, StoreModel, Mapping}
 use Rattle.round_trip.specs.soundness.Mappings.{IsSoundSchema}
 use Rattle.round_trip.specs.soundness.Models.{IsSoundModel}
 use Rattle.round_trip.specs.soundness.Stores.{IsSoundStore}
-use Rattle.link_places.specs.Between.{schema_of}
-use Rattle.msl_lists.specs.declared.raw.RawMapping.{RawMapping}
-use Rattle.msl_lists.specs.Raw.{raw_mapping}
+use Rattle.table_owners.specs.link_places.Between.{schema_of}
+use Rattle.msl_rules.specs.declared.msl_lists.raw.RawMapping.{RawMapping}
+use Rattle.msl_rules.specs.msl_lists.Raw.{raw_mapping}
 use Rattle.msl_rules.specs.KeepsMapping.{HasFewItems, KeepsMappingRules}
 use Rattle.msl_rules.specs.MappingFaults.{IsMappingFault}
 use Rattle.msl_rules.specs.MappingMeaning.{mapping_in, schema_in}

@@ -3,9 +3,9 @@ use Rattle.std.proofs.Common.{◌≡◌, ⊎_elim, ◌<◌, ◌≤◌, ap, arith
 use Rattle.layouts.specs.declared.fault.Fault.{Fault}
 use Rattle.layouts.specs.declared.rule.Rule.TheVariants.{ContainerName, NamedOnce, Resolves}
 use Rattle.layouts.specs.Rules.{rule_number}
-use Rattle.rule_places.proofs.Rules.{after_number}
+use Rattle.layouts.proofs.rule_places.Rules.{after_number}
 use Rattle.round_trip.specs.Words.{EntityModel, StoreModel}
-use Rattle.msl_lists.specs.declared.raw.RawMapping.{RawMapping}
+use Rattle.msl_rules.specs.declared.msl_lists.raw.RawMapping.{RawMapping}
 use Rattle.msl_rules.specs.NameRules.{BreaksTypeNameRules, HasOtherContainer, IsMappedTwice, IsUnresolvedName}
 use Rattle.msl_rules.specs.MappingFaults.{BreaksMappingRules, IsFaultAfterNames, IsMappingListFault}
 use Rattle.msl_fragments.specs.Steps.{IsFaultAfterContainers, IsFaultAfterTwice}

@@ -10,7 +10,7 @@ use Rattle.serde_json.specs.Data.{Data, null}
 use Rattle.serde_json.specs.Find.{get}
 use Rattle.emc_base.specs.Lists.{At}
 use Rattle.emc_base.proofs.Lists.{item_at}
-use Rattle.from_nodes.specs.Reading.{items_at}
+use Rattle.json_form.specs.from_nodes.Reading.{items_at}
 use Rattle.json_form.specs.declared.pointer.Step.{Step}
 use Rattle.json_form.specs.declared.pointer.Step.TheVariants.{Member, Item}
 use Rattle.json_form.specs.TreeParts.{items_in}
@@ -26,8 +26,8 @@ use Rattle.layouts.specs.declared.rule.Rule.{Rule}
 use Rattle.layouts.specs.declared.rule.Rule.TheVariants.{HasForm, HasMembers}
 use Rattle.layouts.specs.Forms.{Breaks, BreaksMember, Fits, IsFaultOf}
 use Rattle.layouts.specs.Layouts.{entry_of}
-use Rattle.msl_lists.specs.declared.raw.RawLinkMapping.{RawLinkMapping}
-use Rattle.msl_lists.specs.Raw.{raw_container, raw_end_mapping, raw_link_mapping, raw_mapping}
+use Rattle.msl_rules.specs.declared.msl_lists.raw.RawLinkMapping.{RawLinkMapping}
+use Rattle.msl_rules.specs.msl_lists.Raw.{raw_container, raw_end_mapping, raw_link_mapping, raw_mapping}
 
 -- from what holds of the item at each place
 all_at : {X : Type 0} (P : X → Type 0) (xs : List X) → ((i : ℕ) (x : X) → At xs i x → P x) → All P xs

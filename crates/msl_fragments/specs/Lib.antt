@@ -1,2 +1,3 @@
 pub mod ReadsMapping
 pub mod Steps
+pub mod msl_owners

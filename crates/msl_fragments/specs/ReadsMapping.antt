@@ -2,13 +2,13 @@
 use Rattle.std.specs.Prelude.{◌≡◌, Result}
 use Rattle.serde_json.specs.Data.{Data}
 use Rattle.layouts.specs.declared.fault.Fault.{Fault}
-use Rattle.told_rules.specs.Reads.{Answers}
+use Rattle.layouts.specs.told_rules.Reads.{Answers}
 use Rattle.edm_types.specs.declared.faults.VocabFault.{VocabFault}
 use Rattle.edm_types.specs.declared.faults.VocabFile.TheVariants.{Msl}
 use Rattle.round_trip.specs.Words.{EntityModel, StoreModel, Mapping}
 use Rattle.round_trip.specs.soundness.Mappings.{IsSoundSchema}
-use Rattle.link_places.specs.Between.{schema_of}
-use Rattle.msl_lists.specs.Raw.{raw_mapping}
+use Rattle.table_owners.specs.link_places.Between.{schema_of}
+use Rattle.msl_rules.specs.msl_lists.Raw.{raw_mapping}
 use Rattle.msl_rules.specs.MappingMeaning.{mapping_in}
 use Rattle.msl_rules.specs.MappingFaults.{IsMappingFault}
 

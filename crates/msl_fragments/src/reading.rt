@@ -1,36 +1,32 @@
 ghost use Rattle.std.specs.Prelude.{◌≡◌, IfOk};
 ghost use Rattle.json_form.specs.Documents.{tree_of};
-ghost use Rattle.least_fault.specs.Least.{IsLeast};
+ghost use Rattle.groupings.specs.least_fault.Least.{IsLeast};
 ghost use Rattle.layouts.specs.Faults.{fault_cmp};
 ghost use Rattle.round_trip.specs.soundness.Models.{IsSoundModel};
 ghost use Rattle.round_trip.specs.soundness.Stores.{IsSoundStore};
-ghost use Rattle.told_rules.specs.Reads.{Reads};
-ghost use Rattle.msl_lists.specs.Raw.{raw_mapping};
+ghost use Rattle.layouts.specs.told_rules.Reads.{Reads};
+ghost use Rattle.msl_rules.specs.msl_lists.Raw.{raw_mapping};
 ghost use Rattle.msl_rules.specs.KeepsMapping.{HasFewItems};
 ghost use Rattle.msl_rules.specs.MappingFaults.{BreaksMappingRules, IsFaultAfterNames, IsMappingFault, IsMappingListFault};
 ghost use Rattle.msl_rules.specs.MappingMeaning.{mapping_in};
 ghost use Rattle.msl_fragments.specs.ReadsMapping.{ReadsMapping};
 ghost use Rattle.msl_fragments.specs.Steps.{IsFaultAfterContainers, IsFaultAfterTwice};
 
-use barred_members::Barred;
+use crate::msl_owners::first_owner_fault;
+use crate::msl_sound::a_mapping_that_breaks_no_rule_is_sound;
 use edm_types::{EntityModel, Mapping, StoreModel, VocabFault, VocabFile};
 use emc_base::Memory;
-use from_nodes::FromNode;
-use json_form::Doc;
-use layouts::{Fault, Form, Shape, first_fault};
-use least_fault::earlier;
-use msl_fragment_rules::first_fragment_fault;
-use msl_link_rules::first_link_fault;
-use msl_lists::RawMapping;
-use msl_making::make_mapping;
-use msl_names::{first_mapped_twice, first_other_container, first_unresolved_name};
-use msl_owners::first_owner_fault;
-use msl_picks::{allow_climbs, first_type_name_fault};
-use msl_sound::a_mapping_that_breaks_no_rule_is_sound;
-use msl_written::Between;
+use groupings::earlier;
+use json_form::{Doc, FromNode};
+use layouts::{Fault, Form, Shape, Stop, first_fault, told};
+use msl_checks::{Barred, Between, first_fragment_fault, first_link_fault};
+use msl_meaning::{
+    allow_climbs, first_mapped_twice, first_other_container, first_type_name_fault,
+    first_unresolved_name, make_mapping,
+};
+use msl_rules::RawMapping;
 use schema_names::SchemaNames;
 use std::alloc::Global;
-use told_rules::{Stop, told};
 
 /// Reads an MSL document between a sound model and a sound store: `Ok` with the mapping that it means, which is sound with both, where it breaks
 /// no rule; else `Rule` with the least rule that it breaks, at its first place. `Memory` comes where memory ran out, and where names are looked up

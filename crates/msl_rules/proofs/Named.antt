@@ -5,12 +5,12 @@ use Rattle.std.proofs.lemmas.Bool.{both_ways}
 use Rattle.std.proofs.lemmas.Option.{same_Some}
 use Rattle.emc_base.specs.Lists.{At}
 use Rattle.json_form.specs.declared.pointer.Step.TheVariants.{Member}
-use Rattle.least_fault.specs.Least.{IsLeast}
-use Rattle.least_fault.proofs.Leasts.{least_same}
+use Rattle.groupings.specs.least_fault.Least.{IsLeast}
+use Rattle.groupings.proofs.least_fault.Leasts.{least_same}
 use Rattle.layouts.specs.declared.fault.Fault.{Fault}
 use Rattle.layouts.specs.declared.rule.Rule.TheVariants.{Resolves}
 use Rattle.layouts.specs.Faults.{fault_cmp}
-use Rattle.rule_places.specs.Places.{IsAt}
+use Rattle.layouts.specs.rule_places.Places.{IsAt}
 
 -- the least where a name stands for the same, or for nothing
 pub names_nothing : {X : Type 0} (one other : Option X) (member : List ℕ) (found : Option Fault) → one ≡ other

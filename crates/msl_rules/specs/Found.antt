@@ -12,11 +12,11 @@ use Rattle.round_trip.specs.soundness.Lookups.{prop_kind, column_kind}
 use Rattle.schema_names.specs.SchemaNames.{type_named, prop_named, column_named, end_of_role}
 use Rattle.schema_names.specs.declared.ends.WhichEnd.{WhichEnd}
 use Rattle.schema_names.specs.declared.ends.WhichEnd.TheVariants.{First, Second}
-use Rattle.condition_values.specs.Spelled.{spelled}
-use Rattle.msl_lists.specs.declared.raw.RawPick.{RawPick}
-use Rattle.msl_lists.specs.declared.raw.RawPair.{RawPair}
-use Rattle.msl_lists.specs.declared.raw.RawCond.{RawCond}
-use Rattle.msl_lists.specs.declared.raw.RawEndMapping.{RawEndMapping}
+use Rattle.msl_rules.specs.condition_values.Spelled.{spelled}
+use Rattle.msl_rules.specs.declared.msl_lists.raw.RawPick.{RawPick}
+use Rattle.msl_rules.specs.declared.msl_lists.raw.RawPair.{RawPair}
+use Rattle.msl_rules.specs.declared.msl_lists.raw.RawCond.{RawCond}
+use Rattle.msl_rules.specs.declared.msl_lists.raw.RawEndMapping.{RawEndMapping}
 
 -- the entity set, the association set, the table and the column at a place
 abbrev pub set_numbered : ℕ → SetId

@@ -6,22 +6,22 @@ use Rattle.std.specs.Option.{is_some}
 use Rattle.json_form.specs.declared.pointer.Step.TheVariants.{Member}
 use Rattle.layouts.specs.declared.fault.Fault.{Fault}
 use Rattle.layouts.specs.declared.rule.Rule.TheVariants as rule
-use Rattle.rule_places.specs.Places.{IsAt, InList}
-use Rattle.name_places.specs.GivenNames.{IsGivenBefore}
+use Rattle.layouts.specs.rule_places.Places.{IsAt, InList}
+use Rattle.groupings.specs.name_places.GivenNames.{IsGivenBefore}
 use Rattle.round_trip.specs.Words.{PropId, Value, Kind, CondOn, Schema, key_columns}
 use Rattle.edm_types.specs.declared.mapping.CondOn.TheVariants as on
 use Rattle.round_trip.specs.soundness.Lookups.{set_key}
 use Rattle.round_trip.specs.soundness.Fragments.{WritesToFitting}
 use Rattle.round_trip.specs.soundness.Joined.{ComparesNoBarred, WritesNoBarredEnum}
 use Rattle.schema_names.specs.SchemaNames.{set_named, table_named}
-use Rattle.condition_values.specs.Spelled.{IsSpelled}
-use Rattle.key_matching.specs.Matchings.{Matches}
-use Rattle.msl_lists.specs.declared.raw.RawPair.{RawPair}
-use Rattle.msl_lists.specs.declared.raw.RawCond.{RawCond}
-use Rattle.msl_lists.specs.declared.raw.RawFragment.{RawFragment}
-use Rattle.msl_lists.specs.declared.raw.RawTypeMapping.{RawTypeMapping}
-use Rattle.msl_lists.specs.declared.raw.RawSetMapping.{RawSetMapping}
-use Rattle.msl_lists.specs.declared.raw.RawMapping.{RawMapping}
+use Rattle.msl_rules.specs.condition_values.Spelled.{IsSpelled}
+use Rattle.table_owners.specs.key_matching.Matchings.{Matches}
+use Rattle.msl_rules.specs.declared.msl_lists.raw.RawPair.{RawPair}
+use Rattle.msl_rules.specs.declared.msl_lists.raw.RawCond.{RawCond}
+use Rattle.msl_rules.specs.declared.msl_lists.raw.RawFragment.{RawFragment}
+use Rattle.msl_rules.specs.declared.msl_lists.raw.RawTypeMapping.{RawTypeMapping}
+use Rattle.msl_rules.specs.declared.msl_lists.raw.RawSetMapping.{RawSetMapping}
+use Rattle.msl_rules.specs.declared.msl_lists.raw.RawMapping.{RawMapping}
 use Rattle.msl_rules.specs.Found.{set_numbered, table_numbered, prop_of_picks, pair_in, pairs_in, on_in, kind_on, cond_in}
 use Rattle.msl_rules.specs.NameRules.{InContainer}
 

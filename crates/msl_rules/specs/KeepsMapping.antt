@@ -5,8 +5,8 @@ use Rattle.layouts.specs.declared.fault.Fault.{Fault}
 use Rattle.round_trip.specs.Words.{EntityModel, StoreModel}
 use Rattle.round_trip.specs.soundness.Models.{IsSoundModel}
 use Rattle.round_trip.specs.soundness.Stores.{IsSoundStore}
-use Rattle.msl_lists.specs.declared.raw.RawMapping.{RawMapping}
-use Rattle.msl_lists.specs.declared.raw.RawSetMapping.{RawSetMapping}
+use Rattle.msl_rules.specs.declared.msl_lists.raw.RawMapping.{RawMapping}
+use Rattle.msl_rules.specs.declared.msl_lists.raw.RawSetMapping.{RawSetMapping}
 use Rattle.msl_rules.specs.MappingFaults.{IsMappingListFault}
 
 -- the items of a list have numbers of 32 bits

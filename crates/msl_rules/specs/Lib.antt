@@ -7,3 +7,5 @@ pub mod MappingMeaning
 pub mod NameRules
 pub mod OwnerRules
 pub mod Sites
+pub mod msl_lists
+pub mod condition_values

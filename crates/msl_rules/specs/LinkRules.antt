@@ -5,15 +5,15 @@ use Rattle.emc_base.specs.Lists.{At}
 use Rattle.json_form.specs.declared.pointer.Step.TheVariants.{Member}
 use Rattle.layouts.specs.declared.fault.Fault.{Fault}
 use Rattle.layouts.specs.declared.rule.Rule.TheVariants as rule
-use Rattle.rule_places.specs.Places.{IsAt, InList}
+use Rattle.layouts.specs.rule_places.Places.{IsAt, InList}
 use Rattle.round_trip.specs.Words.{PropId, Assoc, End, Pair, Schema, key_props}
 use Rattle.round_trip.specs.soundness.Owners.{IsPlaced}
 use Rattle.schema_names.specs.SchemaNames.{association_set_named, table_named, prop_named}
-use Rattle.msl_lists.specs.declared.raw.RawPair.{RawPair}
-use Rattle.msl_lists.specs.declared.raw.RawCond.{RawCond}
-use Rattle.msl_lists.specs.declared.raw.RawEndMapping.{RawEndMapping}
-use Rattle.msl_lists.specs.declared.raw.RawLinkMapping.{RawLinkMapping}
-use Rattle.msl_lists.specs.declared.raw.RawMapping.{RawMapping}
+use Rattle.msl_rules.specs.declared.msl_lists.raw.RawPair.{RawPair}
+use Rattle.msl_rules.specs.declared.msl_lists.raw.RawCond.{RawCond}
+use Rattle.msl_rules.specs.declared.msl_lists.raw.RawEndMapping.{RawEndMapping}
+use Rattle.msl_rules.specs.declared.msl_lists.raw.RawLinkMapping.{RawLinkMapping}
+use Rattle.msl_rules.specs.declared.msl_lists.raw.RawMapping.{RawMapping}
 use Rattle.msl_rules.specs.Found.{role_end, pairs_in}
 use Rattle.msl_rules.specs.MappingMeaning.{link_with}
 use Rattle.msl_rules.specs.NameRules.{InContainer, IsOtherAssociation}

@@ -7,8 +7,8 @@ use Rattle.layouts.specs.declared.form.Form.TheVariants.{Object}
 use Rattle.layouts.specs.declared.form.Shape.TheVariants as shape
 use Rattle.layouts.specs.Forms.{IsFaultOf}
 use Rattle.round_trip.specs.Words.{EntityModel, StoreModel}
-use Rattle.msl_lists.specs.declared.raw.RawMapping.{RawMapping}
-use Rattle.msl_lists.specs.Raw.{raw_mapping}
+use Rattle.msl_rules.specs.declared.msl_lists.raw.RawMapping.{RawMapping}
+use Rattle.msl_rules.specs.msl_lists.Raw.{raw_mapping}
 use Rattle.msl_rules.specs.MappingMeaning.{schema_in}
 use Rattle.msl_rules.specs.NameRules.{IsMappedTwice, IsUnresolvedName, HasOtherContainer, BreaksTypeNameRules}
 use Rattle.msl_rules.specs.FragmentRules.{IsInFragments}

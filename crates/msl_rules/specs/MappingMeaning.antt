@@ -5,10 +5,10 @@ use Rattle.std.specs.List.{filter_map}
 use Rattle.round_trip.specs.Words.{PropId, EntityModel, StoreModel, Assoc, Fragment, LinkFragment, Mapping, Schema}
 use Rattle.json_form.specs.Pointers.{pointer_of}
 use Rattle.schema_names.specs.SchemaNames.{set_named, association_set_named, table_named}
-use Rattle.msl_lists.specs.declared.raw.RawFragment.{RawFragment}
-use Rattle.msl_lists.specs.declared.raw.RawTypeMapping.{RawTypeMapping}
-use Rattle.msl_lists.specs.declared.raw.RawLinkMapping.{RawLinkMapping}
-use Rattle.msl_lists.specs.declared.raw.RawMapping.{RawMapping}
+use Rattle.msl_rules.specs.declared.msl_lists.raw.RawFragment.{RawFragment}
+use Rattle.msl_rules.specs.declared.msl_lists.raw.RawTypeMapping.{RawTypeMapping}
+use Rattle.msl_rules.specs.declared.msl_lists.raw.RawLinkMapping.{RawLinkMapping}
+use Rattle.msl_rules.specs.declared.msl_lists.raw.RawMapping.{RawMapping}
 use Rattle.msl_rules.specs.Found.{set_numbered, assoc_numbered, table_numbered, prop_of_picks, pick_in, pairs_in, conds_in, end_pairs}
 use Rattle.msl_rules.specs.Sites.{Site, LinkSite, sites, link_sites}
 

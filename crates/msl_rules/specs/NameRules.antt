@@ -8,21 +8,21 @@ use Rattle.json_form.specs.declared.pointer.Step.TheVariants.{Member}
 use Rattle.layouts.specs.declared.fault.Fault.{Fault}
 use Rattle.layouts.specs.declared.rule.Rule.TheVariants.{Resolves, ContainerName, PickedType, SharedProperty, MappedAssociation}
 use Rattle.layouts.specs.Inside.{Under}
-use Rattle.rule_places.specs.Places.{IsAt, InList}
+use Rattle.layouts.specs.rule_places.Places.{IsAt, InList}
 use Rattle.csdl_names.specs.Repeated.{IsRepeatedIn}
 use Rattle.csdl_names.specs.Unresolved.{NamesNothing}
 use Rattle.round_trip.specs.Words.{PropId, EntityModel, StoreModel, Assoc, End, EntitySet, IsA}
 use Rattle.edm_types.specs.Forest.{type_numbered}
 use Rattle.schema_names.specs.SchemaNames.{type_named, set_named, association_set_named, table_named, column_named, prop_named, NamesAssociation, IsOfAssociation}
-use Rattle.msl_lists.specs.declared.raw.RawPick.{RawPick}
-use Rattle.msl_lists.specs.declared.raw.RawPair.{RawPair}
-use Rattle.msl_lists.specs.declared.raw.RawCond.{RawCond}
-use Rattle.msl_lists.specs.declared.raw.RawFragment.{RawFragment}
-use Rattle.msl_lists.specs.declared.raw.RawTypeMapping.{RawTypeMapping}
-use Rattle.msl_lists.specs.declared.raw.RawSetMapping.{RawSetMapping}
-use Rattle.msl_lists.specs.declared.raw.RawEndMapping.{RawEndMapping}
-use Rattle.msl_lists.specs.declared.raw.RawLinkMapping.{RawLinkMapping}
-use Rattle.msl_lists.specs.declared.raw.RawMapping.{RawMapping}
+use Rattle.msl_rules.specs.declared.msl_lists.raw.RawPick.{RawPick}
+use Rattle.msl_rules.specs.declared.msl_lists.raw.RawPair.{RawPair}
+use Rattle.msl_rules.specs.declared.msl_lists.raw.RawCond.{RawCond}
+use Rattle.msl_rules.specs.declared.msl_lists.raw.RawFragment.{RawFragment}
+use Rattle.msl_rules.specs.declared.msl_lists.raw.RawTypeMapping.{RawTypeMapping}
+use Rattle.msl_rules.specs.declared.msl_lists.raw.RawSetMapping.{RawSetMapping}
+use Rattle.msl_rules.specs.declared.msl_lists.raw.RawEndMapping.{RawEndMapping}
+use Rattle.msl_rules.specs.declared.msl_lists.raw.RawLinkMapping.{RawLinkMapping}
+use Rattle.msl_rules.specs.declared.msl_lists.raw.RawMapping.{RawMapping}
 use Rattle.msl_rules.specs.Found.{role_end}
 
 -- what is wrong in the EntityContainerMapping, seen from the root

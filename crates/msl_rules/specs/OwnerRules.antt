@@ -8,15 +8,15 @@ use Rattle.json_form.specs.declared.pointer.Step.{Step}
 use Rattle.layouts.specs.declared.fault.Fault.{Fault}
 use Rattle.layouts.specs.declared.rule.Rule.{Rule}
 use Rattle.layouts.specs.declared.rule.Rule.TheVariants.{OnePairing, OneOwner}
-use Rattle.rule_places.specs.Places.{IsAt}
+use Rattle.layouts.specs.rule_places.Places.{IsAt}
 use Rattle.emc_base.specs.Lists.{At}
 use Rattle.round_trip.specs.Words.{PropId, ColId, EntityModel, StoreModel, Mult, Assoc, End, Pair, Fragment, LinkFragment, key_columns}
 use Rattle.edm_types.specs.declared.model.Mult.TheVariants.{One, ZeroOrOne, Many}
 use Rattle.round_trip.specs.soundness.Lookups.{set_key}
-use Rattle.table_writers.specs.Writers.{PairsOtherwise, HasOtherOwner}
-use Rattle.table_writers.specs.declared.writer.Owner.TheVariants as owner
-use Rattle.table_writers.specs.declared.writer.Writer.{Writer}
-use Rattle.msl_lists.specs.declared.raw.RawMapping.{RawMapping}
+use Rattle.table_owners.specs.table_writers.Writers.{PairsOtherwise, HasOtherOwner}
+use Rattle.table_owners.specs.declared.table_writers.writer.Owner.TheVariants as owner
+use Rattle.table_owners.specs.declared.table_writers.writer.Writer.{Writer}
+use Rattle.msl_rules.specs.declared.msl_lists.raw.RawMapping.{RawMapping}
 use Rattle.msl_rules.specs.MappingMeaning.{fragment_at, link_at}
 use Rattle.msl_rules.specs.Sites.{Site, LinkSite, sites, link_sites}
 

@@ -4,11 +4,11 @@ use Rattle.std.specs.Prelude.{ℕ, List, [], ◌∷◌, map, codes}
 use Rattle.std.specs.List.{enumerate_from, flat_map}
 use Rattle.json_form.specs.declared.pointer.Step.{Step}
 use Rattle.json_form.specs.declared.pointer.Step.TheVariants.{Member, Item}
-use Rattle.msl_lists.specs.declared.raw.RawFragment.{RawFragment}
-use Rattle.msl_lists.specs.declared.raw.RawTypeMapping.{RawTypeMapping}
-use Rattle.msl_lists.specs.declared.raw.RawSetMapping.{RawSetMapping}
-use Rattle.msl_lists.specs.declared.raw.RawLinkMapping.{RawLinkMapping}
-use Rattle.msl_lists.specs.declared.raw.RawMapping.{RawMapping}
+use Rattle.msl_rules.specs.declared.msl_lists.raw.RawFragment.{RawFragment}
+use Rattle.msl_rules.specs.declared.msl_lists.raw.RawTypeMapping.{RawTypeMapping}
+use Rattle.msl_rules.specs.declared.msl_lists.raw.RawSetMapping.{RawSetMapping}
+use Rattle.msl_rules.specs.declared.msl_lists.raw.RawLinkMapping.{RawLinkMapping}
+use Rattle.msl_rules.specs.declared.msl_lists.raw.RawMapping.{RawMapping}
 
 -- a MappingFragment
 pub record Site : Type 0 where

@@ -12,14 +12,14 @@ use Rattle.table_owners.proofs.Items.{at_map, member_place}
 use Rattle.round_trip.specs.Words.{At, ColId, Entity, EntityModel, EntityType, IsEntity, IsLink, IsState, Place, SetId, State, TableId, Tables, TypeId, Value, entities_in}
 use Rattle.regions.specs.Basis.{Basis}
 use Rattle.regions.specs.Regions.{regions_of}
-use Rattle.region_laws.specs.IsBasis.{IsBasis}
-use Rattle.region_laws.proofs.Listed.{is_listed}
-use Rattle.region_laws.proofs.Possible.{type_fits}
-use Rattle.region_cases.specs.Cases.{case_of, cases_of}
-use Rattle.region_cases.specs.declared.case.Case.{Case}
-use Rattle.set_regions.proofs.Sets.{AreOfFirst}
-use Rattle.candidates.specs.Candidates.{AreViewed, IsBefore, IsCandidate, IsEarlier, IsFirstLack}
-use Rattle.candidates.specs.Viewed.{IsViewed, LacksCase}
+use Rattle.regions.specs.region_laws.IsBasis.{IsBasis}
+use Rattle.regions.proofs.region_laws.Listed.{is_listed}
+use Rattle.regions.proofs.region_laws.Possible.{type_fits}
+use Rattle.case_laws.specs.region_cases.Cases.{case_of, cases_of}
+use Rattle.case_laws.specs.declared.region_cases.case.Case.{Case}
+use Rattle.region_partition.proofs.set_regions.Sets.{AreOfFirst}
+use Rattle.case_laws.specs.candidates.Candidates.{AreViewed, IsBefore, IsCandidate, IsEarlier, IsFirstLack}
+use Rattle.case_laws.specs.candidates.Viewed.{IsViewed, LacksCase}
 use Rattle.query_views.specs.Answers.{Lends, LendsSet, TellsKey}
 use Rattle.query_views.specs.declared.fault.StateFault.{StateFault}
 use Rattle.query_views.specs.declared.fault.StateFault.TheVariants as fault

@@ -5,10 +5,10 @@ use Rattle.std.proofs.lemmas.List.Elements.{All-contains}
 use Rattle.std.proofs.lemmas.Option.{get_or_from_slice_get, slice_get_read, slice_get_within}
 use Rattle.round_trip.specs.Words.{At, TableId, Row}
 use Rattle.regions.specs.Basis.{Basis}
-use Rattle.region_cases.specs.declared.case.Case.{Case}
-use Rattle.case_reading.specs.declared.reading.Reading.{Reading}
-use Rattle.case_index.specs.declared.index.CaseIndex.{CaseIndex}
-use Rattle.case_index.specs.Found.{IsIndexOf, found_places}
+use Rattle.case_laws.specs.declared.region_cases.case.Case.{Case}
+use Rattle.query_cases.specs.declared.case_reading.reading.Reading.{Reading}
+use Rattle.query_cases.specs.declared.case_index.index.CaseIndex.{CaseIndex}
+use Rattle.query_cases.specs.case_index.Found.{IsIndexOf, found_places}
 use Rattle.query_views.specs.declared.views.Met.{Met}
 use Rattle.query_views.specs.First.{FindsAmong, FindsFirst, IsFirstFound, IsPassed, MeetsBy}
 use Rattle.query_views.proofs.Zips.{before_holds}

@@ -18,13 +18,13 @@ use Rattle.emc_base.specs.OrderLaws.{key_cmp_total}
 use Rattle.table_owners.proofs.Items.{member_place}
 use Rattle.round_trip.specs.Words.{At, ColId, Place, SetId, TableId, Tables, Value}
 use Rattle.regions.specs.Basis.{Basis}
-use Rattle.row_groups.specs.Shown.{shown_cells, shown_group}
-use Rattle.row_groups.specs.declared.groups.KeyGroup.{KeyGroup}
-use Rattle.candidates.specs.Candidates.{AreViewed, IsBefore}
-use Rattle.candidates.specs.Rows.{AreRowsAt, HasRows, shown_rows}
-use Rattle.candidates.specs.Viewed.{IsViewed, LacksCase}
-use Rattle.candidates.specs.declared.placed.PlacedRow.{PlacedRow}
-use Rattle.set_rows.specs.SetRows.{AreSetRows}
+use Rattle.keyed_rows.specs.row_groups.Shown.{shown_cells, shown_group}
+use Rattle.keyed_rows.specs.declared.row_groups.groups.KeyGroup.{KeyGroup}
+use Rattle.case_laws.specs.candidates.Candidates.{AreViewed, IsBefore}
+use Rattle.case_laws.specs.candidates.Rows.{AreRowsAt, HasRows, shown_rows}
+use Rattle.case_laws.specs.candidates.Viewed.{IsViewed, LacksCase}
+use Rattle.case_laws.specs.declared.candidates.placed.PlacedRow.{PlacedRow}
+use Rattle.keyed_rows.specs.set_rows.SetRows.{AreSetRows}
 use Rattle.query_views.specs.Answers.{LendsAt, LendsSet, TellsKey}
 use Rattle.query_views.specs.declared.fault.StateFault.{StateFault}
 use Rattle.query_views.specs.declared.fault.StateFault.TheVariants as fault

@@ -5,9 +5,9 @@ use Rattle.round_trip.specs.Words.{ColId, TableId}
 use Rattle.table_owners.proofs.Items.{at_map}
 use Rattle.regions.specs.Basis.{Basis}
 use Rattle.regions.specs.declared.region.Region.{Region}
-use Rattle.region_cases.specs.Cases.{case_of}
-use Rattle.region_cases.specs.declared.case.Case.{Case}
-use Rattle.set_regions.specs.Regions.{AreRegions}
+use Rattle.case_laws.specs.region_cases.Cases.{case_of}
+use Rattle.case_laws.specs.declared.region_cases.case.Case.{Case}
+use Rattle.region_partition.specs.set_regions.Regions.{AreRegions}
 use Rattle.query_views.specs.Views.{AreCases}
 
 module _ (basis : Basis) (is_free : TableId → ColId → Bool) where

@@ -8,14 +8,14 @@ use Rattle.emc_base.proofs.Lists.{item_at}
 use Rattle.emc_base.proofs.Mapped.{contains_at}
 use Rattle.round_trip.specs.Words.{At, ColId, Entity, Row, SetId, TableId, Tables, Value}
 use Rattle.regions.specs.Basis.{Basis}
-use Rattle.region_cases.specs.Cases.{cases_of}
-use Rattle.region_cases.specs.Meets.{IsEntityOf, MeetsCase, StandsAtKey}
-use Rattle.region_cases.specs.declared.case.Case.{Case}
-use Rattle.candidates.specs.Rows.{AreRowsAt, HasRows}
-use Rattle.candidates.specs.Viewed.{IsViewed, LacksCase}
-use Rattle.case_reading.specs.Reading.{IsReadingOf}
-use Rattle.case_reading.specs.Sources.{read_entity}
-use Rattle.case_reading.specs.declared.reading.Reading.{Reading}
+use Rattle.case_laws.specs.region_cases.Cases.{cases_of}
+use Rattle.case_laws.specs.region_cases.Meets.{IsEntityOf, MeetsCase, StandsAtKey}
+use Rattle.case_laws.specs.declared.region_cases.case.Case.{Case}
+use Rattle.case_laws.specs.candidates.Rows.{AreRowsAt, HasRows}
+use Rattle.case_laws.specs.candidates.Viewed.{IsViewed, LacksCase}
+use Rattle.query_cases.specs.case_reading.Reading.{IsReadingOf}
+use Rattle.query_cases.specs.case_reading.Sources.{read_entity}
+use Rattle.query_cases.specs.declared.case_reading.reading.Reading.{Reading}
 use Rattle.query_views.specs.First.{FindsFirst, IsFirstFound, MeetsBy, cases_in, readings_in}
 use Rattle.query_views.specs.Views.{AreQueryViewsOf, IsReaderOf}
 use Rattle.query_views.specs.declared.views.Met.{Met}

@@ -4,12 +4,12 @@ use Rattle.std.specs.Prelude.{◌≡◌, ◌≢◌, List, [], map, Bool, Result,
 use Rattle.std.specs.Global.{Vec}
 use Rattle.round_trip.specs.Words.{SetId, TableId, ColId, Value, Place, place_at, EntityModel, EntitySet, State, Tables, At}
 use Rattle.regions.specs.Basis.{Basis}
-use Rattle.candidates.specs.declared.placed.PlacedRow.{PlacedRow}
-use Rattle.candidates.specs.Rows.{AreRowsAt, HasRows, shown_rows}
-use Rattle.candidates.specs.Viewed.{IsViewed, LacksCase}
-use Rattle.row_groups.specs.declared.groups.KeyGroup.{KeyGroup}
-use Rattle.row_groups.specs.Shown.{shown_cells}
-use Rattle.candidates.specs.Candidates.{AreViewed, IsBefore, IsCandidate, IsFirstLack}
+use Rattle.case_laws.specs.declared.candidates.placed.PlacedRow.{PlacedRow}
+use Rattle.case_laws.specs.candidates.Rows.{AreRowsAt, HasRows, shown_rows}
+use Rattle.case_laws.specs.candidates.Viewed.{IsViewed, LacksCase}
+use Rattle.keyed_rows.specs.declared.row_groups.groups.KeyGroup.{KeyGroup}
+use Rattle.keyed_rows.specs.row_groups.Shown.{shown_cells}
+use Rattle.case_laws.specs.candidates.Candidates.{AreViewed, IsBefore, IsCandidate, IsFirstLack}
 use Rattle.query_views.specs.declared.fault.EntityFault.{EntityFault}
 use Rattle.query_views.specs.declared.fault.EntityFault.TheVariants as entity
 use Rattle.query_views.specs.declared.fault.Found.{Found}

@@ -4,10 +4,10 @@ use Rattle.std.specs.Prelude.{◌<◌, ℕ, List, [], All, slice_get, take, Opti
 use Rattle.std.specs.Option.{option_map_or}
 use Rattle.round_trip.specs.Words.{SetId, TableId, Row, At}
 use Rattle.regions.specs.Basis.{Basis}
-use Rattle.region_cases.specs.declared.case.Case.{Case}
-use Rattle.case_cells.specs.Holding.{MayMeet}
-use Rattle.case_reading.specs.declared.reading.Reading.{Reading}
-use Rattle.case_reading.specs.Sources.{AgreeTwins}
+use Rattle.case_laws.specs.declared.region_cases.case.Case.{Case}
+use Rattle.query_cases.specs.case_cells.Holding.{MayMeet}
+use Rattle.query_cases.specs.declared.case_reading.reading.Reading.{Reading}
+use Rattle.query_cases.specs.case_reading.Sources.{AgreeTwins}
 use Rattle.query_views.specs.declared.views.Met.{Met}
 use Rattle.query_views.specs.declared.views.QueryViews.{QueryViews}
 

@@ -3,8 +3,8 @@
 use Rattle.std.specs.Prelude.{List, [], map}
 use Rattle.std.specs.Borrow.{Bor}
 use Rattle.round_trip.specs.Words.{Entity, State, Value}
-use Rattle.candidates.specs.Rows.{shown_rows}
-use Rattle.case_reading.specs.Sources.{read_entity}
+use Rattle.case_laws.specs.candidates.Rows.{shown_rows}
+use Rattle.query_cases.specs.case_reading.Sources.{read_entity}
 use Rattle.query_views.specs.declared.loaded.Loaded.{Loaded}
 use Rattle.query_views.specs.declared.lending.LentEntity.{LentEntity}
 

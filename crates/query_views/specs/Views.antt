@@ -4,10 +4,10 @@ use Rattle.std.specs.Prelude.{◌≡◌, List, length, Bool}
 use Rattle.std.specs.List.{AllZip}
 use Rattle.round_trip.specs.Words.{SetId, TableId, ColId, At}
 use Rattle.regions.specs.Basis.{Basis}
-use Rattle.region_cases.specs.declared.case.Case.{Case}
-use Rattle.region_cases.specs.Cases.{cases_of}
-use Rattle.case_reading.specs.Reading.{IsReadingOf}
-use Rattle.case_index.specs.Found.{IsIndexOf}
+use Rattle.case_laws.specs.declared.region_cases.case.Case.{Case}
+use Rattle.case_laws.specs.region_cases.Cases.{cases_of}
+use Rattle.query_cases.specs.case_reading.Reading.{IsReadingOf}
+use Rattle.query_cases.specs.case_index.Found.{IsIndexOf}
 use Rattle.query_views.specs.declared.views.QueryViews.{QueryViews}
 use Rattle.query_views.specs.declared.views.SetReader.{SetReader}
 

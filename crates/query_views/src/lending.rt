@@ -1,7 +1,7 @@
 ghost use Rattle.std.specs.Prelude.{◌≡◌, ◌<◌, IfOk, length};
 ghost use Rattle.cells.specs.Cells.{is_free_in};
 ghost use Rattle.cells.specs.Parts.{AreParts};
-ghost use Rattle.region_basis.specs.BasisOf.{basis_of};
+ghost use Rattle.cells.specs.region_basis.BasisOf.{basis_of};
 ghost use Rattle.round_trip.specs.Words.{AreLegalTables};
 ghost use Rattle.query_views.specs.Answers.{LendsAt, LendsSet, TellsKey};
 ghost use Rattle.round_trip.specs.Words.{Tables as RowsOfEach};
@@ -10,14 +10,12 @@ ghost use Rattle.query_views.specs.Views.{AreQueryViewsOf};
 
 use crate::fault::StateFault;
 use crate::views::{Met, QueryViews};
-use candidates::PlacedRow;
-use case_reading::met_cases_are_read;
-use cells::Parts;
+use case_laws::PlacedRow;
+use cells::{Parts, parts_are_a_basis};
 use edm_types::EntityModel;
 use emc_base::{Key, Memory, Place, Seq, SetId, Txt, Value};
-use region_basis::parts_are_a_basis;
-use row_groups::KeyGroup;
-use set_rows::rows_by_key;
+use keyed_rows::{KeyGroup, rows_by_key};
+use query_cases::met_cases_are_read;
 use std::alloc::Global;
 use table_files::Tables;
 

@@ -1,19 +1,17 @@
 ghost use Rattle.std.specs.Prelude.{◌≡◌, IfOk};
 ghost use Rattle.std.specs.List.{AllZip};
-ghost use Rattle.case_reading.specs.Reading.{IsReadingOf};
+ghost use Rattle.query_cases.specs.case_reading.Reading.{IsReadingOf};
 ghost use Rattle.cells.specs.Cells.{is_free_in};
 ghost use Rattle.cells.specs.Parts.{AreParts};
-ghost use Rattle.region_basis.specs.BasisOf.{basis_of};
-ghost use Rattle.set_regions.specs.Regions.{AreRegions};
+ghost use Rattle.cells.specs.region_basis.BasisOf.{basis_of};
+ghost use Rattle.region_partition.specs.set_regions.Regions.{AreRegions};
 ghost use Rattle.query_views.specs.Views.{AreCases, AreQueryViewsOf, IsReaderOf};
 
 use crate::views::{QueryViews, SetReader};
-use case_index::CaseIndex;
-use case_making::cases_of;
-use case_reading::Reading;
+use case_laws::Case;
 use cells::Parts;
 use emc_base::{Memory, Seq};
-use region_cases::Case;
+use query_cases::{CaseIndex, Reading, cases_of};
 use regions::Region;
 use std::alloc::Global;
 

@@ -1,18 +1,16 @@
 ghost use Rattle.std.specs.Prelude.{◌≡◌, ◌<◌, All, AllPairs, IfOk, length, slice_get};
 ghost use Rattle.std.specs.Option.{option_and_then, option_copied};
-ghost use Rattle.candidates.specs.Rows.{shown_rows};
+ghost use Rattle.case_laws.specs.candidates.Rows.{shown_rows};
 ghost use Rattle.cells.specs.Parts.{AreParts};
-ghost use Rattle.region_basis.specs.BasisOf.{basis_of};
+ghost use Rattle.cells.specs.region_basis.BasisOf.{basis_of};
 ghost use Rattle.query_views.specs.First.{FindsAmong, FindsFirst, cases_in, readings_in};
 ghost use Rattle.query_views.specs.Views.{IsReaderOf};
 ghost use Rattle.std.specs.List.{AllZip};
 
-use candidates::PlacedRow;
-use case_index::CaseIndex;
-use case_reading::Reading;
+use case_laws::{Case, PlacedRow};
 use cells::Parts;
 use emc_base::{Memory, Seq, SetId};
-use region_cases::Case;
+use query_cases::{CaseIndex, Reading};
 use std::alloc::Global;
 
 /// The query views of a mapping: of each entity set the cases, in the order of its regions, how entities are read by each, and an index that finds which of

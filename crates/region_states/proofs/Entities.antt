@@ -5,7 +5,7 @@ use Rattle.emc_base.proofs.Lists.{all_from_members}
 use Rattle.round_trip.specs.Words.{SetId, PropId, TableId, ColId, Value, Null, Entity, props_of, value_of}
 use Rattle.round_trip.specs.soundness.Joined.{prop}
 use Rattle.condition_logic.specs.declared.atoms.AtomOf.{AtomOf}
-use Rattle.state_demand.proofs.Owners.{beside_map}
+use Rattle.schema_laws.proofs.state_demand.Owners.{beside_map}
 use Rattle.regions.specs.declared.region.Region.{Region}
 use Rattle.regions.specs.declared.pattern.Focus.TheVariants as focus
 use Rattle.regions.specs.declared.pattern.Symbol.{Symbol}
@@ -14,12 +14,12 @@ use Rattle.regions.specs.Atoms.{Allows, LiesIn}
 use Rattle.regions.specs.Basis.{Basis}
 use Rattle.regions.specs.Patterns.{Valuation, by_entity, pattern_of, value_under}
 use Rattle.regions.specs.Regions.{regions_of}
-use Rattle.region_laws.specs.IsBasis.{IsBasis}
-use Rattle.region_laws.specs.pattern.Allowed.{IsAllowed}
-use Rattle.region_laws.specs.pattern.Listed.{Lists}
-use Rattle.region_laws.proofs.pattern.Laws.{listed_from}
-use Rattle.region_laws.proofs.pattern.Standing.{listed_prop}
-use Rattle.region_laws.proofs.pattern.Types.{key_among}
+use Rattle.regions.specs.region_laws.IsBasis.{IsBasis}
+use Rattle.regions.specs.region_laws.pattern.Allowed.{IsAllowed}
+use Rattle.regions.specs.region_laws.pattern.Listed.{Lists}
+use Rattle.regions.proofs.region_laws.pattern.Laws.{listed_from}
+use Rattle.regions.proofs.region_laws.pattern.Standing.{listed_prop}
+use Rattle.regions.proofs.region_laws.pattern.Types.{key_among}
 use Rattle.region_states.specs.defaults.Admissible.{IsAdmissible}
 use Rattle.region_states.specs.defaults.Short.{IsShort}
 use Rattle.region_states.proofs.defaults.Listed.{told_is}

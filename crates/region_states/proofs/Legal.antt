@@ -11,11 +11,11 @@ use Rattle.regions.specs.Atoms.{Allows}
 use Rattle.regions.specs.Basis.{Basis, Host}
 use Rattle.regions.specs.Patterns.{Valuation}
 use Rattle.regions.specs.Regions.{regions_of}
-use Rattle.region_laws.specs.IsBasis.{IsBasis, IsHostOf}
-use Rattle.region_laws.proofs.Listed.{is_listed, set_is}
-use Rattle.region_laws.proofs.Possible.{type_fits}
-use Rattle.region_laws.specs.pattern.Allowed.{IsAllowed}
-use Rattle.region_laws.proofs.pattern.Allowed.{domain_not_null}
+use Rattle.regions.specs.region_laws.IsBasis.{IsBasis, IsHostOf}
+use Rattle.regions.proofs.region_laws.Listed.{is_listed, set_is}
+use Rattle.regions.proofs.region_laws.Possible.{type_fits}
+use Rattle.regions.specs.region_laws.pattern.Allowed.{IsAllowed}
+use Rattle.regions.proofs.region_laws.pattern.Allowed.{domain_not_null}
 use Rattle.region_states.specs.Entities.{focus_entity}
 use Rattle.region_states.specs.LoneStates.{HasNoAssociationSets, empty_state, lone_focus, lone_state}
 use Rattle.region_states.specs.Hosting.{HoldsFocus}

@@ -3,15 +3,15 @@
 -- Source: this project's; CSDL version 3, EntitySet, AssociationSet, Multiplicity and ReferentialConstraint.
 use Rattle.std.specs.Prelude.{◌≡◌, ◌≢◌, ◌↔◌, List, [], Contains}
 use Rattle.round_trip.specs.Words.{SetId, TableId, PropId, Value, Assoc, Entity, Link, LinkFragment, State, IsLegal, entities_in, links_in, key_of, key_props, props_of}
-use Rattle.state_demand.specs.Owners.{IsJoinedTo}
+use Rattle.schema_laws.specs.state_demand.Owners.{IsJoinedTo}
 use Rattle.regions.specs.declared.region.Region.{Region}
 use Rattle.regions.specs.declared.pattern.Symbol.TheVariants as symbol
 use Rattle.regions.specs.Basis.{Basis, Host}
 use Rattle.regions.specs.Patterns.{Valuation}
 use Rattle.regions.specs.Regions.{regions_of}
 use Rattle.regions.specs.Settled.{possible, single}
-use Rattle.region_laws.specs.Partners.{HasFewPartners, HasPartners}
-use Rattle.region_laws.specs.RegionAt.{links_at}
+use Rattle.regions.specs.region_laws.Partners.{HasFewPartners, HasPartners}
+use Rattle.regions.specs.region_laws.RegionAt.{links_at}
 use Rattle.region_states.specs.defaults.Admissible.{IsAdmissible}
 use Rattle.region_states.specs.Entities.{focus_entity}
 

@@ -4,3 +4,4 @@ pub mod Hosting
 pub mod BasePopulation
 pub mod focus
 pub mod defaults
+pub mod conflicts

@@ -13,7 +13,7 @@ ghost use Rattle.regions.specs.Basis.{Basis};
 ghost use Rattle.regions.specs.Patterns.{Valuation};
 ghost use Rattle.regions.specs.Regions.{regions_of};
 ghost use Rattle.regions.specs.declared.region.Region.{Region};
-ghost use Rattle.region_laws.specs.IsBasis.{IsBasis};
+ghost use Rattle.regions.specs.region_laws.IsBasis.{IsBasis};
 ghost use Rattle.region_states.specs.defaults.Admissible.{AreChoices, AreTwoChoices, DifferAt, HasSeveral, IsAdmissible, IsChoice};
 ghost use Rattle.region_states.specs.defaults.Candidates.{AreTwoFree, first_free, next_free, number};
 ghost use Rattle.region_states.specs.defaults.Defaults.{alone, changed, default_valuation, one_value, other_value};

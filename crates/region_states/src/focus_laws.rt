@@ -3,9 +3,9 @@
 ghost use Rattle.std.specs.Prelude.{◌≡◌, ◌≢◌, ◌↔◌, [], ◌∷◌, Bool, Contains, IsTrue, List};
 ghost use Rattle.round_trip.specs.Words.{Assoc, AssocId, At, ColId, DemandsCell, DemandsRow, Entity, EntitySet, Fragment, IsLegal, Link, LinkFragment, Pair, PropId, Row, Selects, SetId, Shows, ShowsLink, State, Table, TableId, Tables, Value, entities_in, key_of, links_in, rows_in};
 ghost use Rattle.edm_types.specs.declared.model.Mult.TheVariants.{Many};
-ghost use Rattle.state_demand.specs.Owners.{IsJoinedTo, IsOwned};
-ghost use Rattle.sound_demand.specs.Fragments.{IsHostedFragment, IsJoinedFragment, IsOwnedFragment, IsStoredIn};
-ghost use Rattle.sound_demand.specs.ReadBack.{HasLinkOf, IsRowOfLink};
+ghost use Rattle.schema_laws.specs.state_demand.Owners.{IsJoinedTo, IsOwned};
+ghost use Rattle.schema_laws.specs.sound_demand.Fragments.{IsHostedFragment, IsJoinedFragment, IsOwnedFragment, IsStoredIn};
+ghost use Rattle.schema_laws.specs.sound_demand.ReadBack.{HasLinkOf, IsRowOfLink};
 ghost use Rattle.regions.specs.declared.region.Region.{Region};
 ghost use Rattle.regions.specs.declared.pattern.Focus.TheVariants as focus;
 ghost use Rattle.regions.specs.declared.pattern.PatternRow.{PatternRow};
@@ -14,9 +14,9 @@ ghost use Rattle.regions.specs.Patterns.{by_entity, by_link, pattern_of};
 ghost use Rattle.regions.specs.Regions.{regions_of};
 ghost use Rattle.regions.specs.Shown.{shows_link_row, shows_row};
 ghost use Rattle.regions.specs.Symbols.{is_linked, selects_region};
-ghost use Rattle.region_laws.specs.IsBasis.{IsBasis};
-ghost use Rattle.region_laws.specs.Partners.{HasFewPartners, part_by};
-ghost use Rattle.region_laws.specs.RegionAt.{links_at};
+ghost use Rattle.regions.specs.region_laws.IsBasis.{IsBasis};
+ghost use Rattle.regions.specs.region_laws.Partners.{HasFewPartners, part_by};
+ghost use Rattle.regions.specs.region_laws.RegionAt.{links_at};
 ghost use Rattle.region_states.specs.focus.Agreeing.{IsClearRow, IsRowOfEntity};
 ghost use Rattle.region_states.specs.focus.Held.{HasRow, IsAtLinkRow, IsAtRow, IsHeldAt, IsOfRegion, IsRowOfOne, ListsValue};
 

@@ -1,9 +1,11 @@
-//! Legal states that hold an entity of a region: what they demand by its pattern, which values it may have, which states there are, and that there are
-//! such for each region where no association set is declared.
+//! Conflicts, and legal states that hold an entity of a region: what they demand by its pattern, which values it may have, which states there are, and at which set a state fails.
 #![tactic(auto)]
 
+mod conflicts;
 mod default_values;
+mod failure_places;
 mod focus_laws;
+pub mod joined_laws;
 
 ghost use Rattle.std.specs.Prelude.{◌≡◌, Contains, List};
 ghost use Rattle.round_trip.specs.Words.{ColId, Entity, EntityModel, IsLegal, PropId, SetId, State, TableId, Value, props_of, value_of};
@@ -14,26 +16,29 @@ ghost use Rattle.regions.specs.Regions.{regions_of};
 ghost use Rattle.regions.specs.declared.pattern.Focus.TheVariants as focus;
 ghost use Rattle.regions.specs.declared.pattern.Symbol.{Symbol};
 ghost use Rattle.regions.specs.declared.region.Region.{Region};
-ghost use Rattle.region_laws.specs.IsBasis.{IsBasis};
-ghost use Rattle.region_laws.specs.pattern.Allowed.{IsAllowed};
-ghost use Rattle.region_laws.specs.pattern.Listed.{Lists};
+ghost use Rattle.regions.specs.region_laws.IsBasis.{IsBasis};
+ghost use Rattle.regions.specs.region_laws.pattern.Allowed.{IsAllowed};
+ghost use Rattle.regions.specs.region_laws.pattern.Listed.{Lists};
 ghost use Rattle.region_states.specs.focus.Held.{IsHeldAt};
 ghost use Rattle.region_states.specs.defaults.Admissible.{IsAdmissible};
-ghost use Rattle.conflicts.specs.There.{HasFewLinks};
+ghost use Rattle.region_states.specs.conflicts.There.{HasFewLinks};
 ghost use Rattle.region_states.specs.BasePopulation.{IsBaseFor, IsKeyOf, base_state};
 ghost use Rattle.region_states.specs.Entities.{focus_entity};
 ghost use Rattle.region_states.specs.Hosting.{HoldsFocus, HostsFocuses, HostsRivals, LeavesOut};
 ghost use Rattle.region_states.specs.LoneStates.{HasNoAssociationSets, HasOneAtMost, empty_state, lone_focus, lone_state};
 
+pub use conflicts::Conflict;
 pub use default_values::{
     choices_are_told, each_atom_has_a_value, each_region_has_values, fresh_values_are_different,
     groups_share_free_values, properties_can_differ, short_values_fit, some_candidates_are_left,
     untested_properties_have_two_values,
 };
+pub use failure_places::{a_mapping_round_trips_set_by_set, each_failure_is_at_a_set};
 pub use focus_laws::{
     a_pattern_is_the_demand, agreement_is_by_the_pattern, flags_tell_links,
     no_other_row_is_demanded,
 };
+pub use joined_laws::{a_joined_pattern_is_one_row, joined_links_are_told};
 
 /// An entity that is made of values has them, and each symbol that the pattern of its region lists has the same value by the entity as by these. Where
 /// they are admissible, the entity's are.

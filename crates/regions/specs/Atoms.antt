@@ -7,7 +7,7 @@ use Rattle.emc_base.specs.declared.value.Kind.TheVariants as kind
 use Rattle.condition_logic.specs.declared.atoms.Atom.{Atom}
 use Rattle.condition_logic.specs.declared.atoms.Atom.TheVariants as atom
 use Rattle.condition_logic.specs.declared.atoms.AtomOf.{AtomOf}
-use Rattle.state_demand.specs.Selecting.{same_value}
+use Rattle.schema_laws.specs.state_demand.Selecting.{same_value}
 
 -- a value lies in an atom: null, the one value, or neither null nor one of the constants
 abbrev pub LiesIn : List Value → Atom → Value → Type 0

@@ -7,3 +7,4 @@ pub mod Symbols
 pub mod Patterns
 pub mod Settled
 pub mod Shown
+pub mod region_laws

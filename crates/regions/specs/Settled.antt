@@ -7,7 +7,7 @@ use Rattle.round_trip.specs.Words.{PropId, Value, Null, EntityModel}
 use Rattle.condition_logic.specs.declared.atoms.Atom.{Atom}
 use Rattle.condition_logic.specs.declared.atoms.Atom.TheVariants as atom
 use Rattle.condition_logic.specs.declared.atoms.AtomOf.{AtomOf}
-use Rattle.state_demand.specs.Selecting.{same_value}
+use Rattle.schema_laws.specs.state_demand.Selecting.{same_value}
 use Rattle.regions.specs.declared.pattern.Symbol.{Symbol}
 use Rattle.regions.specs.declared.pattern.Symbol.TheVariants as symbol
 use Rattle.regions.specs.Atoms.{atom_at}

@@ -6,7 +6,7 @@ use Rattle.round_trip.specs.Words.{ColId, EntityModel, Fragment, LinkFragment, C
 use Rattle.edm_types.specs.declared.mapping.CondOn.TheVariants as on
 use Rattle.edm_types.specs.declared.mapping.Test.TheVariants.{IsNull, Equals}
 use Rattle.condition_logic.specs.declared.atoms.AtomOf.{AtomOf}
-use Rattle.state_demand.specs.Selecting.{passes}
+use Rattle.schema_laws.specs.state_demand.Selecting.{passes}
 use Rattle.regions.specs.declared.pattern.Symbol.{Symbol}
 use Rattle.regions.specs.declared.pattern.PatternRow.{PatternRow}
 use Rattle.regions.specs.Settled.{Settled, known, free, settle}

@@ -9,7 +9,7 @@ use Rattle.edm_types.specs.declared.mapping.Test.TheVariants.{IsNull, Equals}
 use Rattle.condition_logic.specs.declared.atoms.Atom.{Atom}
 use Rattle.condition_logic.specs.declared.atoms.Atom.TheVariants as atom
 use Rattle.condition_logic.specs.declared.atoms.AtomOf.{AtomOf}
-use Rattle.state_demand.specs.Selecting.{same_value, passes, is_picked}
+use Rattle.schema_laws.specs.state_demand.Selecting.{same_value, passes, is_picked}
 use Rattle.regions.specs.declared.region.Region.{Region}
 use Rattle.regions.specs.declared.pattern.Symbol.{Symbol}
 use Rattle.regions.specs.declared.pattern.Symbol.TheVariants as symbol

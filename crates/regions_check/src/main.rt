@@ -3,7 +3,7 @@
 #![tactic(auto)]
 
 ghost use Rattle.cells.specs.Parts.{AreParts};
-ghost use Rattle.link_places.specs.Between.{schema_of};
+ghost use Rattle.table_owners.specs.link_places.Between.{schema_of};
 ghost use Rattle.round_trip.specs.soundness.Mappings.{IsSoundSchema};
 
 #[cfg(test)]
@@ -18,7 +18,7 @@ mod tests;
 use cells::{Cells, Parts, is_within_limits};
 use emc_base::{Seq, SetId};
 use emc_files::{DiskFiles, OutSink, Sink};
-use region_lists::regions;
+use region_partition::regions;
 use regions::{Focus, Pattern, Region};
 use schema_reader::{Meant, read_files};
 use std::alloc::Global;

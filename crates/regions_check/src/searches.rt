@@ -1,15 +1,14 @@
 ghost use Rattle.cells.specs.Parts.{AreParts};
-ghost use Rattle.link_places.specs.Between.{schema_of};
+ghost use Rattle.table_owners.specs.link_places.Between.{schema_of};
 ghost use Rattle.round_trip.specs.soundness.Mappings.{IsSoundSchema};
 
 use crate::examples::NULLS;
 use cells::{Cells, Parts, hosted_links, is_within_limits};
+use data_documents::state_of_doc;
 use edm_types::key_of;
 use emc_base::{Memory, SetId};
-use entity_documents::state_of_doc;
 use entity_state::EntityState;
-use region_lists::regions;
-use region_search::find_region;
+use region_partition::{find_region, regions};
 use schema_reader::{BOSS, CAMP, COLORS, CREW, KIND, Meant, PETS, SUMMER, document, read_texts};
 use std::alloc::Global;
 use std::test::Fail;

@@ -1,6 +1,6 @@
 ghost use Rattle.std.specs.Prelude.{◌≤◌};
 ghost use Rattle.cells.specs.Parts.{AreParts};
-ghost use Rattle.link_places.specs.Between.{schema_of};
+ghost use Rattle.table_owners.specs.link_places.Between.{schema_of};
 ghost use Rattle.round_trip.specs.soundness.Mappings.{IsSoundSchema};
 
 use crate::examples::{
@@ -10,7 +10,7 @@ use crate::{MOST_REGIONS, focus_on};
 use cells::{Cells, Parts, is_within_limits};
 use condition_logic::{Atom, AtomOf};
 use emc_base::{AssocId, Memory, Seq, SetId, Value};
-use region_lists::{RegionsFault, count, regions};
+use region_partition::{RegionsFault, count, regions};
 use regions::{Focus, Pattern, Region, Symbol};
 use schema_reader::{BOSS, CAMP, COLORS, KIND, Meant, PETS, RED, SHARED, read_texts};
 use std::alloc::Global;

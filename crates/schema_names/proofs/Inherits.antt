@@ -7,8 +7,8 @@ use Rattle.std.proofs.lemmas.List.Elements.{All-contains}
 use Rattle.std.proofs.lemmas.List.Folds.{find-append}
 use Rattle.std.proofs.lemmas.Option.{MatchOption-at_some, slice_get_within}
 use Rattle.emc_base.proofs.Mapped.{contains_at}
-use Rattle.base_chains.specs.Chains.{IsAncestor, chain, direct, further}
-use Rattle.base_chains.proofs.Chains.{chain_step, ends}
+use Rattle.graphs.specs.base_chains.Chains.{IsAncestor, chain, direct, further}
+use Rattle.graphs.proofs.base_chains.Chains.{chain_step, ends}
 use Rattle.edm_types.specs.Forest.{type_numbered}
 use Rattle.edm_types.specs.IsA as is
 use Rattle.round_trip.specs.Words.{EntityModel, EntityType, TypeId, PropId, HasBase, props_of}
@@ -16,7 +16,7 @@ use Rattle.round_trip.specs.soundness.Inheritance.{declared_props}
 use Rattle.round_trip.specs.soundness.Lookups.{IsAncestor as IsAbove}
 use Rattle.round_trip.specs.soundness.ModelIds.{IsTypeId}
 use Rattle.round_trip.specs.soundness.Models.{IsSoundModel}
-use Rattle.sound_types.proofs.Once.{names_once}
+use Rattle.schema_laws.proofs.sound_types.Once.{names_once}
 use Rattle.schema_names.specs.Inherited.{InheritsProps, base_place}
 use Rattle.schema_names.specs.SchemaNames.{has_name, own_prop, prop_named}
 

@@ -6,7 +6,7 @@ use Rattle.std.specs.Str.{bytes_eq}
 use Rattle.std.proofs.lemmas.List.{length-map, map-append}
 use Rattle.emc_base.specs.Lists.{At}
 use Rattle.emc_base.proofs.Loops.{take_item}
-use Rattle.name_places.specs.GivenNames.{first_place}
+use Rattle.groupings.specs.name_places.GivenNames.{first_place}
 
 -- one more is made, as the next item says
 pub made_more : {X Y Z : Type 0} (f : X → Z) (g : Y → Z) (made : List X) (items : List Y) (i : ℕ) (x : X) (item : Y) → At items i item

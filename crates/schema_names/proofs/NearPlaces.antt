@@ -8,13 +8,13 @@ use Rattle.std.proofs.lemmas.Bool.{false_from_ne_true}
 use Rattle.std.proofs.lemmas.Option.{get_or_from_slice_get, slice_get_within}
 use Rattle.std.proofs.lemmas.Slice.Eq.{bytes_eq-Decides}
 use Rattle.emc_base.specs.Lists.{At, AreApart}
-use Rattle.name_places.specs.GivenNames.{first_place}
-use Rattle.name_places.specs.PlacesIn.{place_in}
-use Rattle.name_places.proofs.FirstPlaces.{own_place}
-use Rattle.name_places.proofs.KnownNames.{not_apart}
+use Rattle.groupings.specs.name_places.GivenNames.{first_place}
+use Rattle.groupings.specs.name_places.PlacesIn.{place_in}
+use Rattle.groupings.proofs.name_places.FirstPlaces.{own_place}
+use Rattle.groupings.proofs.name_places.KnownNames.{not_apart}
 use Rattle.round_trip.specs.Words.{EntityModel, EntityType, Prop, PropId, StoreModel, Table, TypeId, props_of}
 use Rattle.edm_types.specs.Forest.{type_numbered}
-use Rattle.sound_types.specs.PropNames.{HaveOtherNames}
+use Rattle.schema_laws.specs.sound_types.PropNames.{HaveOtherNames}
 use Rattle.schema_names.specs.declared.columns.TableColumns.{TableColumns}
 use Rattle.schema_names.specs.Columns.{AreColumnsOf, IsOfColumns}
 use Rattle.schema_names.specs.SchemaNames.{IsColumnAt, column_named, has_name, prop_named}

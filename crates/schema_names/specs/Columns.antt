@@ -3,8 +3,8 @@
 use Rattle.std.specs.Prelude.{◌≡◌, ◌↔◌, ℕ, List, IsTrue, map}
 use Rattle.round_trip.specs.Words.{Column, Table, At}
 use Rattle.emc_base.specs.Lists.{AreApart}
-use Rattle.name_places.specs.GivenNames.{first_place}
-use Rattle.name_places.specs.PlacesIn.{place_in}
+use Rattle.groupings.specs.name_places.GivenNames.{first_place}
+use Rattle.groupings.specs.name_places.PlacesIn.{place_in}
 use Rattle.schema_names.specs.declared.columns.TableColumns.{TableColumns}
 
 -- where the name of each of these columns is given first, and whether their names are apart

@@ -4,9 +4,9 @@ use Rattle.std.specs.Prelude.{ℕ, length, AllPairs, Option, option_map, slice_g
 use Rattle.std.specs.Option.{option_and_then}
 use Rattle.round_trip.specs.Words.{EntityModel, EntityType, TypeId, At, props_of}
 use Rattle.edm_types.specs.Forest.{type_numbered}
-use Rattle.base_chains.specs.Chains.{IsAncestor, StaysWithin}
+use Rattle.graphs.specs.base_chains.Chains.{IsAncestor, StaysWithin}
 use Rattle.round_trip.specs.soundness.Inheritance.{HasInheritedProps}
-use Rattle.sound_types.specs.PropNames.{HaveOtherNames}
+use Rattle.schema_laws.specs.sound_types.PropNames.{HaveOtherNames}
 
 -- the place of the base type of the type at a place
 abbrev pub base_place : EntityModel → ℕ → Option ℕ

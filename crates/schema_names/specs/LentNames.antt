@@ -1,9 +1,9 @@
 -- The places of names that a closure lends.
 use Rattle.std.specs.Prelude.{◌≡◌, ℕ, List}
 use Rattle.std.specs.Borrow.{Bor}
-use Rattle.name_places.specs.declared.places.Places.{Places}
-use Rattle.name_places.specs.GivenNames.{first_place}
-use Rattle.name_places.specs.PlacesIn.{place_in}
+use Rattle.groupings.specs.declared.name_places.places.Places.{Places}
+use Rattle.groupings.specs.name_places.GivenNames.{first_place}
+use Rattle.groupings.specs.name_places.PlacesIn.{place_in}
 
 -- where the name is given first that is lent of each item, whichever name of an item that is
 abbrev pub ArePlacesBy : {T : Type 0} → (Bor T → Bor (List ℕ) → Type 0) → List T → Places → Type 0

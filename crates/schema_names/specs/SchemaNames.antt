@@ -7,8 +7,8 @@ use Rattle.std.specs.Str.{bytes_eq}
 use Rattle.round_trip.specs.Words.{EntityModel, Assoc, StoreModel, Column, Table, PropId, At, props_of}
 use Rattle.edm_types.specs.Forest.{type_numbered}
 use Rattle.round_trip.specs.soundness.Inheritance.{declared_props}
-use Rattle.name_places.specs.GivenNames.{first_place}
-use Rattle.csdl_lists.specs.References.{rest_of}
+use Rattle.groupings.specs.name_places.GivenNames.{first_place}
+use Rattle.csdl_names.specs.csdl_lists.References.{rest_of}
 use Rattle.schema_names.specs.declared.ends.WhichEnd.{WhichEnd}
 use Rattle.schema_names.specs.declared.ends.WhichEnd.TheVariants.{First, Second}
 

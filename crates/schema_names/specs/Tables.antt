@@ -1,7 +1,7 @@
 -- The tables of names are those of a model and a store.
 use Rattle.std.specs.Prelude.{◌≡◌}
-use Rattle.name_places.specs.GivenNames.{first_place}
-use Rattle.name_places.specs.PlacesIn.{place_in}
+use Rattle.groupings.specs.name_places.GivenNames.{first_place}
+use Rattle.groupings.specs.name_places.PlacesIn.{place_in}
 use Rattle.round_trip.specs.Words.{EntityModel, StoreModel}
 use Rattle.schema_names.specs.declared.tables.NameTables.{NameTables}
 use Rattle.schema_names.specs.Columns.{AreColumnsOf}

@@ -1,14 +1,14 @@
 ghost use Rattle.std.specs.Prelude.{◌≡◌, ◌↔◌, IfOk, IsTrue, List, map};
 ghost use Rattle.round_trip.specs.Words.{Column};
 ghost use Rattle.emc_base.specs.Lists.{AreApart};
-ghost use Rattle.name_places.specs.GivenNames.{IsGivenBefore, first_place};
-ghost use Rattle.name_places.specs.PlacesIn.{place_in};
+ghost use Rattle.groupings.specs.name_places.GivenNames.{IsGivenBefore, first_place};
+ghost use Rattle.groupings.specs.name_places.PlacesIn.{place_in};
 ghost use Rattle.schema_names.specs.Columns.{AreColumnsOf, IsOfColumns};
 
 use crate::lent_names::places_by;
 use edm_types::{Column, Table};
 use emc_base::{Memory, Seq};
-use name_places::Places;
+use groupings::Places;
 use std::alloc::Global;
 
 /// Where the columns of a table are.

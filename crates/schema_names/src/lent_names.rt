@@ -2,7 +2,7 @@ ghost use Rattle.std.specs.Prelude.{IfOk};
 ghost use Rattle.schema_names.specs.LentNames.{ArePlacesBy};
 
 use emc_base::{Memory, Txt};
-use name_places::{Places, first_places};
+use groupings::{Places, first_places};
 use std::alloc::Global;
 
 /// Where the name of each item is given first.

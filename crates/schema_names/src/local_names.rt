@@ -1,8 +1,8 @@
 ghost use Rattle.std.specs.Prelude.{◌≡◌, option_map};
-ghost use Rattle.csdl_lists.specs.References.{rest_of};
+ghost use Rattle.csdl_names.specs.csdl_lists.References.{rest_of};
 ghost use Rattle.schema_names.specs.SchemaNames.{local_name};
 
-use csdl_lists::rest_after;
+use csdl_names::rest_after;
 use edm_types::EntityModel;
 
 /// The name that a reference gives: it follows the Namespace, or else the Alias, and a dot.

@@ -5,7 +5,7 @@ use crate::lent_names::places_by;
 use crate::own_props::{OwnProps, own_props_of};
 use edm_types::{EntityModel, StoreModel};
 use emc_base::{Memory, Seq};
-use name_places::Places;
+use groupings::Places;
 use std::alloc::Global;
 
 /// Where the names in an entity model and a store are given first.

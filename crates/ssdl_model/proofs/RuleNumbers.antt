@@ -5,15 +5,15 @@ use Rattle.json_form.specs.declared.pointer.Step.TheVariants.{Member}
 use Rattle.layouts.specs.declared.fault.Fault.{Fault}
 use Rattle.layouts.specs.declared.rule.Rule.TheVariants.{NamedOnce, Resolves}
 use Rattle.layouts.specs.Rules.{rule_number}
-use Rattle.rule_places.specs.Places.{InList}
-use Rattle.rule_places.proofs.Rules.{after_number, rule_behind, rule_inside}
-use Rattle.csdl_lists.specs.declared.raw.RawModel.{RawModel}
-use Rattle.csdl_lists.specs.References.{names_in}
+use Rattle.layouts.specs.rule_places.Places.{InList}
+use Rattle.layouts.proofs.rule_places.Rules.{after_number, rule_behind, rule_inside}
+use Rattle.csdl_names.specs.declared.csdl_lists.raw.RawModel.{RawModel}
+use Rattle.csdl_names.specs.csdl_lists.References.{names_in}
 use Rattle.csdl_names.proofs.RepeatedRule.{repeated_rule}
 use Rattle.csdl_names.proofs.UnresolvedRule.{unresolved_rule}
-use Rattle.ssdl_rules.specs.Owned.{HasEndlessFault, IsEndless, IsEndlessFault, IsShared, IsSharedFault}
-use Rattle.ssdl_rules.specs.StoreRules.{BreaksStoreRules}
-use Rattle.ssdl_rules.proofs.RuleNumbers.{store_rule}
+use Rattle.ssdl_model.specs.ssdl_rules.Owned.{HasEndlessFault, IsEndless, IsEndlessFault, IsShared, IsSharedFault}
+use Rattle.ssdl_model.specs.ssdl_rules.StoreRules.{BreaksStoreRules}
+use Rattle.ssdl_model.proofs.ssdl_rules.RuleNumbers.{store_rule}
 use Rattle.ssdl_model.specs.StoreFaults.{IsFaultAfterNames, IsGivenTwice, IsStoreListFault, NamesNothing}
 
 module _ (store : RawModel) where

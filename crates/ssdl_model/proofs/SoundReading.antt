@@ -2,17 +2,17 @@
 use Rattle.std.proofs.Common.{◌≡◌, inl, inr, None, codes, sym, refl, subst}
 use Rattle.std.proofs.lemmas.List.Elements.{All-map}
 use Rattle.serde_json.specs.Data.{Data}
-use Rattle.from_nodes.specs.Reading.{items_at}
+use Rattle.json_form.specs.from_nodes.Reading.{items_at}
 use Rattle.emc_base.proofs.Lists.{all_from_members}
-use Rattle.least_fault.specs.Least.{IsLeast}
+use Rattle.groupings.specs.least_fault.Least.{IsLeast}
 use Rattle.layouts.specs.Faults.{fault_cmp}
 use Rattle.edm_types.specs.declared.store.StoreModel.{StoreModel}
 use Rattle.round_trip.specs.soundness.Stores.{IsSoundStore}
-use Rattle.csdl_lists.specs.declared.raw.RawModel.{RawModel}
-use Rattle.csdl_lists.specs.declared.raw.RawType.{RawType}
-use Rattle.ssdl_lists.specs.RawStore.{IsUnbased, raw_store, raw_table}
-use Rattle.ssdl_making.specs.StoreMeaning.{store_meaning}
-use Rattle.ssdl_sound.specs.SoundStore.{KeepsStoreRules}
+use Rattle.csdl_names.specs.declared.csdl_lists.raw.RawModel.{RawModel}
+use Rattle.csdl_names.specs.declared.csdl_lists.raw.RawType.{RawType}
+use Rattle.ssdl_model.specs.ssdl_lists.RawStore.{IsUnbased, raw_store, raw_table}
+use Rattle.ssdl_model.specs.ssdl_making.StoreMeaning.{store_meaning}
+use Rattle.ssdl_model.specs.ssdl_sound.SoundStore.{KeepsStoreRules}
 use Rattle.ssdl_model.specs.ReadsStore.{IsStoreOf}
 use Rattle.ssdl_model.specs.StoreFaults.{IsStoreFault}
 

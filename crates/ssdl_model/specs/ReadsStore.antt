@@ -2,13 +2,13 @@
 use Rattle.std.specs.Prelude.{◌≡◌, Result}
 use Rattle.serde_json.specs.Data.{Data}
 use Rattle.layouts.specs.declared.fault.Fault.{Fault}
-use Rattle.told_rules.specs.Reads.{Answers}
+use Rattle.layouts.specs.told_rules.Reads.{Answers}
 use Rattle.edm_types.specs.declared.faults.VocabFault.{VocabFault}
 use Rattle.edm_types.specs.declared.faults.VocabFile.TheVariants.{Ssdl}
 use Rattle.edm_types.specs.declared.store.StoreModel.{StoreModel}
 use Rattle.round_trip.specs.soundness.Stores.{IsSoundStore}
-use Rattle.ssdl_lists.specs.RawStore.{raw_store}
-use Rattle.ssdl_making.specs.StoreMeaning.{store_meaning}
+use Rattle.ssdl_model.specs.ssdl_lists.RawStore.{raw_store}
+use Rattle.ssdl_model.specs.ssdl_making.StoreMeaning.{store_meaning}
 use Rattle.ssdl_model.specs.StoreFaults.{IsStoreFault}
 
 -- the document breaks no rule, and means this store, which is sound

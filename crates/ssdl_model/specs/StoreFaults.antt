@@ -6,12 +6,12 @@ use Rattle.layouts.specs.declared.fault.Fault.{Fault}
 use Rattle.layouts.specs.declared.form.Form.TheVariants.{Object}
 use Rattle.layouts.specs.declared.form.Shape.TheVariants.{Store}
 use Rattle.layouts.specs.Forms.{IsFaultOf}
-use Rattle.csdl_lists.specs.declared.raw.RawModel.{RawModel}
+use Rattle.csdl_names.specs.declared.csdl_lists.raw.RawModel.{RawModel}
 use Rattle.csdl_names.specs.Repeated.{IsRepeated}
 use Rattle.csdl_names.specs.Unresolved.{IsUnresolved}
-use Rattle.ssdl_lists.specs.RawStore.{raw_store}
-use Rattle.ssdl_rules.specs.Owned.{IsEndless, IsShared}
-use Rattle.ssdl_rules.specs.StoreRules.{BreaksStoreRules}
+use Rattle.ssdl_model.specs.ssdl_lists.RawStore.{raw_store}
+use Rattle.ssdl_model.specs.ssdl_rules.Owned.{IsEndless, IsShared}
+use Rattle.ssdl_model.specs.ssdl_rules.StoreRules.{BreaksStoreRules}
 
 -- V6: a name is given twice in its scope, or two tables have one type
 abbrev pub IsGivenTwice : RawModel → Fault → Type 0

@@ -1,30 +1,28 @@
 ghost use Rattle.std.specs.Prelude.{◌≡◌, IfOk};
 ghost use Rattle.json_form.specs.Documents.{tree_of};
-ghost use Rattle.least_fault.specs.Least.{IsLeast};
+ghost use Rattle.groupings.specs.least_fault.Least.{IsLeast};
 ghost use Rattle.layouts.specs.Faults.{fault_cmp};
-ghost use Rattle.csdl_lists.specs.Scopes.{IsScopeOf};
-ghost use Rattle.ssdl_lists.specs.RawStore.{IsUnbased, raw_store};
-ghost use Rattle.ssdl_making.specs.StoreMeaning.{store_meaning};
-ghost use Rattle.told_rules.specs.Reads.{Reads};
+ghost use Rattle.csdl_names.specs.csdl_lists.Scopes.{IsScopeOf};
+ghost use Rattle.ssdl_model.specs.ssdl_lists.RawStore.{IsUnbased, raw_store};
+ghost use Rattle.ssdl_model.specs.ssdl_making.StoreMeaning.{store_meaning};
+ghost use Rattle.layouts.specs.told_rules.Reads.{Reads};
 ghost use Rattle.ssdl_model.specs.ReadsStore.{ReadsStore};
 ghost use Rattle.ssdl_model.specs.StoreFaults.{IsFaultAfterNames, IsGivenTwice, IsStoreFault, IsStoreListFault, NamesNothing};
-ghost use Rattle.ssdl_rules.specs.StoreRules.{BreaksStoreRules};
+ghost use Rattle.ssdl_model.specs.ssdl_rules.StoreRules.{BreaksStoreRules};
 
 use crate::roots::roots_of;
-use csdl_constraints::Sides;
-use csdl_lists::{RawModel, Scope, bases_of};
-use csdl_names::{Lookups, first_repeated, first_unresolved, props_of};
+use crate::ssdl_lists::{read_store, tables_of};
+use crate::ssdl_making::make_store;
+use crate::ssdl_rules::{Owners, first_endless, first_shared, first_store_fault};
+use crate::ssdl_sound::a_store_that_breaks_no_rule_is_sound;
+use csdl_associations::Sides;
+use csdl_names::{Lookups, RawModel, Scope, bases_of, first_repeated, first_unresolved, props_of};
 use edm_types::{StoreModel, VocabFault, VocabFile};
 use emc_base::Memory;
+use groupings::earlier;
 use json_form::Doc;
-use layouts::{Fault, Form, Shape, first_fault};
-use least_fault::earlier;
-use ssdl_lists::{read_store, tables_of};
-use ssdl_making::make_store;
-use ssdl_rules::{Owners, first_endless, first_shared, first_store_fault};
-use ssdl_sound::a_store_that_breaks_no_rule_is_sound;
+use layouts::{Fault, Form, Shape, Stop, first_fault, told};
 use std::alloc::Global;
-use told_rules::{Stop, told};
 
 /// Reads an SSDL document: `Ok` with the store that it means, which is sound, where it breaks no rule; else `Rule` with the least rule that it
 /// breaks, at its first place. `Memory` comes where memory ran out, and where keys and constraints name so many columns that their look-ups

@@ -1,8 +1,8 @@
 ghost use Rattle.std.specs.Prelude.{◌≡◌, IfOk};
-ghost use Rattle.csdl_constraints.specs.Sides.{roots_in};
-ghost use Rattle.ssdl_lists.specs.RawStore.{IsUnbased};
+ghost use Rattle.csdl_associations.specs.csdl_constraints.Sides.{roots_in};
+ghost use Rattle.ssdl_model.specs.ssdl_lists.RawStore.{IsUnbased};
 
-use csdl_lists::RawModel;
+use csdl_names::RawModel;
 use emc_base::Memory;
 use std::alloc::Global;
 

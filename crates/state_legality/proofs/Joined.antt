@@ -1,18 +1,18 @@
 -- The rules of sets and those of links and principals together.
 use Rattle.std.proofs.Common.{◌≡◌, ◌⊎◌, ⊎_elim, inl, inr, Option, None, sym, subst}
-use Rattle.least_fault.specs.Least.{IsLeast, earlier}
-use Rattle.least_fault.proofs.Leasts.{least_of_both, least_same}
+use Rattle.groupings.specs.least_fault.Least.{IsLeast, earlier}
+use Rattle.groupings.proofs.least_fault.Leasts.{least_of_both, least_same}
 use Rattle.round_trip.specs.Words.{Breach, EntityModel, State, IsBreachOf, IsLegal, IsState}
 use Rattle.round_trip.specs.soundness.Models.{IsSoundModel}
-use Rattle.breach_order.specs.Founds.{found_cmp}
-use Rattle.breach_order.specs.FoundOrder.{found_cmp_total}
-use Rattle.breach_order.specs.declared.found.Found.{Found}
-use Rattle.set_legality.specs.Tells.{AreLegalSets, BreaksSets}
-use Rattle.set_legality.proofs.Kept.{kept}
-use Rattle.set_legality.proofs.Unbroken.{legal_set}
-use Rattle.link_legality.specs.Tells.{BreaksLinks, KeepsLinkRules}
-use Rattle.link_legality.proofs.Kept.{no_breach}
-use Rattle.link_legality.proofs.Unbroken.{keeps_rules}
+use Rattle.entity_state.specs.breach_order.Founds.{found_cmp}
+use Rattle.entity_state.specs.breach_order.FoundOrder.{found_cmp_total}
+use Rattle.entity_state.specs.declared.breach_order.found.Found.{Found}
+use Rattle.state_legality.specs.set_legality.Tells.{AreLegalSets, BreaksSets}
+use Rattle.state_legality.proofs.set_legality.Kept.{kept}
+use Rattle.state_legality.proofs.set_legality.Unbroken.{legal_set}
+use Rattle.state_legality.specs.link_legality.Tells.{BreaksLinks, KeepsLinkRules}
+use Rattle.state_legality.proofs.link_legality.Kept.{no_breach}
+use Rattle.state_legality.proofs.link_legality.Unbroken.{keeps_rules}
 use Rattle.state_legality.specs.Tells.{BreaksState}
 
 module _ (model : EntityModel) (state : State) where

@@ -1,1 +1,3 @@
 pub mod Tells
+pub mod set_legality
+pub mod link_legality

@@ -3,7 +3,7 @@
 use Rattle.std.specs.Prelude.{Option, Some, None}
 use Rattle.round_trip.specs.Words.{Breach, EntityModel, State, IsBreachOf, IsLegal}
 use Rattle.round_trip.specs.Breaches.{BreaksRule}
-use Rattle.breach_order.specs.declared.found.Found.{Found}
+use Rattle.entity_state.specs.declared.breach_order.found.Found.{Found}
 
 -- that it is legal, or the first breach
 abbrev pub TellsState : EntityModel → State → Option Breach → Type 0

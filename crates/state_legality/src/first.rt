@@ -1,17 +1,16 @@
 ghost use Rattle.std.specs.Prelude.{IfOk};
-ghost use Rattle.least_fault.specs.Least.{IsLeast};
+ghost use Rattle.groupings.specs.least_fault.Least.{IsLeast};
 ghost use Rattle.round_trip.specs.Words.{Breach, EntityModel, IsBreachOf, IsLegal, IsState, State};
 ghost use Rattle.round_trip.specs.soundness.Models.{IsSoundModel};
-ghost use Rattle.breach_order.specs.Founds.{found_cmp};
+ghost use Rattle.entity_state.specs.breach_order.Founds.{found_cmp};
 ghost use Rattle.state_legality.specs.Tells.{BreaksState, TellsState};
 
-use breach_order::Found;
+use crate::link_legality::first_in_links;
+use crate::set_legality::first_in_sets;
 use edm_types::{Breach, EntityModel};
 use emc_base::Memory;
-use entity_state::EntityState;
-use least_fault::earlier;
-use link_legality::first_in_links;
-use set_legality::first_in_sets;
+use entity_state::{EntityState, Found};
+use groupings::earlier;
 use std::alloc::Global;
 
 /// The first breach of the rules of entity states, S1 to S8: the least rule that is broken, at its first place. `None` comes exactly where

@@ -1,14 +1,14 @@
 ghost use Rattle.std.specs.Prelude.{◌↔◌, IsTrue};
 ghost use Rattle.round_trip.specs.Words.{IsLegal, IsState};
 ghost use Rattle.round_trip.specs.soundness.Models.{IsSoundModel};
-ghost use Rattle.set_legality.specs.Tells.{AreLegalSets};
-ghost use Rattle.link_legality.specs.Tells.{KeepsLinkRules, state_of};
+ghost use Rattle.state_legality.specs.set_legality.Tells.{AreLegalSets};
+ghost use Rattle.state_legality.specs.link_legality.Tells.{KeepsLinkRules, state_of};
 
+use crate::link_legality::are_legal_links;
+use crate::set_legality::are_legal_sets;
 use edm_types::{Entity, EntityModel, Link};
 use emc_base::Seq;
 use entity_state::EntityState;
-use link_legality::are_legal_links;
-use set_legality::are_legal_sets;
 
 /// Whether an entity state is legal. It takes no memory, and its time grows with the square of the number of entities and of links.
 pub fn is_legal(state: &EntityState, model: &EntityModel) -> bool

@@ -6,12 +6,12 @@ use Rattle.std.proofs.lemmas.List.{map-append}
 use Rattle.std.proofs.lemmas.List.Elements.{filter-append}
 use Rattle.emc_base.specs.Lists.{At}
 use Rattle.round_trip.specs.Words.{ColId}
-use Rattle.group_numbers.specs.Numbers.{HoldsEach}
+use Rattle.member_groups.specs.group_numbers.Numbers.{HoldsEach}
 use Rattle.regions.specs.declared.pattern.Symbol.{Symbol}
 use Rattle.regions.specs.Lists.{firsts}
 use Rattle.regions.specs.Patterns.{symbols_in}
 use Rattle.regions.specs.Symbols.{SymbolWriting, same_symbol}
-use Rattle.region_laws.proofs.Symbols.{Decides-symbol}
+use Rattle.regions.proofs.region_laws.Symbols.{Decides-symbol}
 use Rattle.symbolic_rows.specs.declared.writing.Writing.{Writing}
 use Rattle.symbolic_rows.specs.Grouped.{AreIn, AreTo, with_once}
 use Rattle.symbolic_rows.specs.Written.{in_symbols}

@@ -6,8 +6,8 @@ use Rattle.std.proofs.lemmas.List.FromFn.{get_or-enumerate_from, length-enumerat
 use Rattle.std.proofs.lemmas.Option.{get_or_from_slice_get, none-some, slice_get_past, slice_get_within}
 use Rattle.emc_base.specs.Lists.{At}
 use Rattle.emc_base.proofs.Lists.{at_once}
-use Rattle.group_numbers.specs.Numbers.{HoldsEach}
-use Rattle.linked_places.proofs.Lists.{at_before_set, at_set}
+use Rattle.member_groups.specs.group_numbers.Numbers.{HoldsEach}
+use Rattle.groupings.proofs.linked_places.Lists.{at_before_set, at_set}
 
 module _ {X : Type 0} (P Q : ℕ → X → Type 0) (k : ℕ) (others : (i : ℕ) (y : X) → i ≢ k → P i y → Q i y) (n : ℕ) (xs : List X) (holds : HoldsEach P n xs) where
   -- another item is put at the place

@@ -4,8 +4,8 @@ use Rattle.std.specs.Prelude.{◌==◌, ◌&&◌, List, find, Option, Bool}
 use Rattle.std.specs.List.{list_all, list_any}
 use Rattle.round_trip.specs.Words.{TypeId, PropId, EntityModel, Fragment}
 use Rattle.condition_logic.specs.declared.atoms.AtomOf.{AtomOf}
-use Rattle.state_demand.specs.Selecting.{is_picked}
-use Rattle.sound_demand.specs.Deriving.{derives}
+use Rattle.schema_laws.specs.state_demand.Selecting.{is_picked}
+use Rattle.schema_laws.specs.sound_demand.Deriving.{derives}
 use Rattle.regions.specs.Symbols.{met_by_atoms}
 
 -- what is told of a property

@@ -1,5 +1,5 @@
 ghost use Rattle.std.specs.Prelude.{◌≡◌, ◌++◌, ◌∷◌, [], IfOk, List, map, ℕ};
-ghost use Rattle.group_numbers.specs.Numbers.{HoldsEach};
+ghost use Rattle.member_groups.specs.group_numbers.Numbers.{HoldsEach};
 ghost use Rattle.regions.specs.Symbols.{SymbolWriting};
 ghost use Rattle.symbolic_rows.specs.Grouped.{AreEmpty, AreTo};
 ghost use Rattle.symbolic_rows.specs.Written.{in_symbols};

@@ -2,14 +2,13 @@ ghost use Rattle.std.specs.Prelude.{◌≡◌, ◌++◌, ◌==◌, ◌&&◌, IfO
 ghost use Rattle.std.specs.List.{list_any};
 ghost use Rattle.cells.specs.Parts.{AreParts};
 ghost use Rattle.emc_base.specs.Lists.{At};
-ghost use Rattle.region_basis.specs.BasisOf.{basis_of};
+ghost use Rattle.cells.specs.region_basis.BasisOf.{basis_of};
 ghost use Rattle.symbolic_rows.specs.Written.{in_symbols, writings_at, writings_by};
 
 use crate::writing::{Writing, link_fragment_writing};
-use cells::{LinkPlace, Parts};
+use cells::{LinkPlace, Parts, host_end};
 use edm_types::{Assoc, End};
 use emc_base::{AssocId, Memory};
-use region_basis::host_end;
 use regions::Region;
 use std::alloc::Global;
 

@@ -2,7 +2,7 @@ ghost use Rattle.std.specs.Prelude.{◌≡◌, ◌++◌, ◌∷◌, [], IfOk, Li
 ghost use Rattle.round_trip.specs.Words.{ColId};
 ghost use Rattle.regions.specs.declared.pattern.Symbol.{Symbol};
 ghost use Rattle.regions.specs.Patterns.{pattern_by};
-ghost use Rattle.group_numbers.specs.Numbers.{HoldsEach};
+ghost use Rattle.member_groups.specs.group_numbers.Numbers.{HoldsEach};
 ghost use Rattle.symbolic_rows.specs.Grouped.{AreIn, row_by, rows_by, with_once};
 ghost use Rattle.symbolic_rows.specs.Written.{in_symbols};
 

@@ -1,9 +1,9 @@
 ghost use Rattle.std.specs.Prelude.{◌≡◌, option_map};
 ghost use Rattle.std.specs.List.{list_all, list_any};
-ghost use Rattle.state_demand.specs.Selecting.{is_picked, passes};
+ghost use Rattle.schema_laws.specs.state_demand.Selecting.{is_picked, passes};
 ghost use Rattle.regions.specs.Symbols.{atom_passes, met_by_atoms};
 ghost use Rattle.round_trip.specs.soundness.Models.{IsSoundModel};
-ghost use Rattle.sound_demand.specs.Deriving.{derives};
+ghost use Rattle.schema_laws.specs.sound_demand.Deriving.{derives};
 ghost use Rattle.symbolic_rows.specs.Selected.{selected_by, told_of};
 
 use condition_logic::{Atom, AtomOf};

@@ -10,8 +10,8 @@ use Rattle.round_trip.specs.Words.{Assoc, AssocId, Fragment, IsWritten, LinkFrag
 use Rattle.round_trip.specs.FailsAt.{IsHostedAt}
 use Rattle.round_trip.specs.soundness.Mappings.{HasLinkFragmentIds, IsSoundLinkFragment, IsSoundSchema}
 use Rattle.round_trip.specs.soundness.Owners as sound
-use Rattle.table_writers.specs.declared.writer.Owner.{Owner}
-use Rattle.table_writers.specs.declared.writer.Owner.TheVariants as owner
+use Rattle.table_owners.specs.declared.table_writers.writer.Owner.{Owner}
+use Rattle.table_owners.specs.declared.table_writers.writer.Owner.TheVariants as owner
 use Rattle.table_owners.specs.declared.sources.Source.{Source}
 use Rattle.table_owners.specs.declared.sources.Source.TheVariants.{Entities, Links}
 use Rattle.table_owners.specs.declared.sources.Standing.{Standing}

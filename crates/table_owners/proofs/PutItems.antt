@@ -4,7 +4,7 @@ use Rattle.std.proofs.lemmas.Bool.{cases_eq}
 use Rattle.std.proofs.lemmas.Option.{slice_get_within}
 use Rattle.emc_base.specs.Lists.{At}
 use Rattle.emc_base.proofs.Lists.{at_once}
-use Rattle.linked_places.proofs.Lists.{at_before_set, at_set}
+use Rattle.groupings.proofs.linked_places.Lists.{at_before_set, at_set}
 use Rattle.table_owners.specs.Puts.{IsSpared, Puts}
 
 module _ {X V : Type 0} (place : X → ℕ) (IsBy : ℕ → X → V → Type 0) (items : List X) where

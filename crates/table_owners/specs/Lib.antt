@@ -6,3 +6,6 @@ pub mod Pairings
 pub mod Places
 pub mod Puts
 pub mod Sources
+pub mod link_places
+pub mod table_writers
+pub mod key_matching

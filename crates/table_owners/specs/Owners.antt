@@ -3,8 +3,8 @@
 use Rattle.std.specs.Prelude.{◌≡◌, List, length, Option, MatchOption}
 use Rattle.round_trip.specs.Words.{TableId, Schema, At, IsWritten}
 use Rattle.round_trip.specs.soundness.Owners as sound
-use Rattle.table_writers.specs.declared.writer.Owner.{Owner}
-use Rattle.table_writers.specs.declared.writer.Owner.TheVariants.{Set, Assoc}
+use Rattle.table_owners.specs.declared.table_writers.writer.Owner.{Owner}
+use Rattle.table_owners.specs.declared.table_writers.writer.Owner.TheVariants.{Set, Assoc}
 
 -- an owner, as soundness has it
 abbrev pub owner_of : Owner → sound.Owner

@@ -5,8 +5,8 @@ use Rattle.std.specs.List.{filter_map, find}
 use Rattle.std.specs.Option.{option_map_or, unwrap_or}
 use Rattle.round_trip.specs.Words.{PropId, TableId, ColId, EntityModel, Assoc, Mapping, Fragment, Pair, LinkFragment, Schema, At, IsWritten}
 use Rattle.round_trip.specs.FailsAt.{IsHostedAt}
-use Rattle.table_writers.specs.declared.writer.Owner.{Owner}
-use Rattle.table_writers.specs.declared.writer.Owner.TheVariants as told
+use Rattle.table_owners.specs.declared.table_writers.writer.Owner.{Owner}
+use Rattle.table_owners.specs.declared.table_writers.writer.Owner.TheVariants as told
 use Rattle.table_owners.specs.declared.sources.Source.{Source}
 use Rattle.table_owners.specs.declared.sources.Source.TheVariants.{Entities, Links}
 use Rattle.table_owners.specs.declared.sources.Standing.{Standing}

@@ -1,14 +1,14 @@
 ghost use Rattle.std.specs.Prelude.{◌≡◌, IfOk};
 ghost use Rattle.round_trip.specs.soundness.Mappings.{IsSoundSchema};
-ghost use Rattle.link_places.specs.Between.{schema_of};
+ghost use Rattle.table_owners.specs.link_places.Between.{schema_of};
 ghost use Rattle.table_owners.specs.Owners.{TellOwners};
 ghost use Rattle.table_owners.specs.Sources.{owner_by, owner_of_links};
 
 use crate::sources::{Source, Standing, sources_of};
+use crate::table_writers::Owner;
 use edm_types::{Assoc, EntityModel, LinkFragment, Mapping, StoreModel};
 use emc_base::{Memory, Seq};
 use std::alloc::Global;
-use table_writers::Owner;
 
 /// Whom each table belongs to, if the schema is sound: `None` where nothing writes it. `Memory` comes where memory ran out.
 pub fn owners_of(

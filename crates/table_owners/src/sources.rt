@@ -1,13 +1,13 @@
 ghost use Rattle.std.specs.Prelude.{◌≡◌, length, IfOk};
 ghost use Rattle.round_trip.specs.Words.{EntityModel, Mapping};
-ghost use Rattle.link_places.specs.Between.{schema_of};
+ghost use Rattle.table_owners.specs.link_places.Between.{schema_of};
 ghost use Rattle.table_owners.specs.Puts.{Puts};
 ghost use Rattle.table_owners.specs.Sources.{AreSources, IsEntitySource, IsLinkSource, Stands, links_to, writes_to};
 
+use crate::link_places::is_hosted;
 use crate::putting::put;
 use edm_types::{LinkFragment, Mapping, StoreModel};
 use emc_base::{FragId, LinkFragId, Memory};
-use link_places::is_hosted;
 use std::alloc::Global;
 
 /// Where the links of a fragment stand in its table.

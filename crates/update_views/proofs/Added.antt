@@ -5,7 +5,7 @@ use Rattle.std.proofs.lemmas.List.{length-set, map-append}
 use Rattle.emc_base.proofs.Loops.{take_item}
 use Rattle.emc_base.proofs.Numbered.{numbered_at}
 use Rattle.round_trip.specs.Words.{At, Row, TableId, Tables, rows_in}
-use Rattle.region_lists.proofs.Taken.{flat_map_taken}
+use Rattle.region_partition.proofs.region_lists.Taken.{flat_map_taken}
 use Rattle.table_files.specs.declared.tables.TableRow.{TableRow}
 use Rattle.table_files.specs.Lists.{with_row}
 use Rattle.update_views.specs.Placed.{with_rows}

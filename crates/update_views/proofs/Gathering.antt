@@ -14,7 +14,7 @@ use Rattle.emc_base.proofs.Numbered.{numbered_at}
 use Rattle.round_trip.specs.Words.{Row, StoreModel, Table, rows_in}
 use Rattle.table_files.specs.declared.tables.TableRow.{TableRow}
 use Rattle.table_files.specs.Lists.{with_row}
-use Rattle.filled_rows.specs.Gathered.{gathered}
+use Rattle.case_laws.specs.filled_rows.Gathered.{gathered}
 use Rattle.update_views.specs.Placed.{with_rows}
 
 module _ {X : Type 0} where

@@ -10,14 +10,14 @@ use Rattle.regions.specs.declared.pattern.Focus.TheVariants as focus
 use Rattle.regions.specs.Basis.{Basis}
 use Rattle.regions.specs.Patterns.{pattern_of}
 use Rattle.regions.specs.Regions.{Holds, regions_by, regions_of, types_of}
-use Rattle.region_laws.specs.IsBasis.{IsBasis}
-use Rattle.region_laws.proofs.Regions.{region_only}
-use Rattle.region_table.specs.Numbers.{place_in}
-use Rattle.filled_rows.specs.Filled.{entity_rows}
-use Rattle.view_rows.specs.Made.{row_of, rows_of_region}
-use Rattle.view_rows.specs.Held.{row_by_entity}
-use Rattle.view_rows.specs.declared.rows.ViewRow.{ViewRow}
-use Rattle.view_rows.proofs.Values.{rows_held}
+use Rattle.regions.specs.region_laws.IsBasis.{IsBasis}
+use Rattle.regions.proofs.region_laws.Regions.{region_only}
+use Rattle.update_views.specs.region_table.Numbers.{place_in}
+use Rattle.case_laws.specs.filled_rows.Filled.{entity_rows}
+use Rattle.update_views.specs.view_rows.Made.{row_of, rows_of_region}
+use Rattle.update_views.specs.view_rows.Held.{row_by_entity}
+use Rattle.update_views.specs.declared.view_rows.rows.ViewRow.{ViewRow}
+use Rattle.update_views.proofs.view_rows.Values.{rows_held}
 use Rattle.update_views.specs.declared.views.SetView.{SetView}
 use Rattle.update_views.specs.declared.views.UpdateViews.{UpdateViews}
 use Rattle.update_views.specs.Making.{AreSetViews, IsSetView}

@@ -11,19 +11,19 @@ use Rattle.table_files.specs.declared.tables.TableRow.{TableRow}
 use Rattle.table_owners.specs.Places.{TellPlaces}
 use Rattle.table_owners.specs.declared.places.LinkPlace.{LinkPlace}
 use Rattle.table_owners.specs.declared.places.LinkPlace.TheVariants as place
-use Rattle.state_demand.specs.Owners.{IsJoinedTo}
+use Rattle.schema_laws.specs.state_demand.Owners.{IsJoinedTo}
 use Rattle.regions.specs.declared.pattern.Focus.TheVariants as focus
 use Rattle.regions.specs.declared.pattern.PatternRow.{PatternRow}
 use Rattle.regions.specs.Basis.{Basis}
 use Rattle.regions.specs.Patterns.{by_link, pattern_of}
-use Rattle.region_laws.specs.IsBasis.{IsBasis}
-use Rattle.joined_laws.proofs.OneRow.{joined_row as one_row}
-use Rattle.joined_laws.proofs.Told.{joined_told, told_joined}
-use Rattle.filled_rows.specs.Filled.{link_rows, table_row}
-use Rattle.view_rows.specs.Made.{link_row_of}
-use Rattle.view_rows.specs.Held.{row_by_link}
-use Rattle.view_rows.specs.declared.link_rows.LinkRow.{LinkRow}
-use Rattle.view_rows.proofs.Values.{link_row_held}
+use Rattle.regions.specs.region_laws.IsBasis.{IsBasis}
+use Rattle.region_states.proofs.joined_laws.OneRow.{joined_row as one_row}
+use Rattle.region_states.proofs.joined_laws.Told.{joined_told, told_joined}
+use Rattle.case_laws.specs.filled_rows.Filled.{link_rows, table_row}
+use Rattle.update_views.specs.view_rows.Made.{link_row_of}
+use Rattle.update_views.specs.view_rows.Held.{row_by_link}
+use Rattle.update_views.specs.declared.view_rows.link_rows.LinkRow.{LinkRow}
+use Rattle.update_views.proofs.view_rows.Values.{link_row_held}
 use Rattle.update_views.specs.declared.views.UpdateViews.{UpdateViews}
 use Rattle.update_views.specs.Making.{AreJoinedRows, joined_by, joined_where}
 use Rattle.update_views.specs.Views.{joined_at, joined_row}

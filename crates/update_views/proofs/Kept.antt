@@ -1,7 +1,7 @@
 -- The views of the sets one after another.
 use Rattle.std.proofs.Common.{◌≡◌, ◌∙◌, ℕ, List, length}
 use Rattle.regions.specs.Basis.{Basis}
-use Rattle.set_regions.proofs.Sets.{AreOfFirst}
+use Rattle.region_partition.proofs.set_regions.Sets.{AreOfFirst}
 use Rattle.update_views.specs.declared.views.SetView.{SetView}
 use Rattle.update_views.specs.Making.{AreSetViews, IsSetView}
 

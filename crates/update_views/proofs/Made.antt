@@ -3,7 +3,7 @@ use Rattle.table_owners.specs.Places.{TellPlaces}
 use Rattle.table_owners.specs.declared.places.LinkPlace.{LinkPlace}
 use Rattle.std.proofs.Common.{List}
 use Rattle.regions.specs.Basis.{Basis}
-use Rattle.region_laws.specs.IsBasis.{IsBasis}
+use Rattle.regions.specs.region_laws.IsBasis.{IsBasis}
 use Rattle.update_views.specs.declared.views.UpdateViews.{UpdateViews}
 use Rattle.update_views.specs.Making.{AreJoinedRows, AreSetViews}
 use Rattle.update_views.specs.Views.{AreViewsOf}

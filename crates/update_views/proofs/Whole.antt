@@ -10,18 +10,18 @@ use Rattle.round_trip.specs.TablesAre.{HasNoClash}
 use Rattle.table_files.specs.declared.tables.TableRow.{TableRow}
 use Rattle.cells.specs.declared.parts.Parts.{Parts}
 use Rattle.cells.specs.Parts.{AreParts, schema_in}
-use Rattle.host_links.specs.declared.links.HostLinks.{HostLinks}
-use Rattle.host_links.specs.Grouped.{GroupsLinks, links_in}
-use Rattle.state_demand.proofs.Lists.{member_of_flat_map, none_in_nil}
-use Rattle.region_laws.specs.IsBasis.{AreHostedLinks}
-use Rattle.region_laws.specs.Partners.{HasFewPartners}
-use Rattle.region_basis.specs.BasisOf.{basis_of}
-use Rattle.region_basis.proofs.Bases.{basis_is}
-use Rattle.region_basis.proofs.Links.{links_of_basis}
-use Rattle.filled_rows.specs.Gathered.{gathered, rows_of, rows_of_links, rows_of_set}
-use Rattle.filled_rows.proofs.Tables.{tables_are}
-use Rattle.view_rows.specs.Held.{row_by_link}
-use Rattle.view_rows.specs.declared.link_rows.LinkRow.{LinkRow}
+use Rattle.cells.specs.declared.host_links.links.HostLinks.{HostLinks}
+use Rattle.cells.specs.host_links.Grouped.{GroupsLinks, links_in}
+use Rattle.schema_laws.proofs.state_demand.Lists.{member_of_flat_map, none_in_nil}
+use Rattle.regions.specs.region_laws.IsBasis.{AreHostedLinks}
+use Rattle.regions.specs.region_laws.Partners.{HasFewPartners}
+use Rattle.cells.specs.region_basis.BasisOf.{basis_of}
+use Rattle.cells.proofs.region_basis.Bases.{basis_is}
+use Rattle.cells.proofs.region_basis.Links.{links_of_basis}
+use Rattle.case_laws.specs.filled_rows.Gathered.{gathered, rows_of, rows_of_links, rows_of_set}
+use Rattle.case_laws.proofs.filled_rows.Tables.{tables_are}
+use Rattle.update_views.specs.view_rows.Held.{row_by_link}
+use Rattle.update_views.specs.declared.view_rows.link_rows.LinkRow.{LinkRow}
 use Rattle.update_views.specs.declared.views.UpdateViews.{UpdateViews}
 use Rattle.update_views.specs.Placed.{with_rows}
 use Rattle.update_views.specs.Views.{AreViewsOf, joined_at, joined_row, local_rows}

@@ -14,12 +14,12 @@ use Rattle.regions.specs.declared.region.Region.{Region}
 use Rattle.regions.specs.Basis.{Basis}
 use Rattle.regions.specs.Patterns.{pattern_of, writings_of}
 use Rattle.regions.specs.Regions.{regions_of}
-use Rattle.region_laws.proofs.Rows.{rows_only}
-use Rattle.region_table.specs.Numbers.{place_in}
-use Rattle.view_rows.specs.Made.{first_link_row, link_row_of, row_of, rows_of_region}
-use Rattle.view_rows.specs.Held.{row_by_entity}
-use Rattle.view_rows.specs.declared.rows.ViewRow.{ViewRow}
-use Rattle.view_rows.specs.declared.link_rows.LinkRow.{LinkRow}
+use Rattle.regions.proofs.region_laws.Rows.{rows_only}
+use Rattle.update_views.specs.region_table.Numbers.{place_in}
+use Rattle.update_views.specs.view_rows.Made.{first_link_row, link_row_of, row_of, rows_of_region}
+use Rattle.update_views.specs.view_rows.Held.{row_by_entity}
+use Rattle.update_views.specs.declared.view_rows.rows.ViewRow.{ViewRow}
+use Rattle.update_views.specs.declared.view_rows.link_rows.LinkRow.{LinkRow}
 use Rattle.update_views.specs.declared.views.SetView.{SetView}
 use Rattle.update_views.specs.declared.views.UpdateViews.{UpdateViews}
 use Rattle.update_views.specs.Making.{AreSetViews, IsSetView}

@@ -7,9 +7,9 @@ use Rattle.table_owners.specs.declared.places.LinkPlace.{LinkPlace}
 use Rattle.table_owners.specs.declared.places.LinkPlace.TheVariants as place
 use Rattle.regions.specs.Basis.{Basis}
 use Rattle.regions.specs.Regions.{regions_of}
-use Rattle.region_table.specs.Finds.{Finds}
-use Rattle.view_rows.specs.Made.{first_link_row, rows_of_region}
-use Rattle.view_rows.specs.declared.link_rows.LinkRow.{LinkRow}
+use Rattle.update_views.specs.region_table.Finds.{Finds}
+use Rattle.update_views.specs.view_rows.Made.{first_link_row, rows_of_region}
+use Rattle.update_views.specs.declared.view_rows.link_rows.LinkRow.{LinkRow}
 use Rattle.update_views.specs.declared.views.SetView.{SetView}
 
 -- the view of a set finds the place of an entity's region, and has the rows of each region

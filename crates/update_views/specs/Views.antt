@@ -5,11 +5,11 @@ use Rattle.std.specs.Option.{option_map_or}
 use Rattle.round_trip.specs.Words.{SetId, AssocId, Entity, Hosted, Link}
 use Rattle.table_files.specs.declared.tables.TableRow.{TableRow}
 use Rattle.regions.specs.Basis.{Basis}
-use Rattle.region_table.specs.Numbers.{place_in}
-use Rattle.filled_rows.specs.Filled.{FillsRows}
-use Rattle.view_rows.specs.Held.{row_by_entity, row_by_link}
-use Rattle.view_rows.specs.declared.rows.ViewRow.{ViewRow}
-use Rattle.view_rows.specs.declared.link_rows.LinkRow.{LinkRow}
+use Rattle.update_views.specs.region_table.Numbers.{place_in}
+use Rattle.case_laws.specs.filled_rows.Filled.{FillsRows}
+use Rattle.update_views.specs.view_rows.Held.{row_by_entity, row_by_link}
+use Rattle.update_views.specs.declared.view_rows.rows.ViewRow.{ViewRow}
+use Rattle.update_views.specs.declared.view_rows.link_rows.LinkRow.{LinkRow}
 use Rattle.update_views.specs.declared.views.SetView.{SetView}
 use Rattle.update_views.specs.declared.views.UpdateViews.{UpdateViews}
 

@@ -2,7 +2,11 @@
 #![tactic(auto)]
 
 mod making;
+mod region_table;
 mod state_tables;
+pub mod view_rows;
 mod views;
 
+pub use region_table::{LinkRule, LinkTest, RegionTable, Test, TypeTests, ValueTest};
+pub use view_rows::{LinkCell, LinkRow, ViewCell, ViewRow, filled, link_row, rows_of_region};
 pub use views::UpdateViews;

@@ -1,21 +1,21 @@
 ghost use Rattle.std.specs.Prelude.{◌≡◌, IfOk, map};
 ghost use Rattle.round_trip.specs.Words.{At};
 ghost use Rattle.cells.specs.Parts.{AreParts};
-ghost use Rattle.region_basis.specs.BasisOf.{basis_of};
+ghost use Rattle.cells.specs.region_basis.BasisOf.{basis_of};
 ghost use Rattle.regions.specs.Regions.{regions_of};
-ghost use Rattle.set_regions.specs.Regions.{AreRegions};
+ghost use Rattle.region_partition.specs.set_regions.Regions.{AreRegions};
 ghost use Rattle.update_views.specs.Making.{AreJoinedRows, AreSetViews, IsSetView, joined_by};
 ghost use Rattle.update_views.specs.Views.{AreViewsOf};
-ghost use Rattle.view_rows.specs.Made.{rows_of_region};
+ghost use Rattle.update_views.specs.view_rows.Made.{rows_of_region};
 
+use crate::region_table::RegionTable;
+use crate::view_rows::{LinkRow, ViewRow, link_row, rows_of_region};
 use crate::views::{SetView, UpdateViews};
 use cells::{LinkPlace, Parts};
 use edm_types::Assoc;
 use emc_base::{AssocId, Memory, Seq, SetId};
-use region_table::RegionTable;
 use regions::Region;
 use std::alloc::Global;
-use view_rows::{LinkRow, ViewRow, link_row, rows_of_region};
 
 impl UpdateViews {
     /// The update views of a mapping, by the regions of each entity set. `Memory` comes where memory ran out.

@@ -4,24 +4,22 @@ ghost use Rattle.emc_base.specs.declared.ids.SetId.{SetId};
 ghost use Rattle.round_trip.specs.Words.{Hosted, IsLegal, TablesAre, Value, key_of};
 ghost use Rattle.round_trip.specs.TablesAre.{HasNoClash};
 ghost use Rattle.cells.specs.Parts.{AreParts, schema_in};
-ghost use Rattle.host_links.specs.Grouped.{links_in};
-ghost use Rattle.region_basis.specs.BasisOf.{basis_of};
-ghost use Rattle.region_laws.specs.Partners.{HasFewPartners};
-ghost use Rattle.filled_rows.specs.Gathered.{rows_of_links, rows_of_set};
+ghost use Rattle.cells.specs.host_links.Grouped.{links_in};
+ghost use Rattle.cells.specs.region_basis.BasisOf.{basis_of};
+ghost use Rattle.regions.specs.region_laws.Partners.{HasFewPartners};
+ghost use Rattle.case_laws.specs.filled_rows.Gathered.{rows_of_links, rows_of_set};
 ghost use Rattle.update_views.specs.Placed.{with_rows};
 ghost use Rattle.update_views.specs.Views.{AreViewsOf, joined_row, local_rows};
-ghost use Rattle.view_rows.specs.Held.{row_by_link};
+ghost use Rattle.update_views.specs.view_rows.Held.{row_by_link};
 
+use crate::view_rows::LinkRow;
 use crate::views::UpdateViews;
-use cells::Parts;
+use cells::{HostLinks, Parts};
 use edm_types::{Entity, Link};
 use emc_base::{AssocId, Memory, Seq, SetId};
-use entity_state::EntityState;
-use entity_values::key_of;
-use host_links::HostLinks;
+use entity_state::{EntityState, key_of};
 use std::alloc::Global;
 use table_files::{TableRow, Tables};
-use view_rows::LinkRow;
 
 impl UpdateViews {
     /// The tables of a legal state in which no two demanded values clash: one pass over its entities and its links. The associations that are hosted may let

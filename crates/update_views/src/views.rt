@@ -2,12 +2,12 @@ ghost use Rattle.std.specs.Prelude.{◌≡◌, [], IfOk, slice_get, unwrap_or};
 ghost use Rattle.std.specs.Option.{option_copied};
 ghost use Rattle.update_views.specs.Views.{joined_at, local_rows, rows_at, rows_in_set};
 
+use crate::region_table::RegionTable;
+use crate::view_rows::{LinkRow, ViewRow, filled};
 use edm_types::{Entity, Hosted, Link};
 use emc_base::{AssocId, Ledger, Memory, Seq, SetId};
-use region_table::RegionTable;
 use std::alloc::Global;
 use table_files::{LocalRows, TableRow};
-use view_rows::{LinkRow, ViewRow, filled};
 
 /// The update views of a mapping. They keep of each entity set how an entity's region is found and the rows of each region, and of each association set the row
 /// of a link, if its links have rows of their own.

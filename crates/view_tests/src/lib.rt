@@ -1,5 +1,7 @@
-//! Tests of update views: the rows of entities with the links that they host, of links by themselves, and of columns that are free.
+//! Tests of update views and of query views, on small mappings.
 #![tactic(auto)]
 
+mod case_tests;
+mod load_tests;
 #[cfg(test)]
 mod tests;

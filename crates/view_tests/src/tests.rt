@@ -1,17 +1,14 @@
 ghost use Rattle.cells.specs.Parts.{AreParts};
-ghost use Rattle.link_places.specs.Between.{schema_of};
+ghost use Rattle.table_owners.specs.link_places.Between.{schema_of};
 ghost use Rattle.round_trip.specs.soundness.Mappings.{IsSoundSchema};
 
-use cells::{Cells, Parts};
+use cells::{Cells, HostLinks, Parts};
+use data_documents::state_of_doc;
 use edm_types::{Entity, Link, Row};
 use emc_base::{AssocId, Bin, Key, Seq, SetId, Steps};
-use entity_documents::state_of_doc;
-use entity_state::EntityState;
-use entity_values::key_of;
-use host_links::HostLinks;
-use mapping_limits::first_limit;
+use entity_state::{EntityState, key_of};
+use region_partition::{first_limit, regions_of_sets};
 use schema_reader::{BOSS, CAMP, CREW, Meant, SHARED, SUMMER, document, read_texts};
-use set_regions::regions_of_sets;
 use std::alloc::Global;
 use std::test::Fail;
 use table_files::{LocalRows, TableRow, Tables};

@@ -13,11 +13,11 @@ use Rattle.regions.specs.declared.pattern.Symbol.{Symbol}
 use Rattle.regions.specs.Basis.{Basis}
 use Rattle.regions.specs.Patterns.{Valuation, pattern_of, writings_of}
 use Rattle.regions.specs.Regions.{regions_of}
-use Rattle.region_basis.specs.BasisOf.{basis_of}
-use Rattle.region_laws.proofs.pattern.Cells.{cell_of}
+use Rattle.cells.specs.region_basis.BasisOf.{basis_of}
+use Rattle.regions.proofs.region_laws.pattern.Cells.{cell_of}
 use Rattle.region_states.specs.defaults.Defaults.{default_valuation}
-use Rattle.conflicts.specs.Facts.{has_row, is_required}
-use Rattle.conflicts.specs.declared.conflict.Conflict.TheVariants as conflict
+use Rattle.region_states.specs.conflicts.Facts.{has_row, is_required}
+use Rattle.region_states.specs.declared.conflicts.conflict.Conflict.TheVariants as conflict
 use Rattle.region_states.specs.Entities.{focus_entity}
 use Rattle.region_states.specs.LoneStates.{lone_focus, lone_state}
 use Rattle.region_states.proofs.Alike.{lone_hosts}

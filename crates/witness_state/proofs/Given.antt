@@ -4,12 +4,12 @@ use Rattle.round_trip.specs.Words.{SetId}
 use Rattle.cells.specs.declared.parts.Parts.{Parts}
 use Rattle.cells.specs.Parts.{AreParts, schema_in}
 use Rattle.regions.specs.Basis.{Basis}
-use Rattle.region_laws.specs.IsBasis.{IsBasis}
-use Rattle.region_basis.specs.BasisOf.{basis_of}
+use Rattle.regions.specs.region_laws.IsBasis.{IsBasis}
+use Rattle.cells.specs.region_basis.BasisOf.{basis_of}
 use Rattle.region_states.specs.LoneStates.{HasNoAssociationSets}
-use Rattle.conflicts.specs.Conflicts.{IsConflictAt, TellsOfSet, kind_of}
-use Rattle.conflicts.specs.There.{NoneFailsBefore}
-use Rattle.conflicts.specs.declared.conflict.Conflict.{Conflict}
+use Rattle.region_states.specs.conflicts.Conflicts.{IsConflictAt, TellsOfSet, kind_of}
+use Rattle.region_states.specs.conflicts.There.{NoneFailsBefore}
+use Rattle.region_states.specs.declared.conflicts.conflict.Conflict.{Conflict}
 use Rattle.witness_state.specs.FirstConflict.{IsFirstConflict}
 
 -- a conflict of some set

@@ -6,7 +6,7 @@ use Rattle.emc_base.specs.declared.memory.Memory.{Memory}
 use Rattle.round_trip.specs.Words.{FailsAt, Place, Schema, State, kind_number}
 use Rattle.round_trip.specs.declared.FailKind.{FailKind}
 use Rattle.round_trip.specs.declared.FailKind.TheVariants as variant
-use Rattle.conflicts.specs.There.{NoneFailsBefore}
+use Rattle.region_states.specs.conflicts.There.{NoneFailsBefore}
 use Rattle.witness_state.specs.declared.failure.Failure.{Failure}
 use Rattle.witness_state.specs.Failures.{IsFailureOf}
 use Rattle.witness_state.specs.Shown.{shown_alone, shown_beside}

@@ -9,12 +9,12 @@ use Rattle.regions.specs.declared.region.Region.{Region}
 use Rattle.regions.specs.Basis.{Basis}
 use Rattle.regions.specs.Patterns.{Valuation}
 use Rattle.regions.specs.Regions.{regions_of}
-use Rattle.region_basis.specs.BasisOf.{basis_of}
-use Rattle.region_laws.proofs.pattern.Regions.{parts_of}
+use Rattle.cells.specs.region_basis.BasisOf.{basis_of}
+use Rattle.regions.proofs.region_laws.pattern.Regions.{parts_of}
 use Rattle.region_states.specs.defaults.Defaults.{default_valuation}
-use Rattle.conflicts.specs.declared.conflict.Conflict.{Conflict}
-use Rattle.conflicts.specs.declared.conflict.Conflict.TheVariants as conflict
-use Rattle.conflicts.specs.There.{NoneFailsBefore, NoneFailsBy}
+use Rattle.region_states.specs.declared.conflicts.conflict.Conflict.{Conflict}
+use Rattle.region_states.specs.declared.conflicts.conflict.Conflict.TheVariants as conflict
+use Rattle.region_states.specs.conflicts.There.{NoneFailsBefore, NoneFailsBy}
 use Rattle.region_states.specs.Entities.{focus_entity}
 use Rattle.region_states.specs.LoneStates.{empty_state, lone_focus, lone_state}
 use Rattle.region_states.proofs.Alike.{lone_hosts, lone_leaves, lone_rivals}

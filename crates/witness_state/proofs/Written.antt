@@ -9,10 +9,10 @@ use Rattle.regions.specs.Basis.{Basis}
 use Rattle.regions.specs.Patterns.{pattern_of}
 use Rattle.regions.specs.Regions.{regions_of}
 use Rattle.regions.specs.Symbols.{SymbolWriting, region_writings}
-use Rattle.region_laws.specs.IsBasis.{IsBasis}
-use Rattle.region_laws.proofs.pattern.Cells.{row_of, writing_to}
-use Rattle.region_laws.proofs.pattern.Origins.{IsRegionWriter, chosen_of, region_writer}
-use Rattle.region_laws.proofs.pattern.Regions.{parts_of}
+use Rattle.regions.specs.region_laws.IsBasis.{IsBasis}
+use Rattle.regions.proofs.region_laws.pattern.Cells.{row_of, writing_to}
+use Rattle.regions.proofs.region_laws.pattern.Origins.{IsRegionWriter, chosen_of, region_writer}
+use Rattle.regions.proofs.region_laws.pattern.Regions.{parts_of}
 use Rattle.region_states.specs.focus.Held.{HasRow}
 use Rattle.region_states.specs.LoneStates.{HasNoAssociationSets}
 use Rattle.region_states.proofs.Legal.{no_host}

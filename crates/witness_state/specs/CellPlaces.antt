@@ -3,7 +3,7 @@
 use Rattle.std.specs.Prelude.{◌≡◌, List}
 use Rattle.round_trip.specs.Words.{SetId, TableId, ColId, Column, Entity, Pair, Place, Schema, Table, place_at}
 use Rattle.round_trip.specs.FailsAt.{HasColumn}
-use Rattle.state_demand.specs.Owners.{IsOwned, paired_key}
+use Rattle.schema_laws.specs.state_demand.Owners.{IsOwned, paired_key}
 
 -- the place is that of a cell in the row of an entity, in a table that the set owns
 pub record IsCellPlace (schema : Schema) (s : SetId) (t : TableId) (c : ColId) (entity : Entity) (place : Place) : Type 0 where

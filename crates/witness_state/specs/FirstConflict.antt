@@ -3,12 +3,12 @@
 use Rattle.round_trip.specs.Words.{SetId}
 use Rattle.cells.specs.declared.parts.Parts.{Parts}
 use Rattle.cells.specs.Parts.{AreParts, schema_in}
-use Rattle.region_laws.specs.IsBasis.{IsBasis}
-use Rattle.region_basis.specs.BasisOf.{basis_of}
+use Rattle.regions.specs.region_laws.IsBasis.{IsBasis}
+use Rattle.cells.specs.region_basis.BasisOf.{basis_of}
 use Rattle.region_states.specs.LoneStates.{HasNoAssociationSets}
-use Rattle.conflicts.specs.Conflicts.{IsConflictAt, kind_of}
-use Rattle.conflicts.specs.There.{NoneFailsBefore}
-use Rattle.conflicts.specs.declared.conflict.Conflict.{Conflict}
+use Rattle.region_states.specs.conflicts.Conflicts.{IsConflictAt, kind_of}
+use Rattle.region_states.specs.conflicts.There.{NoneFailsBefore}
+use Rattle.region_states.specs.declared.conflicts.conflict.Conflict.{Conflict}
 
 -- sound parts without association sets, and a conflict of a set, before whose kind no legal state fails
 pub record IsFirstConflict (parts : Parts) (conflict : Conflict) : Type 0 where

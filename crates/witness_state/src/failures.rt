@@ -1,21 +1,20 @@
 ghost use Rattle.std.specs.Prelude.{◌≡◌, IfOk};
 ghost use Rattle.cells.specs.Parts.{AreParts, schema_in};
-ghost use Rattle.region_basis.specs.BasisOf.{basis_of};
+ghost use Rattle.cells.specs.region_basis.BasisOf.{basis_of};
 ghost use Rattle.region_states.specs.LoneStates.{HasNoAssociationSets};
 ghost use Rattle.regions.specs.declared.pattern.Focus.TheVariants as focus;
 ghost use Rattle.regions.specs.Basis.{Basis};
 ghost use Rattle.round_trip.specs.Words.{SetId};
-ghost use Rattle.conflicts.specs.Conflicts.{IsConflictAt, IsRegionOf, kind_of};
-ghost use Rattle.conflicts.specs.There.{NoneFailsBefore};
+ghost use Rattle.region_states.specs.conflicts.Conflicts.{IsConflictAt, IsRegionOf, kind_of};
+ghost use Rattle.region_states.specs.conflicts.There.{NoneFailsBefore};
 ghost use Rattle.witness_state.specs.Failures.{IsFailureOf};
 
 use crate::failure::Failure;
 use crate::one_state::{clash_failure, disagreement_failure, null_failure};
 use crate::two_states::{absence_failure, lost_failure, rival_failure};
-use cells::Parts;
-use conflicts::Conflict;
+use cells::{Parts, parts_are_a_basis};
 use emc_base::Memory;
-use region_basis::parts_are_a_basis;
+use region_states::Conflict;
 use regions::{Focus, Region};
 use std::alloc::Global;
 

@@ -6,7 +6,9 @@ mod failure;
 mod failures;
 mod one_state;
 mod places;
+mod region_values;
 mod two_states;
 
 pub use failure::Failure;
 pub use failures::build;
+pub use region_values::{clash_entity, lone_state, lost_entities, rival_entities, usual_entity};

@@ -8,7 +8,7 @@ ghost use Rattle.witness_state.specs.CellPlaces.{IsCellPlace};
 use cells::Parts;
 use edm_types::{Entity, EntityModel};
 use emc_base::{ColId, Memory, Place, SetId, TableId, Txt};
-use entity_values::{place_of, values_of};
+use entity_state::{place_of, values_of};
 use std::alloc::Global;
 
 /// The place of a cell in the row of an entity, in a table that the entity's set writes. The row's key is told in the order of the table's primary key.

@@ -18,3 +18,4 @@ pub mod BossLost
 pub mod Owners
 pub mod TypeLost
 pub mod Seats
+pub mod sound_examples

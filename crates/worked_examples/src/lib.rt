@@ -1,6 +1,8 @@
 //! Small mappings whose states are legal, or fail, just as is meant.
 #![tactic(auto)]
 
+mod sound_examples;
+
 ghost use Rattle.worked_examples.specs.BossLost.{BossIsLost};
 ghost use Rattle.worked_examples.specs.ByKind.{
   OneOfEachIsLegal,
@@ -60,6 +62,12 @@ ghost use Rattle.worked_examples.specs.Seats.{
 };
 ghost use Rattle.worked_examples.specs.TwoBosses.{TwoBossesClash};
 ghost use Rattle.worked_examples.specs.TypeLost.{TypeIsLost};
+
+pub use sound_examples::{
+    bosses_are_sound, broken_mappings_are_not_sound, broken_models_are_not_sound,
+    broken_stores_are_not_sound, items_are_sound, kinds_are_told, lines_are_sound,
+    people_are_sound, seats_are_sound, shop_is_sound, staff_is_sound,
+};
 
 /// One person with a name: the state is legal, its tables have the one row, and they are legal and agree with the fragment.
 pub fn stores_one_person()

@@ -3,18 +3,18 @@ use Rattle.std.proofs.Common.{◌≡◌, ◌≢◌, ◌&&◌, List, not, Decides
 use Rattle.std.proofs.lemmas.Bool.Decides.{Decides-and, Decides-like, Decides-not}
 use Rattle.round_trip.specs.Words.{TableId, ColId, Value, EntityModel}
 use Rattle.condition_logic.specs.declared.atoms.AtomOf.{AtomOf}
-use Rattle.state_demand.specs.Selecting.{same_value}
-use Rattle.state_demand.proofs.Selecting.{Decides-value}
+use Rattle.schema_laws.specs.state_demand.Selecting.{same_value}
+use Rattle.schema_laws.proofs.state_demand.Selecting.{Decides-value}
 use Rattle.regions.specs.declared.pattern.Symbol.{Symbol}
 use Rattle.regions.specs.declared.pattern.Focus.{Focus}
 use Rattle.regions.specs.Basis.{Basis}
 use Rattle.regions.specs.Patterns.{pattern_of}
 use Rattle.regions.specs.Settled.{Possible, are_one, clashes, multi, possible, single}
 use Rattle.regions.specs.Symbols.{same_symbol}
-use Rattle.region_laws.proofs.Symbols.{Decides-symbol}
-use Rattle.region_laws.specs.pattern.Allowed.{told_of}
-use Rattle.region_laws.specs.pattern.Listed.{Lists}
-use Rattle.conflicts.specs.Facts.{is_clash, listed_in, lists}
+use Rattle.regions.proofs.region_laws.Symbols.{Decides-symbol}
+use Rattle.regions.specs.region_laws.pattern.Allowed.{told_of}
+use Rattle.regions.specs.region_laws.pattern.Listed.{Lists}
+use Rattle.region_states.specs.conflicts.Facts.{is_clash, listed_in, lists}
 use Rattle.conflict_laws.proofs.clash.Listed.{Decides-listed}
 
 -- both can be one and the same value alone

@@ -1,6 +1,6 @@
 -- Where no legal state clashes, no pattern does.
 use Rattle.std.proofs.Common.{◌≡◌, List, Bool, true, false, Contains, IsTrue, refl}
-use Rattle.base_chains.proofs.Orders.{place_of_member}
+use Rattle.graphs.proofs.base_chains.Orders.{place_of_member}
 use Rattle.emc_base.proofs.Lists.{all_from_members}
 use Rattle.round_trip.specs.Words.{SetId, ColId, State}
 use Rattle.round_trip.specs.declared.FailKind.TheVariants as kind
@@ -13,12 +13,12 @@ use Rattle.regions.specs.Basis.{Basis}
 use Rattle.regions.specs.Patterns.{Valuation, pattern_of}
 use Rattle.regions.specs.Regions.{regions_of}
 use Rattle.regions.specs.Settled.{has_clash}
-use Rattle.region_laws.specs.IsBasis.{IsBasis}
-use Rattle.region_laws.specs.pattern.Described.{HasNoClashes, HasTwoSymbols}
-use Rattle.region_laws.specs.pattern.Listed.{HasCell}
-use Rattle.region_laws.proofs.pattern.Settled.{clash_decided}
-use Rattle.conflicts.specs.There.{FailsThere, NoneFailsBy}
-use Rattle.conflicts.specs.declared.conflict.Conflict.TheVariants as conflict
+use Rattle.regions.specs.region_laws.IsBasis.{IsBasis}
+use Rattle.regions.specs.region_laws.pattern.Described.{HasNoClashes, HasTwoSymbols}
+use Rattle.regions.specs.region_laws.pattern.Listed.{HasCell}
+use Rattle.regions.proofs.region_laws.pattern.Settled.{clash_decided}
+use Rattle.region_states.specs.conflicts.There.{FailsThere, NoneFailsBy}
+use Rattle.region_states.specs.declared.conflicts.conflict.Conflict.TheVariants as conflict
 use Rattle.region_states.specs.Hosting.{HostsFocuses}
 use Rattle.conflict_laws.proofs.clash.Clashing.{Decides-clash}
 use Rattle.conflict_laws.proofs.clash.Fails.{fails_there}

@@ -8,20 +8,20 @@ use Rattle.emc_base.specs.declared.value.Kind.TheVariants as kind
 use Rattle.emc_base.proofs.Lists.{at_once}
 use Rattle.round_trip.specs.Words.{TableId, ColId, AssocId, PropId, Value, Null, Kind, Assoc, At, key_props}
 use Rattle.round_trip.specs.soundness.Inheritance.{IsKeyProp}
-use Rattle.state_demand.proofs.Lists.{member_cases, none_in_nil}
+use Rattle.schema_laws.proofs.state_demand.Lists.{member_cases, none_in_nil}
 use Rattle.cells.specs.Limits.{IsWithinLimits}
 use Rattle.regions.specs.declared.region.Region.{Region}
 use Rattle.regions.specs.declared.pattern.Symbol.TheVariants as symbol
 use Rattle.regions.specs.declared.pattern.Focus.TheVariants as focus
 use Rattle.regions.specs.Basis.{Basis, Host}
 use Rattle.regions.specs.Patterns.{pattern_of}
-use Rattle.region_laws.specs.IsBasis.{IsBasis}
-use Rattle.region_laws.proofs.Symbols.{Decides-prop}
-use Rattle.region_laws.specs.pattern.Allowed.{end_at}
-use Rattle.region_laws.specs.pattern.Listed.{Lists}
-use Rattle.region_laws.proofs.pattern.Hosting.{assoc_here, end_prop, one_host, the_assoc}
-use Rattle.region_laws.proofs.pattern.Laws.{listed_from}
-use Rattle.region_laws.proofs.pattern.Standing.{IsEndOf, end_of}
+use Rattle.regions.specs.region_laws.IsBasis.{IsBasis}
+use Rattle.regions.proofs.region_laws.Symbols.{Decides-prop}
+use Rattle.regions.specs.region_laws.pattern.Allowed.{end_at}
+use Rattle.regions.specs.region_laws.pattern.Listed.{Lists}
+use Rattle.regions.proofs.region_laws.pattern.Hosting.{assoc_here, end_prop, one_host, the_assoc}
+use Rattle.regions.proofs.region_laws.pattern.Laws.{listed_from}
+use Rattle.regions.proofs.region_laws.pattern.Standing.{IsEndOf, end_of}
 use Rattle.region_states.specs.defaults.Candidates.{letter, number}
 use Rattle.region_states.specs.defaults.Defaults.{default_part, fresh_at, place_in}
 use Rattle.region_states.specs.defaults.Fresh.{IsUse, Use, fresh, partner, partner_key}

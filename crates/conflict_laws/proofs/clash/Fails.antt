@@ -3,7 +3,7 @@ use Rattle.std.proofs.Common.{◌≢◌, List, Contains, IsTrue, refl, sym}
 use Rattle.round_trip.specs.Words.{SetId, TableId, ColId, Value, Column, DemandsCell, Entity, FailsAt, Pair, State, Table, place_at}
 use Rattle.round_trip.specs.FailsAt.{Clashes, HasColumn}
 use Rattle.round_trip.specs.declared.FailKind.TheVariants as kind
-use Rattle.state_demand.specs.Owners.{IsOwned, StandsAt, paired_key}
+use Rattle.schema_laws.specs.state_demand.Owners.{IsOwned, StandsAt, paired_key}
 use Rattle.cells.specs.Limits.{IsWithinLimits}
 use Rattle.regions.specs.declared.region.Region.{Region}
 use Rattle.regions.specs.declared.pattern.Symbol.{Symbol}
@@ -12,18 +12,18 @@ use Rattle.regions.specs.declared.pattern.Focus.TheVariants as focus
 use Rattle.regions.specs.Basis.{Basis}
 use Rattle.regions.specs.Patterns.{Valuation, pattern_of, value_under, writings_of}
 use Rattle.regions.specs.Regions.{regions_of}
-use Rattle.region_laws.specs.IsBasis.{IsBasis}
-use Rattle.region_laws.specs.pattern.Listed.{Lists}
-use Rattle.region_laws.proofs.pattern.Cells.{cell_of}
-use Rattle.region_laws.proofs.pattern.Keys.{owned_here}
+use Rattle.regions.specs.region_laws.IsBasis.{IsBasis}
+use Rattle.regions.specs.region_laws.pattern.Listed.{Lists}
+use Rattle.regions.proofs.region_laws.pattern.Cells.{cell_of}
+use Rattle.regions.proofs.region_laws.pattern.Keys.{owned_here}
 use Rattle.region_states.specs.focus.Held.{IsHeldAt}
 use Rattle.region_states.proofs.focus.Demanded.{cells}
 use Rattle.region_states.specs.defaults.Admissible.{IsAdmissible}
-use Rattle.conflicts.specs.Conflicts.{IsConflictAt, IsRegionOf}
-use Rattle.conflicts.specs.Facts.{is_clash}
-use Rattle.conflicts.specs.There.{FailsThere}
-use Rattle.conflicts.specs.declared.conflict.Conflict.{Conflict}
-use Rattle.conflicts.specs.declared.conflict.Conflict.TheVariants as conflict
+use Rattle.region_states.specs.conflicts.Conflicts.{IsConflictAt, IsRegionOf}
+use Rattle.region_states.specs.conflicts.Facts.{is_clash}
+use Rattle.region_states.specs.conflicts.There.{FailsThere}
+use Rattle.region_states.specs.declared.conflicts.conflict.Conflict.{Conflict}
+use Rattle.region_states.specs.declared.conflicts.conflict.Conflict.TheVariants as conflict
 use Rattle.region_states.specs.Entities.{focus_entity}
 use Rattle.region_states.specs.Hosting.{HoldsFocus, HostsFocuses}
 use Rattle.region_states.proofs.Entities.{symbol_value}

@@ -1,6 +1,6 @@
 -- What is found in a list, and what is found or else taken.
 use Rattle.std.proofs.Common.{◌≡◌, List, find, unwrap_or, Contains, Option, Some, None, Bool, true, refl, ap}
-use Rattle.region_laws.proofs.pattern.Choices.{found_passes, none_passes}
+use Rattle.regions.proofs.region_laws.pattern.Choices.{found_passes, none_passes}
 
 module _ {X : Type 0} (test : X → Bool) (xs : List X) where
   -- the only member that passes is found

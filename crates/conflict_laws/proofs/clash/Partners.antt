@@ -4,29 +4,29 @@ use Rattle.std.specs.Option.{option_map_or}
 use Rattle.std.proofs.lemmas.List.Elements.{All-contains}
 use Rattle.emc_base.proofs.Numbered.{filter_contains}
 use Rattle.round_trip.specs.Words.{SetId, AssocId, PropId, Value, Null, Assoc, Entity, Link, Prop, State, At, HasAllowedNulls, HasProp, HasValuesInDomain, InDomain, IsLegal, entities_in, key_of, key_props, links_in, props_of, value_beside, value_of}
-use Rattle.state_demand.specs.Selecting.{same_key}
-use Rattle.state_demand.proofs.Decisions.{so_or_not}
-use Rattle.state_demand.proofs.Lists.{head_stands, none_in_nil}
+use Rattle.schema_laws.specs.state_demand.Selecting.{same_key}
+use Rattle.schema_laws.proofs.state_demand.Decisions.{so_or_not}
+use Rattle.schema_laws.proofs.state_demand.Lists.{head_stands, none_in_nil}
 use Rattle.cells.specs.Limits.{IsWithinLimits}
 use Rattle.regions.specs.declared.region.Region.{Region}
 use Rattle.regions.specs.Atoms.{Allows}
 use Rattle.regions.specs.Basis.{Basis, Host, host_key, partner_end, partner_key}
 use Rattle.regions.specs.Patterns.{by_entity, by_link}
 use Rattle.regions.specs.Symbols.{is_linked}
-use Rattle.region_laws.specs.IsBasis.{IsBasis}
-use Rattle.region_laws.specs.Partners.{TellsPartner}
-use Rattle.region_laws.specs.RegionAt.{links_at}
-use Rattle.region_laws.proofs.Symbols.{Decides-assoc}
-use Rattle.region_laws.specs.pattern.Allowed.{HasAllowedParts, IsAllowed, end_at}
-use Rattle.region_laws.proofs.pattern.Allowed.{link_allowed}
-use Rattle.region_laws.proofs.pattern.Hosting.{one_host}
-use Rattle.region_laws.proofs.pattern.Origins.{linked_decided}
-use Rattle.region_laws.proofs.pattern.Regions.{parts_of}
+use Rattle.regions.specs.region_laws.IsBasis.{IsBasis}
+use Rattle.regions.specs.region_laws.Partners.{TellsPartner}
+use Rattle.regions.specs.region_laws.RegionAt.{links_at}
+use Rattle.regions.proofs.region_laws.Symbols.{Decides-assoc}
+use Rattle.regions.specs.region_laws.pattern.Allowed.{HasAllowedParts, IsAllowed, end_at}
+use Rattle.regions.proofs.region_laws.pattern.Allowed.{link_allowed}
+use Rattle.regions.proofs.region_laws.pattern.Hosting.{one_host}
+use Rattle.regions.proofs.region_laws.pattern.Origins.{linked_decided}
+use Rattle.regions.proofs.region_laws.pattern.Regions.{parts_of}
 use Rattle.region_states.specs.focus.Held.{IsOfRegion}
 use Rattle.region_states.proofs.focus.Flags.{unflagged}
 use Rattle.region_states.specs.defaults.Defaults.{default_part}
 use Rattle.region_states.proofs.defaults.Defaults.{default_admissible}
-use Rattle.conflicts.specs.There.{HasFewLinks}
+use Rattle.region_states.specs.conflicts.There.{HasFewLinks}
 use Rattle.conflict_laws.proofs.clash.Found.{found_only}
 use Rattle.conflict_laws.proofs.clash.Written.{HasToldLinks}
 

@@ -9,7 +9,7 @@ use Rattle.condition_logic.specs.declared.atoms.Atom.{Atom}
 use Rattle.condition_logic.specs.declared.atoms.Atom.TheVariants as atom
 use Rattle.member_groups.specs.Tested.{IsConstant}
 use Rattle.member_groups.proofs.Numbering.{free_member}
-use Rattle.state_demand.proofs.Lists.{none_in_nil}
+use Rattle.schema_laws.proofs.state_demand.Lists.{none_in_nil}
 use Rattle.regions.specs.declared.region.Region.{Region}
 use Rattle.regions.specs.declared.pattern.Symbol.{Symbol}
 use Rattle.regions.specs.declared.pattern.Symbol.TheVariants as symbol
@@ -19,13 +19,13 @@ use Rattle.regions.specs.Basis.{Basis}
 use Rattle.regions.specs.Patterns.{pattern_of}
 use Rattle.regions.specs.Regions.{regions_of}
 use Rattle.regions.specs.Settled.{is_nullable, multi, of_atom, possible, single}
-use Rattle.region_laws.specs.IsBasis.{IsBasis}
-use Rattle.region_laws.specs.pattern.Listed.{Lists}
-use Rattle.region_laws.specs.pattern.Plain.{IsPlain}
-use Rattle.region_laws.proofs.pattern.Groups.{is_plain, partner_uncompared}
-use Rattle.region_laws.proofs.pattern.Laws.{listed_from, same_group}
-use Rattle.region_laws.proofs.pattern.Origins.{From, GivesSymbol, by_cond, by_end, by_host, by_pair}
-use Rattle.region_laws.proofs.pattern.Standing.{StandsFree, StandsInKey, end_of, end_stands, joined_by, prop_stands}
+use Rattle.regions.specs.region_laws.IsBasis.{IsBasis}
+use Rattle.regions.specs.region_laws.pattern.Listed.{Lists}
+use Rattle.regions.specs.region_laws.pattern.Plain.{IsPlain}
+use Rattle.regions.proofs.region_laws.pattern.Groups.{is_plain, partner_uncompared}
+use Rattle.regions.proofs.region_laws.pattern.Laws.{listed_from, same_group}
+use Rattle.regions.proofs.region_laws.pattern.Origins.{From, GivesSymbol, by_cond, by_end, by_host, by_pair}
+use Rattle.regions.proofs.region_laws.pattern.Standing.{StandsFree, StandsInKey, end_of, end_stands, joined_by, prop_stands}
 use Rattle.region_states.proofs.defaults.Candidates.{plain_kind}
 use Rattle.region_states.proofs.defaults.Listed.{IsTold, found_told}
 use Rattle.region_states.proofs.defaults.Valued.{atom_tells}

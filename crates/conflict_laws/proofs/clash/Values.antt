@@ -3,9 +3,9 @@ use Rattle.std.proofs.Common.{◌≡◌, ◌≢◌, ⊎_elim, List, ◌++◌, Co
 use Rattle.std.proofs.lemmas.Bool.Decides.{Decides-not}
 use Rattle.std.proofs.lemmas.List.Elements.{Contains-append_cases, Contains-append_left, Contains-append_right}
 use Rattle.round_trip.specs.Words.{SetId, TableId, ColId, AssocId, PropId, Value, Null, key_columns}
-use Rattle.state_demand.specs.Selecting.{same_value}
-use Rattle.state_demand.proofs.Lists.{head_stands, member_cases, tail_stands}
-use Rattle.state_demand.proofs.Selecting.{Decides-value}
+use Rattle.schema_laws.specs.state_demand.Selecting.{same_value}
+use Rattle.schema_laws.proofs.state_demand.Lists.{head_stands, member_cases, tail_stands}
+use Rattle.schema_laws.proofs.state_demand.Selecting.{Decides-value}
 use Rattle.cells.specs.Limits.{IsWithinLimits}
 use Rattle.regions.specs.declared.region.Region.{Region}
 use Rattle.regions.specs.declared.pattern.Symbol.{Symbol}
@@ -15,14 +15,14 @@ use Rattle.regions.specs.Basis.{Basis}
 use Rattle.regions.specs.Patterns.{Valuation, pattern_of, value_under}
 use Rattle.regions.specs.Regions.{regions_of}
 use Rattle.regions.specs.Settled.{Possible, multi, possible, single}
-use Rattle.region_laws.specs.IsBasis.{IsBasis}
-use Rattle.region_laws.specs.pattern.Allowed.{CanBe}
-use Rattle.region_laws.specs.pattern.Listed.{Lists}
-use Rattle.region_laws.proofs.pattern.Laws.{symbol_possible}
+use Rattle.regions.specs.region_laws.IsBasis.{IsBasis}
+use Rattle.regions.specs.region_laws.pattern.Allowed.{CanBe}
+use Rattle.regions.specs.region_laws.pattern.Listed.{Lists}
+use Rattle.regions.proofs.region_laws.pattern.Laws.{symbol_possible}
 use Rattle.region_states.specs.defaults.Admissible.{IsAdmissible}
 use Rattle.region_states.specs.defaults.Defaults.{default_valuation}
 use Rattle.region_states.proofs.defaults.Defaults.{default_admissible}
-use Rattle.conflicts.specs.Facts.{is_clash}
+use Rattle.region_states.specs.conflicts.Facts.{is_clash}
 use Rattle.conflict_laws.specs.clash.ClashValues.{clash_values, differ_under, values_tried, with_others}
 use Rattle.conflict_laws.proofs.clash.Found.{found_or}
 use Rattle.conflict_laws.proofs.clash.Clashing.{Decides-clash, IsClash}

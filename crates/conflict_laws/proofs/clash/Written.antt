@@ -6,34 +6,34 @@ use Rattle.emc_base.proofs.Lists.{all_from_members}
 use Rattle.emc_base.proofs.Mapped.{contains_filter, contains_map}
 use Rattle.round_trip.specs.Words.{SetId, TypeId, TableId, ColId, AssocId, PropId, Value, Assoc, DemandsCell, Entity, Fragment, Hosted, IsLegal, Link, LinkFragment, Pair, State, Writing, At, IsA, key_of, key_props, links_in, value_beside, value_of}
 use Rattle.round_trip.specs.soundness.Fragments.{WritesEndKey}
-use Rattle.state_demand.specs.MadeTables.{given_cells}
-use Rattle.state_demand.specs.Owners.{IsOwned, StandsAt}
-use Rattle.state_demand.specs.Selecting.{same_key}
-use Rattle.state_demand.specs.Writings.{link_writing}
-use Rattle.state_demand.proofs.Given.{gives_cell}
-use Rattle.state_demand.proofs.Lists.{contains_flat_map}
-use Rattle.state_demand.proofs.Owners.{beside_map}
-use Rattle.state_demand.proofs.Selecting.{Decides-key}
-use Rattle.sound_demand.proofs.Fitting.{sound_link}
-use Rattle.sound_demand.proofs.Keys.{inherits_keys}
+use Rattle.schema_laws.specs.state_demand.MadeTables.{given_cells}
+use Rattle.schema_laws.specs.state_demand.Owners.{IsOwned, StandsAt}
+use Rattle.schema_laws.specs.state_demand.Selecting.{same_key}
+use Rattle.schema_laws.specs.state_demand.Writings.{link_writing}
+use Rattle.schema_laws.proofs.state_demand.Given.{gives_cell}
+use Rattle.schema_laws.proofs.state_demand.Lists.{contains_flat_map}
+use Rattle.schema_laws.proofs.state_demand.Owners.{beside_map}
+use Rattle.schema_laws.proofs.state_demand.Selecting.{Decides-key}
+use Rattle.schema_laws.proofs.sound_demand.Fitting.{sound_link}
+use Rattle.schema_laws.proofs.sound_demand.Keys.{inherits_keys}
 use Rattle.regions.specs.declared.region.Region.{Region}
 use Rattle.regions.specs.declared.pattern.Focus.TheVariants as focus
 use Rattle.regions.specs.Basis.{Basis, Host, host_end, host_key, partner_end, partner_key}
 use Rattle.regions.specs.Patterns.{Valuation, by_entity, pattern_of}
 use Rattle.regions.specs.Regions.{Holds, regions_of}
 use Rattle.regions.specs.Symbols.{SymbolWriting, fragment_writing, fragments_of, host_writings, is_linked, link_fragment_writing, link_fragments_of, region_writings, selects_region}
-use Rattle.region_laws.specs.Concrete.{AreConcrete, HasSymbol, IsConcrete, IsWritingAt, TellsEnd, WritesEntity, WritesHosted, concrete}
-use Rattle.region_laws.specs.IsBasis.{IsBasis}
-use Rattle.region_laws.specs.Partners.{TellsPartner}
-use Rattle.region_laws.specs.RegionAt.{links_at}
-use Rattle.region_laws.proofs.Cells.{cells_concrete}
-use Rattle.region_laws.proofs.Concrete.{entity_concrete, link_concrete}
-use Rattle.region_laws.proofs.Listed.{set_is}
-use Rattle.region_laws.proofs.Owned.{row_writings}
-use Rattle.region_laws.proofs.Patterns.{may_host, pairs_at, pairs_beyond}
-use Rattle.region_laws.proofs.Selected.{Decides-selected}
-use Rattle.region_laws.proofs.Symbols.{Decides-assoc}
-use Rattle.region_laws.proofs.pattern.Origins.{linked_decided}
+use Rattle.regions.specs.region_laws.Concrete.{AreConcrete, HasSymbol, IsConcrete, IsWritingAt, TellsEnd, WritesEntity, WritesHosted, concrete}
+use Rattle.regions.specs.region_laws.IsBasis.{IsBasis}
+use Rattle.regions.specs.region_laws.Partners.{TellsPartner}
+use Rattle.regions.specs.region_laws.RegionAt.{links_at}
+use Rattle.regions.proofs.region_laws.Cells.{cells_concrete}
+use Rattle.regions.proofs.region_laws.Concrete.{entity_concrete, link_concrete}
+use Rattle.regions.proofs.region_laws.Listed.{set_is}
+use Rattle.regions.proofs.region_laws.Owned.{row_writings}
+use Rattle.regions.proofs.region_laws.Patterns.{may_host, pairs_at, pairs_beyond}
+use Rattle.regions.proofs.region_laws.Selected.{Decides-selected}
+use Rattle.regions.proofs.region_laws.Symbols.{Decides-assoc}
+use Rattle.regions.proofs.region_laws.pattern.Origins.{linked_decided}
 use Rattle.region_states.specs.focus.Held.{ListsValue}
 use Rattle.region_states.proofs.focus.Listed.{has_symbol}
 

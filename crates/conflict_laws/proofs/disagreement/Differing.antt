@@ -2,12 +2,12 @@
 use Rattle.std.proofs.Common.{◌≡◌, ◌↔◌, ◌⊎◌, inl, inr, ⊎_elim, List, Bool, Contains, IsTrue, refl, sym, subst}
 use Rattle.std.proofs.lemmas.List.Elements.{All-contains}
 use Rattle.round_trip.specs.Words.{SetId, TableId, AssocId, PropId, Value, Assoc, DemandsRow, Entity, Fragment, LinkFragment, Pair, Row, Selects, Shows, ShowsLink, State, Table, Tables, At, row_key, rows_in}
-use Rattle.state_demand.specs.Owners.{IsOwned, paired_key}
-use Rattle.state_demand.proofs.Decisions.{link_shown_or_not, shown_or_not, so_or_not}
-use Rattle.state_demand.proofs.Lists.{of_any}
-use Rattle.sound_demand.specs.Disagreeing.{IsOneOnly}
-use Rattle.sound_demand.specs.Fragments.{IsHostedFragment, IsOwnedFragment, IsStoredIn}
-use Rattle.sound_demand.specs.ReadBack.{HasLinkOf}
+use Rattle.schema_laws.specs.state_demand.Owners.{IsOwned, paired_key}
+use Rattle.schema_laws.proofs.state_demand.Decisions.{link_shown_or_not, shown_or_not, so_or_not}
+use Rattle.schema_laws.proofs.state_demand.Lists.{of_any}
+use Rattle.schema_laws.specs.sound_demand.Disagreeing.{IsOneOnly}
+use Rattle.schema_laws.specs.sound_demand.Fragments.{IsHostedFragment, IsOwnedFragment, IsStoredIn}
+use Rattle.schema_laws.specs.sound_demand.ReadBack.{HasLinkOf}
 use Rattle.regions.specs.declared.region.Region.{Region}
 use Rattle.regions.specs.declared.pattern.PatternRow.{PatternRow}
 use Rattle.regions.specs.declared.pattern.Pattern.{Pattern}
@@ -16,18 +16,18 @@ use Rattle.regions.specs.Basis.{Basis}
 use Rattle.regions.specs.Patterns.{pattern_of}
 use Rattle.regions.specs.Shown.{shows_link_row, shows_row}
 use Rattle.regions.specs.Symbols.{is_linked, selects_region}
-use Rattle.region_laws.specs.IsBasis.{IsBasis}
-use Rattle.region_laws.proofs.Possible.{linked_hosts}
-use Rattle.region_laws.proofs.Selected.{Decides-selected}
-use Rattle.region_laws.specs.pattern.Described.{HasNoClashes}
-use Rattle.region_laws.proofs.pattern.Origins.{linked_decided}
+use Rattle.regions.specs.region_laws.IsBasis.{IsBasis}
+use Rattle.regions.proofs.region_laws.Possible.{linked_hosts}
+use Rattle.regions.proofs.region_laws.Selected.{Decides-selected}
+use Rattle.regions.specs.region_laws.pattern.Described.{HasNoClashes}
+use Rattle.regions.proofs.region_laws.pattern.Origins.{linked_decided}
 use Rattle.region_states.specs.focus.Agreeing.{IsClearRow, IsRowOfEntity}
 use Rattle.region_states.specs.focus.Held.{HasRow, IsAtRow, IsHeldAt}
 use Rattle.region_states.proofs.focus.Agreeing.{entity_agrees, host_agrees}
 use Rattle.region_states.proofs.focus.Demanded.{rows}
 use Rattle.region_states.proofs.focus.Hosts.{HostsLink, has_link, hosts_link}
 use Rattle.region_states.proofs.focus.Partners.{link_linked, linked_link}
-use Rattle.conflicts.specs.Facts.{differ, shows_link_pattern, shows_pattern}
+use Rattle.region_states.specs.conflicts.Facts.{differ, shows_link_pattern, shows_pattern}
 use Rattle.conflict_laws.proofs.disagreement.OneOnly.{alike_through, differ_by, one_only_by}
 use Rattle.conflict_laws.proofs.disagreement.PatternRows.{shown_by}
 

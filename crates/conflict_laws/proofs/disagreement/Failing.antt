@@ -5,13 +5,13 @@ use Rattle.std.proofs.lemmas.Bool.Decides.{Decides-eqb}
 use Rattle.round_trip.specs.Words.{SetId, TableId, Entity, FailsAt, Fragment, IsLegal, LinkFragment, Pair, State, Table, Tables, At, key_of, place_at}
 use Rattle.round_trip.specs.FailsAt.{Disagrees}
 use Rattle.round_trip.specs.declared.FailKind.TheVariants as kind
-use Rattle.state_demand.specs.Owners.{IsOwned}
-use Rattle.sound_demand.specs.Disagreeing.{keys_in_row}
-use Rattle.sound_demand.specs.Fragments.{IsHostedFragment, IsOwnedFragment, IsStoredIn}
-use Rattle.sound_demand.specs.Made.{tables_for}
-use Rattle.sound_demand.proofs.Disagreeing.{fails_at_entities, tuples_of_hosts}
-use Rattle.sound_demand.proofs.Fitting.{assoc_of}
-use Rattle.sound_demand.proofs.Kept.{clash_shown, tables_there}
+use Rattle.schema_laws.specs.state_demand.Owners.{IsOwned}
+use Rattle.schema_laws.specs.sound_demand.Disagreeing.{keys_in_row}
+use Rattle.schema_laws.specs.sound_demand.Fragments.{IsHostedFragment, IsOwnedFragment, IsStoredIn}
+use Rattle.schema_laws.specs.sound_demand.Made.{tables_for}
+use Rattle.schema_laws.proofs.sound_demand.Disagreeing.{fails_at_entities, tuples_of_hosts}
+use Rattle.schema_laws.proofs.sound_demand.Fitting.{assoc_of}
+use Rattle.schema_laws.proofs.sound_demand.Kept.{clash_shown, tables_there}
 use Rattle.cells.specs.Limits.{IsWithinLimits}
 use Rattle.regions.specs.declared.region.Region.{Region}
 use Rattle.regions.specs.declared.pattern.Focus.TheVariants as focus
@@ -21,19 +21,19 @@ use Rattle.regions.specs.Patterns.{Valuation, pattern_of}
 use Rattle.regions.specs.Regions.{regions_of}
 use Rattle.regions.specs.Shown.{shows_link_row, shows_row}
 use Rattle.regions.specs.Symbols.{is_linked, selects_region}
-use Rattle.region_laws.specs.IsBasis.{IsBasis}
-use Rattle.region_laws.specs.pattern.Described.{HasNoClashes}
-use Rattle.region_laws.proofs.pattern.Regions.{parts_of}
+use Rattle.regions.specs.region_laws.IsBasis.{IsBasis}
+use Rattle.regions.specs.region_laws.pattern.Described.{HasNoClashes}
+use Rattle.regions.proofs.region_laws.pattern.Regions.{parts_of}
 use Rattle.region_states.specs.focus.Held.{HasRow, IsHeldAt}
 use Rattle.region_states.proofs.focus.Listed.{row_owned}
 use Rattle.region_states.specs.defaults.Admissible.{IsAdmissible}
 use Rattle.region_states.specs.defaults.Defaults.{default_valuation}
 use Rattle.region_states.proofs.defaults.Defaults.{default_admissible}
-use Rattle.conflicts.specs.Conflicts.{IsConflictAt, TellsOfSet, is_fact, kind_of}
-use Rattle.conflicts.specs.Facts.{differ, differs_at, differs_at_links, is_hosted, shows_link_pattern, shows_pattern}
-use Rattle.conflicts.specs.There.{FailsThere, NoneFailsBy}
-use Rattle.conflicts.specs.declared.conflict.Conflict.{Conflict}
-use Rattle.conflicts.specs.declared.conflict.Conflict.TheVariants as conflict
+use Rattle.region_states.specs.conflicts.Conflicts.{IsConflictAt, TellsOfSet, is_fact, kind_of}
+use Rattle.region_states.specs.conflicts.Facts.{differ, differs_at, differs_at_links, is_hosted, shows_link_pattern, shows_pattern}
+use Rattle.region_states.specs.conflicts.There.{FailsThere, NoneFailsBy}
+use Rattle.region_states.specs.declared.conflicts.conflict.Conflict.{Conflict}
+use Rattle.region_states.specs.declared.conflicts.conflict.Conflict.TheVariants as conflict
 use Rattle.conflict_laws.proofs.clash.Clear.{row_clear}
 use Rattle.region_states.specs.Entities.{focus_entity}
 use Rattle.region_states.specs.Hosting.{HoldsFocus, HostsFocuses}

@@ -1,7 +1,7 @@
 -- Two answers that differ, and two facts of which just one is so.
 use Rattle.std.proofs.Common.{◌↔◌, ◌⊎◌, inl, inr, Bool, true, false, true≢false, IsTrue, refl, sym}
-use Rattle.sound_demand.specs.Disagreeing.{IsOneOnly}
-use Rattle.conflicts.specs.Facts.{differ}
+use Rattle.schema_laws.specs.sound_demand.Disagreeing.{IsOneOnly}
+use Rattle.region_states.specs.conflicts.Facts.{differ}
 
 -- of two answers that differ one is yes
 pub one_is_so : (one two : Bool) → IsTrue (differ one two) → IsTrue one ⊎ IsTrue two

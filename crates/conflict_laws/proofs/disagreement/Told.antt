@@ -7,12 +7,12 @@ use Rattle.round_trip.specs.Words.{SetId, Assoc, Entity, Fragment, IsLegal, IsSh
 use Rattle.round_trip.specs.FailsAt.{Disagrees, IsHostedAt, IsInOneOnly, element_of, key_in_tuple, keys_in_tuple}
 use Rattle.round_trip.specs.soundness.Owners.{LinkMaps, Owns}
 use Rattle.round_trip.specs.declared.FailKind.TheVariants as kind
-use Rattle.state_demand.specs.Owners.{IsOwned}
-use Rattle.sound_demand.specs.Disagreeing.{DisagreesAtEntity, DisagreesAtHost}
-use Rattle.sound_demand.specs.Fragments.{IsHostedFragment, IsOwnedFragment, IsStoredIn}
-use Rattle.sound_demand.proofs.Disagreeing.{tuples_of_entities, tuples_of_hosts}
-use Rattle.sound_demand.proofs.Fitting.{link_ids, sound_fragment}
-use Rattle.sound_demand.proofs.Owned.{owned}
+use Rattle.schema_laws.specs.state_demand.Owners.{IsOwned}
+use Rattle.schema_laws.specs.sound_demand.Disagreeing.{DisagreesAtEntity, DisagreesAtHost}
+use Rattle.schema_laws.specs.sound_demand.Fragments.{IsHostedFragment, IsOwnedFragment, IsStoredIn}
+use Rattle.schema_laws.proofs.sound_demand.Disagreeing.{tuples_of_entities, tuples_of_hosts}
+use Rattle.schema_laws.proofs.sound_demand.Fitting.{link_ids, sound_fragment}
+use Rattle.schema_laws.proofs.sound_demand.Owned.{owned}
 use Rattle.cells.specs.Limits.{IsWithinLimits}
 use Rattle.regions.specs.declared.region.Region.{Region}
 use Rattle.regions.specs.declared.pattern.Focus.TheVariants as focus
@@ -21,21 +21,21 @@ use Rattle.regions.specs.Basis.{Basis, Host}
 use Rattle.regions.specs.Patterns.{Valuation, pattern_of}
 use Rattle.regions.specs.Regions.{regions_of}
 use Rattle.regions.specs.Symbols.{is_linked, selects_region}
-use Rattle.region_laws.specs.IsBasis.{IsBasis}
-use Rattle.region_laws.specs.Partners.{HasFewPartners, part_by}
-use Rattle.region_laws.specs.pattern.Allowed.{end_at}
-use Rattle.region_laws.specs.pattern.Described.{HasNoClashes}
-use Rattle.region_laws.proofs.pattern.Hosting.{assoc_here, host_set, hosted_side, the_assoc}
-use Rattle.region_laws.proofs.pattern.Origins.{side}
-use Rattle.region_laws.proofs.pattern.Regions.{parts_of}
+use Rattle.regions.specs.region_laws.IsBasis.{IsBasis}
+use Rattle.regions.specs.region_laws.Partners.{HasFewPartners, part_by}
+use Rattle.regions.specs.region_laws.pattern.Allowed.{end_at}
+use Rattle.regions.specs.region_laws.pattern.Described.{HasNoClashes}
+use Rattle.regions.proofs.region_laws.pattern.Hosting.{assoc_here, host_set, hosted_side, the_assoc}
+use Rattle.regions.proofs.region_laws.pattern.Origins.{side}
+use Rattle.regions.proofs.region_laws.pattern.Regions.{parts_of}
 use Rattle.region_states.specs.focus.Agreeing.{IsRowOfEntity}
 use Rattle.region_states.specs.focus.Held.{IsHeldAt}
 use Rattle.region_states.proofs.focus.Flags.{held_at, some_region}
-use Rattle.conflicts.specs.Conflicts.{IsConflictAt}
-use Rattle.conflicts.specs.Facts.{differ, is_hosted, shows_link_pattern, shows_pattern}
-use Rattle.conflicts.specs.There.{FailsThere, IsAtFragment, NoneFailsBy}
-use Rattle.conflicts.specs.declared.conflict.Conflict.{Conflict}
-use Rattle.conflicts.specs.declared.conflict.Conflict.TheVariants as conflict
+use Rattle.region_states.specs.conflicts.Conflicts.{IsConflictAt}
+use Rattle.region_states.specs.conflicts.Facts.{differ, is_hosted, shows_link_pattern, shows_pattern}
+use Rattle.region_states.specs.conflicts.There.{FailsThere, IsAtFragment, NoneFailsBy}
+use Rattle.region_states.specs.declared.conflicts.conflict.Conflict.{Conflict}
+use Rattle.region_states.specs.declared.conflicts.conflict.Conflict.TheVariants as conflict
 use Rattle.conflict_laws.proofs.clash.Clear.{row_clear}
 use Rattle.region_states.specs.Hosting.{HostsFocuses}
 use Rattle.conflict_laws.proofs.disagreement.Deciding.{Decides-disagrees, Decides-hosted, SomeDiffers, SomeLinksDiffer}

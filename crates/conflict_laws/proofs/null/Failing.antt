@@ -6,7 +6,7 @@ use Rattle.emc_base.proofs.Mapped.{contains_at}
 use Rattle.round_trip.specs.Words.{ColId, Column, DemandsCell, Entity, FailsAt, Null, Pair, SetId, State, Table, TableId, Value, place_at}
 use Rattle.round_trip.specs.FailsAt.{HasColumn, LeavesNull}
 use Rattle.round_trip.specs.declared.FailKind.TheVariants as kind
-use Rattle.state_demand.specs.Owners.{IsOwned, paired_key}
+use Rattle.schema_laws.specs.state_demand.Owners.{IsOwned, paired_key}
 use Rattle.cells.specs.Limits.{IsWithinLimits}
 use Rattle.regions.specs.declared.region.Region.{Region}
 use Rattle.regions.specs.declared.pattern.Focus.TheVariants as focus
@@ -16,20 +16,20 @@ use Rattle.regions.specs.Basis.{Basis}
 use Rattle.regions.specs.Patterns.{Valuation, by_entity, pattern_of, value_under}
 use Rattle.regions.specs.Regions.{regions_of}
 use Rattle.regions.specs.Settled.{has_clash, possible}
-use Rattle.region_laws.specs.IsBasis.{IsBasis}
-use Rattle.region_laws.specs.pattern.Listed.{HasCell}
-use Rattle.region_laws.proofs.pattern.Laws.{cell_one}
+use Rattle.regions.specs.region_laws.IsBasis.{IsBasis}
+use Rattle.regions.specs.region_laws.pattern.Listed.{HasCell}
+use Rattle.regions.proofs.region_laws.pattern.Laws.{cell_one}
 use Rattle.region_states.specs.defaults.Admissible.{IsAdmissible}
 use Rattle.region_states.specs.defaults.Defaults.{default_valuation}
 use Rattle.region_states.proofs.defaults.Defaults.{default_admissible}
 use Rattle.region_states.specs.focus.Held.{HasRow, IsAtRow, IsHeldAt, ListsValue}
 use Rattle.region_states.proofs.focus.Demanded.{cells, rows}
 use Rattle.region_states.proofs.focus.Listed.{row_owned}
-use Rattle.conflicts.specs.Conflicts.{IsConflictAt}
-use Rattle.conflicts.specs.Facts.{can_be_null, has_row, is_null_in, is_required, listed_in, stands_for_null}
-use Rattle.conflicts.specs.There.{FailsThere, NoneFailsBy}
-use Rattle.conflicts.specs.declared.conflict.Conflict.{Conflict}
-use Rattle.conflicts.specs.declared.conflict.Conflict.TheVariants as conflict
+use Rattle.region_states.specs.conflicts.Conflicts.{IsConflictAt}
+use Rattle.region_states.specs.conflicts.Facts.{can_be_null, has_row, is_null_in, is_required, listed_in, stands_for_null}
+use Rattle.region_states.specs.conflicts.There.{FailsThere, NoneFailsBy}
+use Rattle.region_states.specs.declared.conflicts.conflict.Conflict.{Conflict}
+use Rattle.region_states.specs.declared.conflicts.conflict.Conflict.TheVariants as conflict
 use Rattle.region_states.specs.Entities.{focus_entity}
 use Rattle.region_states.specs.Hosting.{HoldsFocus, HostsFocuses}
 use Rattle.region_states.proofs.Entities.{symbol_value}

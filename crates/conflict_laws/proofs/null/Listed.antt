@@ -3,19 +3,19 @@ use Rattle.std.proofs.Common.{◌≡◌, ◌==◌, Decides, refl}
 use Rattle.std.proofs.lemmas.Bool.Decides.{Decides-like}
 use Rattle.round_trip.specs.Words.{ColId, Column, Table, TableId}
 use Rattle.round_trip.specs.FailsAt.{HasColumn}
-use Rattle.state_demand.proofs.Lists.{Decides-any, any_of, of_any}
+use Rattle.schema_laws.proofs.state_demand.Lists.{Decides-any, any_of, of_any}
 use Rattle.regions.specs.declared.pattern.Focus.{Focus}
 use Rattle.regions.specs.declared.pattern.Pattern.{Pattern}
 use Rattle.regions.specs.declared.pattern.PatternRow.{PatternRow}
 use Rattle.regions.specs.Basis.{Basis}
 use Rattle.regions.specs.Patterns.{cell_symbols, pattern_of, pattern_row, writings_of}
-use Rattle.region_laws.specs.IsBasis.{IsBasis}
-use Rattle.region_laws.proofs.Cells.{Decides-table}
-use Rattle.region_laws.proofs.Rows.{row_cells, rows_all}
-use Rattle.region_laws.specs.pattern.Listed.{HasCell}
+use Rattle.regions.specs.region_laws.IsBasis.{IsBasis}
+use Rattle.regions.proofs.region_laws.Cells.{Decides-table}
+use Rattle.regions.proofs.region_laws.Rows.{row_cells, rows_all}
+use Rattle.regions.specs.region_laws.pattern.Listed.{HasCell}
 use Rattle.region_states.specs.focus.Held.{HasRow}
 use Rattle.region_states.proofs.focus.Listed.{has_row as row_written}
-use Rattle.conflicts.specs.Facts.{has_row}
+use Rattle.region_states.specs.conflicts.Facts.{has_row}
 
 -- whether the pattern has a row of the table
 pub Decides-row : (pattern : Pattern) (t : TableId) → Decides (has_row pattern t) (HasRow pattern t)

@@ -7,8 +7,8 @@ use Rattle.round_trip.specs.Words.{ColId, Null, Prop, PropId, SetId, TableId, Va
 use Rattle.round_trip.specs.soundness.Inheritance.{IsKeyProp}
 use Rattle.condition_logic.specs.declared.atoms.Atom.{Atom}
 use Rattle.condition_logic.specs.declared.atoms.Atom.TheVariants as atom
-use Rattle.state_demand.proofs.Lists.{head_stands, none_in_nil}
-use Rattle.state_demand.proofs.Selecting.{Decides-value}
+use Rattle.schema_laws.proofs.state_demand.Lists.{head_stands, none_in_nil}
+use Rattle.schema_laws.proofs.state_demand.Selecting.{Decides-value}
 use Rattle.cells.specs.Limits.{IsWithinLimits}
 use Rattle.regions.specs.declared.region.Region.{Region}
 use Rattle.regions.specs.declared.pattern.Focus.{Focus}
@@ -20,16 +20,16 @@ use Rattle.regions.specs.Basis.{Basis}
 use Rattle.regions.specs.Patterns.{Valuation, pattern_of, value_under}
 use Rattle.regions.specs.Regions.{regions_of}
 use Rattle.regions.specs.Settled.{Possible, is_nullable, multi, of_atom, possible, single}
-use Rattle.region_laws.specs.IsBasis.{IsBasis}
-use Rattle.region_laws.specs.pattern.Allowed.{CanBe, told_of}
-use Rattle.region_laws.specs.pattern.Listed.{Lists}
-use Rattle.region_laws.proofs.pattern.Laws.{symbol_possible}
-use Rattle.region_laws.proofs.pattern.Possible.{null_of_nullable}
+use Rattle.regions.specs.region_laws.IsBasis.{IsBasis}
+use Rattle.regions.specs.region_laws.pattern.Allowed.{CanBe, told_of}
+use Rattle.regions.specs.region_laws.pattern.Listed.{Lists}
+use Rattle.regions.proofs.region_laws.pattern.Laws.{symbol_possible}
+use Rattle.regions.proofs.region_laws.pattern.Possible.{null_of_nullable}
 use Rattle.region_states.specs.defaults.Defaults.{declared_value, default_valuation, default_value, is_among, place_in, some_value, value_by}
 use Rattle.region_states.specs.defaults.Fresh.{focus_key, fresh}
 use Rattle.region_states.proofs.defaults.Classes.{key_prop}
 use Rattle.region_states.proofs.defaults.Defaults.{Decides-among, default_admissible}
-use Rattle.conflicts.specs.Facts.{can_be_null, lists, stands_for_null}
+use Rattle.region_states.specs.conflicts.Facts.{can_be_null, lists, stands_for_null}
 use Rattle.conflict_laws.proofs.clash.Listed.{Decides-lists}
 
 -- where a symbol has the value null, null is possible

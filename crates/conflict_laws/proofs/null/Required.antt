@@ -3,7 +3,7 @@ use Rattle.std.proofs.Common.{◌≡◌, slice_get, Bool, true, false, not, Opti
 use Rattle.std.specs.Option.{option_map_or}
 use Rattle.round_trip.specs.Words.{ColId, Column, Schema, Table, TableId}
 use Rattle.round_trip.specs.FailsAt.{HasColumn}
-use Rattle.conflicts.specs.Facts.{is_required}
+use Rattle.region_states.specs.conflicts.Facts.{is_required}
 
 -- a column of the table that isn't nullable
 pub record IsRequiredAt (schema : Schema) (t : TableId) (col : ColId) : Type 0 where

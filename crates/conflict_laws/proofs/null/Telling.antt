@@ -9,21 +9,21 @@ use Rattle.regions.specs.declared.pattern.Symbol.{Symbol}
 use Rattle.regions.specs.Basis.{Basis}
 use Rattle.regions.specs.Patterns.{Valuation, by_entity, cell_symbols, pattern_of, value_under, writings_of}
 use Rattle.regions.specs.Settled.{possible}
-use Rattle.region_laws.specs.IsBasis.{IsBasis}
-use Rattle.region_laws.specs.Partners.{HasFewPartners, part_by}
-use Rattle.region_laws.specs.pattern.Allowed.{CanBe, IsAllowed}
-use Rattle.region_laws.specs.pattern.Listed.{HasCell}
-use Rattle.region_laws.proofs.pattern.Allowed.{region_allowed}
-use Rattle.region_laws.proofs.pattern.Laws.{symbol_possible}
+use Rattle.regions.specs.region_laws.IsBasis.{IsBasis}
+use Rattle.regions.specs.region_laws.Partners.{HasFewPartners, part_by}
+use Rattle.regions.specs.region_laws.pattern.Allowed.{CanBe, IsAllowed}
+use Rattle.regions.specs.region_laws.pattern.Listed.{HasCell}
+use Rattle.regions.proofs.region_laws.pattern.Allowed.{region_allowed}
+use Rattle.regions.proofs.region_laws.pattern.Laws.{symbol_possible}
 use Rattle.region_states.specs.focus.Held.{HasRow, IsAtRow, IsHeldAt}
 use Rattle.region_states.proofs.focus.Demanded.{cells, rows}
 use Rattle.region_states.proofs.focus.Flags.{held_at, some_region}
 use Rattle.region_states.proofs.focus.Partners.{are_hosted, are_partners, holds_hosted, links}
-use Rattle.conflicts.specs.Conflicts.{IsConflictAt}
-use Rattle.conflicts.specs.Facts.{can_be_null, has_row, is_null_in, is_required, listed_in, stands_for_null}
-use Rattle.conflicts.specs.There.{FailsThere, IsRowOf}
-use Rattle.conflicts.specs.declared.conflict.Conflict.{Conflict}
-use Rattle.conflicts.specs.declared.conflict.Conflict.TheVariants as conflict
+use Rattle.region_states.specs.conflicts.Conflicts.{IsConflictAt}
+use Rattle.region_states.specs.conflicts.Facts.{can_be_null, has_row, is_null_in, is_required, listed_in, stands_for_null}
+use Rattle.region_states.specs.conflicts.There.{FailsThere, IsRowOf}
+use Rattle.region_states.specs.declared.conflicts.conflict.Conflict.{Conflict}
+use Rattle.region_states.specs.declared.conflicts.conflict.Conflict.TheVariants as conflict
 use Rattle.conflict_laws.proofs.clash.Listed.{cell_is}
 use Rattle.conflict_laws.proofs.null.Listed.{Decides-row, cell_there}
 use Rattle.conflict_laws.proofs.null.Nulls.{null_possible, some_stands}

@@ -13,10 +13,10 @@ use Rattle.condition_logic.specs.declared.atoms.Atom.TheVariants as atom
 use Rattle.condition_logic.specs.declared.atoms.AtomOf.{AtomOf}
 use Rattle.member_groups.specs.Tested.{IsMember, IsTested}
 use Rattle.member_groups.proofs.Numbering.{free_member}
-use Rattle.state_demand.specs.Selecting.{same_value}
-use Rattle.state_demand.proofs.Decisions.{value_or_not}
-use Rattle.state_demand.proofs.Lists.{head_stands}
-use Rattle.state_demand.proofs.Selecting.{Decides-value}
+use Rattle.schema_laws.specs.state_demand.Selecting.{same_value}
+use Rattle.schema_laws.proofs.state_demand.Decisions.{value_or_not}
+use Rattle.schema_laws.proofs.state_demand.Lists.{head_stands}
+use Rattle.schema_laws.proofs.state_demand.Selecting.{Decides-value}
 use Rattle.regions.specs.declared.region.Region.{Region}
 use Rattle.regions.specs.declared.pattern.Symbol.{Symbol}
 use Rattle.regions.specs.declared.pattern.Symbol.TheVariants as symbol
@@ -25,21 +25,21 @@ use Rattle.regions.specs.Atoms.{atom_at}
 use Rattle.regions.specs.Basis.{Basis}
 use Rattle.regions.specs.Patterns.{Valuation, pattern_of, value_under}
 use Rattle.regions.specs.Settled.{Settled, free, known, multi, possible, settle, single}
-use Rattle.region_laws.specs.IsBasis.{IsBasis}
-use Rattle.region_laws.specs.pattern.Allowed.{IsAllowed}
-use Rattle.region_laws.specs.pattern.Described.{value_in}
-use Rattle.region_laws.specs.pattern.Listed.{HasCell, IsTelling}
-use Rattle.region_laws.proofs.pattern.Groups.{compared_constant, is_tested, joined_tested, no_key_asked, told_tested}
-use Rattle.region_laws.proofs.pattern.Laws.{listed_from, telling_tested}
-use Rattle.region_laws.proofs.pattern.Origins.{From, GivesSymbol, by_cond, by_end, by_host, by_pair}
-use Rattle.region_laws.proofs.pattern.Regions.{atom_there, lies_in}
-use Rattle.region_laws.proofs.pattern.Standing.{StandsFree, StandsInKey, joined_by, listed_prop, prop_stands}
-use Rattle.region_laws.proofs.pattern.Types.{part_of_type}
+use Rattle.regions.specs.region_laws.IsBasis.{IsBasis}
+use Rattle.regions.specs.region_laws.pattern.Allowed.{IsAllowed}
+use Rattle.regions.specs.region_laws.pattern.Described.{value_in}
+use Rattle.regions.specs.region_laws.pattern.Listed.{HasCell, IsTelling}
+use Rattle.regions.proofs.region_laws.pattern.Groups.{compared_constant, is_tested, joined_tested, no_key_asked, told_tested}
+use Rattle.regions.proofs.region_laws.pattern.Laws.{listed_from, telling_tested}
+use Rattle.regions.proofs.region_laws.pattern.Origins.{From, GivesSymbol, by_cond, by_end, by_host, by_pair}
+use Rattle.regions.proofs.region_laws.pattern.Regions.{atom_there, lies_in}
+use Rattle.regions.proofs.region_laws.pattern.Standing.{StandsFree, StandsInKey, joined_by, listed_prop, prop_stands}
+use Rattle.regions.proofs.region_laws.pattern.Types.{part_of_type}
 use Rattle.region_states.proofs.defaults.Candidates.{IsPlainKind}
 use Rattle.region_states.proofs.defaults.Classes.{at_class, class_at, class_of, joined_class}
 use Rattle.region_states.proofs.defaults.Listed.{IsTold, found_told, tested_no_key}
 use Rattle.region_states.proofs.defaults.Valued.{Tells, atom_tells}
-use Rattle.conflicts.specs.SameFacts.{are_compatible}
+use Rattle.region_states.specs.conflicts.SameFacts.{are_compatible}
 use Rattle.conflict_laws.specs.rival.Alike.{AreComparable, AreWrittenAlike, PatternsMatch}
 use Rattle.conflict_laws.proofs.rival.Atoms.{constant_moves, is_atom, kind_cases, open_atom, plain_class}
 use Rattle.conflict_laws.proofs.rival.Clear.{free_value, known_single, known_value, listed_free}

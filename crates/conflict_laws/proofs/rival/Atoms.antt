@@ -15,7 +15,7 @@ use Rattle.regions.specs.declared.pattern.Symbol.TheVariants as symbol
 use Rattle.regions.specs.Atoms.{atom_at}
 use Rattle.regions.specs.Basis.{Basis}
 use Rattle.regions.specs.Settled.{is_nullable, multi, of_atom, possible, single}
-use Rattle.region_laws.specs.IsBasis.{IsBasis}
+use Rattle.regions.specs.region_laws.IsBasis.{IsBasis}
 use Rattle.region_states.proofs.defaults.Candidates.{IsPlainKind}
 use Rattle.region_states.proofs.defaults.Classes.{class_of}
 

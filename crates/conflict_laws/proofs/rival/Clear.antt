@@ -4,9 +4,9 @@ use Rattle.std.proofs.lemmas.List.Elements.{All-contains, All-head}
 use Rattle.emc_base.proofs.Mapped.{contains_at}
 use Rattle.round_trip.specs.Words.{SetId, TableId, ColId, EntityModel, Value, Null}
 use Rattle.condition_logic.specs.declared.atoms.AtomOf.{AtomOf}
-use Rattle.state_demand.proofs.Decisions.{so_or_not}
-use Rattle.state_demand.proofs.Lists.{head_stands, none_in_nil}
-use Rattle.state_demand.proofs.Selecting.{Decides-value}
+use Rattle.schema_laws.proofs.state_demand.Decisions.{so_or_not}
+use Rattle.schema_laws.proofs.state_demand.Lists.{head_stands, none_in_nil}
+use Rattle.schema_laws.proofs.state_demand.Selecting.{Decides-value}
 use Rattle.regions.specs.declared.region.Region.{Region}
 use Rattle.regions.specs.declared.pattern.Symbol.{Symbol}
 use Rattle.regions.specs.declared.pattern.Focus.TheVariants as focus
@@ -15,14 +15,14 @@ use Rattle.regions.specs.Patterns.{Valuation, pattern_of, value_under}
 use Rattle.regions.specs.Regions.{regions_of}
 use Rattle.regions.specs.Settled.{Possible, Settled, free, has_clash, known, multi, possible, settle, settled_by, single}
 use Rattle.regions.specs.Symbols.{same_symbol}
-use Rattle.region_laws.specs.IsBasis.{IsBasis}
-use Rattle.region_laws.proofs.Symbols.{Decides-symbol}
-use Rattle.region_laws.specs.pattern.Allowed.{IsAllowed}
-use Rattle.region_laws.specs.pattern.Described.{value_in}
-use Rattle.region_laws.specs.pattern.Listed.{HasCell}
-use Rattle.region_laws.proofs.pattern.Laws.{cell_free, cell_known}
-use Rattle.region_laws.proofs.pattern.Settled.{clash_decided}
-use Rattle.conflicts.specs.SameFacts.{are_compatible}
+use Rattle.regions.specs.region_laws.IsBasis.{IsBasis}
+use Rattle.regions.proofs.region_laws.Symbols.{Decides-symbol}
+use Rattle.regions.specs.region_laws.pattern.Allowed.{IsAllowed}
+use Rattle.regions.specs.region_laws.pattern.Described.{value_in}
+use Rattle.regions.specs.region_laws.pattern.Listed.{HasCell}
+use Rattle.regions.proofs.region_laws.pattern.Laws.{cell_free, cell_known}
+use Rattle.regions.proofs.region_laws.pattern.Settled.{clash_decided}
+use Rattle.region_states.specs.conflicts.SameFacts.{are_compatible}
 use Rattle.conflict_laws.specs.rival.Alike.{IsClear}
 
 -- cells can hold one value whichever is looked at first

@@ -9,9 +9,9 @@ use Rattle.round_trip.specs.soundness.Joined as joined
 use Rattle.round_trip.specs.soundness.Kinds.{IsEnum}
 use Rattle.condition_logic.specs.declared.atoms.Atom.TheVariants as atom
 use Rattle.member_groups.specs.Tested.{IsTested}
-use Rattle.state_demand.specs.Owners.{IsOwned}
-use Rattle.state_demand.specs.Selecting.{same_value}
-use Rattle.state_demand.proofs.Selecting.{Decides-value}
+use Rattle.schema_laws.specs.state_demand.Owners.{IsOwned}
+use Rattle.schema_laws.specs.state_demand.Selecting.{same_value}
+use Rattle.schema_laws.proofs.state_demand.Selecting.{Decides-value}
 use Rattle.cells.specs.Limits.{IsWithinLimits}
 use Rattle.regions.specs.declared.region.Region.{Region}
 use Rattle.regions.specs.declared.pattern.Symbol.{Symbol}
@@ -21,23 +21,23 @@ use Rattle.regions.specs.Atoms.{atom_at}
 use Rattle.regions.specs.Basis.{Basis}
 use Rattle.regions.specs.Patterns.{Valuation, pattern_of, value_under}
 use Rattle.regions.specs.Settled.{Settled, free, known, multi, possible, settle}
-use Rattle.region_laws.specs.IsBasis.{IsBasis}
-use Rattle.region_laws.specs.pattern.Described.{value_in}
-use Rattle.region_laws.specs.pattern.Listed.{HasCell}
-use Rattle.region_laws.proofs.pattern.Groups.{told_tested}
-use Rattle.region_laws.proofs.pattern.Keys.{key_cell}
-use Rattle.region_laws.proofs.pattern.Laws.{listed_from, untested_once}
-use Rattle.region_laws.proofs.pattern.Possible.{null_of_nullable}
-use Rattle.region_laws.proofs.pattern.Regions.{atom_there}
-use Rattle.region_laws.proofs.pattern.Standing.{StandsFree, listed_prop}
-use Rattle.region_laws.proofs.pattern.Types.{key_is_part, key_prop}
+use Rattle.regions.specs.region_laws.IsBasis.{IsBasis}
+use Rattle.regions.specs.region_laws.pattern.Described.{value_in}
+use Rattle.regions.specs.region_laws.pattern.Listed.{HasCell}
+use Rattle.regions.proofs.region_laws.pattern.Groups.{told_tested}
+use Rattle.regions.proofs.region_laws.pattern.Keys.{key_cell}
+use Rattle.regions.proofs.region_laws.pattern.Laws.{listed_from, untested_once}
+use Rattle.regions.proofs.region_laws.pattern.Possible.{null_of_nullable}
+use Rattle.regions.proofs.region_laws.pattern.Regions.{atom_there}
+use Rattle.regions.proofs.region_laws.pattern.Standing.{StandsFree, listed_prop}
+use Rattle.regions.proofs.region_laws.pattern.Types.{key_is_part, key_prop}
 use Rattle.region_states.specs.defaults.Defaults.{changed, default_valuation, default_value}
 use Rattle.region_states.specs.defaults.Admissible.{IsAdmissible}
 use Rattle.region_states.proofs.defaults.Candidates.{IsPlainKind}
 use Rattle.region_states.proofs.defaults.Listed.{IsTold, found_told, lost_untested}
 use Rattle.region_states.proofs.defaults.Valued.{atom_tells}
-use Rattle.conflicts.specs.Facts.{listed_in}
-use Rattle.conflicts.specs.SameFacts.{are_compatible}
+use Rattle.region_states.specs.conflicts.Facts.{listed_in}
+use Rattle.region_states.specs.conflicts.SameFacts.{are_compatible}
 use Rattle.conflict_laws.specs.rival.Alike.{AreComparable}
 use Rattle.conflict_laws.specs.rival.RivalValues.{faces_null, rival_value, shared_value}
 use Rattle.conflict_laws.proofs.rival.Atoms.{enum_is, no_atom, open_atom}

@@ -14,18 +14,18 @@ use Rattle.regions.specs.Atoms.{atom_at}
 use Rattle.regions.specs.Basis.{Basis}
 use Rattle.regions.specs.Patterns.{pattern_of}
 use Rattle.regions.specs.Settled.{Possible, multi, possible, single}
-use Rattle.region_laws.specs.IsBasis.{IsBasis}
-use Rattle.region_laws.proofs.Owning.{declared_above}
-use Rattle.region_laws.specs.pattern.Listed.{Lists}
-use Rattle.region_laws.proofs.pattern.Laws.{listed_from}
-use Rattle.region_laws.proofs.pattern.Regions.{key_is, parts_of}
-use Rattle.region_laws.proofs.pattern.Standing.{listed_prop}
+use Rattle.regions.specs.region_laws.IsBasis.{IsBasis}
+use Rattle.regions.proofs.region_laws.Owning.{declared_above}
+use Rattle.regions.specs.region_laws.pattern.Listed.{Lists}
+use Rattle.regions.proofs.region_laws.pattern.Laws.{listed_from}
+use Rattle.regions.proofs.region_laws.pattern.Regions.{key_is, parts_of}
+use Rattle.regions.proofs.region_laws.pattern.Standing.{listed_prop}
 use Rattle.region_states.specs.defaults.Fresh.{focus_key, fresh}
 use Rattle.region_states.specs.defaults.Defaults.{changed, declared_value, default_valuation, default_value, is_among, place_in, value_by}
 use Rattle.region_states.specs.defaults.Admissible.{AreChoices, HasSeveral, IsAdmissible, IsChoice}
 use Rattle.region_states.proofs.defaults.Changes.{changed_admissible, null_choice}
 use Rattle.region_states.proofs.defaults.Defaults.{Decides-among, default_admissible}
-use Rattle.conflicts.specs.SameFacts.{is_multi, is_one_of, lists_anywhere}
+use Rattle.region_states.specs.conflicts.SameFacts.{is_multi, is_one_of, lists_anywhere}
 use Rattle.conflict_laws.specs.rival.Alike.{AreComparable, HaveOneKey}
 use Rattle.conflict_laws.specs.rival.RivalValues.{faces_null, first_values, rival_value, second_values, shared_value}
 use Rattle.conflict_laws.proofs.rival.Reading.{anywhere, faces_nullable, faces_told, somewhere}

@@ -8,7 +8,7 @@ use Rattle.std.proofs.lemmas.List.{length-map}
 use Rattle.std.proofs.lemmas.List.FromFn.{length-enumerate_from}
 use Rattle.emc_base.proofs.Lists.{at_once}
 use Rattle.round_trip.specs.Words.{TableId, ColId, Column, StoreModel, Table, At}
-use Rattle.state_demand.proofs.Lists.{same_by_key}
+use Rattle.schema_laws.proofs.state_demand.Lists.{same_by_key}
 use Rattle.regions.specs.declared.region.Region.{Region}
 use Rattle.regions.specs.declared.pattern.Symbol.{Symbol}
 use Rattle.regions.specs.declared.pattern.Pattern.{Pattern}
@@ -19,15 +19,15 @@ use Rattle.regions.specs.Patterns.{cell_symbols, pattern_by, pattern_of}
 use Rattle.regions.specs.Settled.{settle}
 use Rattle.regions.specs.Shown.{cell_in}
 use Rattle.regions.specs.Symbols.{SymbolWriting, region_writings}
-use Rattle.region_laws.specs.IsBasis.{IsBasis}
-use Rattle.region_laws.proofs.Rows.{row_cells, rows_all, rows_only, rows_order}
-use Rattle.region_laws.specs.pattern.Listed.{HasCell}
-use Rattle.region_laws.proofs.pattern.Cells.{cell_of as made_cell}
-use Rattle.region_laws.proofs.pattern.Choices.{found_passes, none_passes}
+use Rattle.regions.specs.region_laws.IsBasis.{IsBasis}
+use Rattle.regions.proofs.region_laws.Rows.{row_cells, rows_all, rows_only, rows_order}
+use Rattle.regions.specs.region_laws.pattern.Listed.{HasCell}
+use Rattle.regions.proofs.region_laws.pattern.Cells.{cell_of as made_cell}
+use Rattle.regions.proofs.region_laws.pattern.Choices.{found_passes, none_passes}
 use Rattle.region_states.specs.focus.Held.{HasRow}
 use Rattle.region_states.proofs.focus.Listed.{has_row}
-use Rattle.conflicts.specs.Facts.{listed_in}
-use Rattle.conflicts.specs.SameFacts.{are_compatible, match_all, rows_match, settled_cells}
+use Rattle.region_states.specs.conflicts.Facts.{listed_in}
+use Rattle.region_states.specs.conflicts.SameFacts.{are_compatible, match_all, rows_match, settled_cells}
 use Rattle.conflict_laws.specs.rival.Alike.{PatternsMatch}
 use Rattle.conflict_laws.proofs.rival.Clear.{compatible_back}
 use Rattle.conflict_laws.proofs.rival.Matching.{keys_match, match_at, match_back, match_by_key, match_there, places_match}

@@ -18,12 +18,12 @@ use Rattle.round_trip.specs.Words.{SetId, PropId, TypeId, GroupId, Value, Kind, 
 use Rattle.round_trip.specs.soundness.Joined.{IsDependent, prop}
 use Rattle.round_trip.specs.soundness.Kinds.{IsEnum, IsKeyKind, under_kind}
 use Rattle.member_groups.specs.Tested.{AreInOneGroup}
-use Rattle.state_demand.proofs.Lists.{of_any}
+use Rattle.schema_laws.proofs.state_demand.Lists.{of_any}
 use Rattle.cells.specs.Limits.{IsSmallModel, IsWithinLimits, most_props}
 use Rattle.regions.specs.declared.region.Region.{Region}
 use Rattle.regions.specs.Basis.{Basis}
 use Rattle.regions.specs.Regions.{regions_of}
-use Rattle.region_laws.specs.IsBasis.{IsBasis}
+use Rattle.regions.specs.region_laws.IsBasis.{IsBasis}
 use Rattle.region_states.specs.defaults.Short.{IsShort}
 use Rattle.region_states.specs.defaults.Candidates.{AreTwoFree, first_free, next_free}
 use Rattle.region_states.specs.defaults.Fresh.{first_shared, fresh, most_indices, second_shared, shared_first, shared_second}

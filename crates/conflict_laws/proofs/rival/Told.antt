@@ -6,11 +6,11 @@ use Rattle.round_trip.specs.Words.{AssocId, TypeId}
 use Rattle.condition_logic.specs.declared.atoms.Atom.{Atom}
 use Rattle.condition_logic.specs.declared.atoms.Atom.TheVariants as atom
 use Rattle.condition_logic.specs.declared.atoms.AtomOf.{AtomOf}
-use Rattle.state_demand.specs.Selecting.{same_value}
-use Rattle.state_demand.proofs.Selecting.{Decides-value}
+use Rattle.schema_laws.specs.state_demand.Selecting.{same_value}
+use Rattle.schema_laws.proofs.state_demand.Selecting.{Decides-value}
 use Rattle.regions.specs.declared.region.Region.{Region}
-use Rattle.region_laws.proofs.Symbols.{Decides-assoc, Decides-prop}
-use Rattle.conflicts.specs.SameFacts.{match_all, same_atom, same_region}
+use Rattle.regions.proofs.region_laws.Symbols.{Decides-assoc, Decides-prop}
+use Rattle.region_states.specs.conflicts.SameFacts.{match_all, same_atom, same_region}
 use Rattle.conflict_laws.proofs.rival.Matching.{match_same, match_self}
 
 -- types, atoms and told atoms are told apart

@@ -6,8 +6,8 @@ use Rattle.round_trip.specs.Words.{SetId, PropId, TableId, ColId, EntityModel, P
 use Rattle.round_trip.specs.soundness.Joined.{IsNoKey, Joined, col, prop}
 use Rattle.round_trip.specs.soundness.Joined as joined
 use Rattle.round_trip.specs.soundness.Kinds.{IsEnum}
-use Rattle.state_demand.proofs.Decisions.{so_or_not}
-use Rattle.state_demand.proofs.Selecting.{Decides-value}
+use Rattle.schema_laws.proofs.state_demand.Decisions.{so_or_not}
+use Rattle.schema_laws.proofs.state_demand.Selecting.{Decides-value}
 use Rattle.cells.specs.Limits.{IsWithinLimits}
 use Rattle.regions.specs.declared.region.Region.{Region}
 use Rattle.regions.specs.declared.pattern.Symbol.{Symbol}
@@ -16,17 +16,17 @@ use Rattle.regions.specs.declared.pattern.Focus.TheVariants as focus
 use Rattle.regions.specs.Basis.{Basis}
 use Rattle.regions.specs.Patterns.{Valuation, pattern_of, value_under}
 use Rattle.regions.specs.Settled.{Settled, free, known, multi, possible, settle}
-use Rattle.region_laws.specs.IsBasis.{IsBasis}
-use Rattle.region_laws.proofs.Symbols.{Decides-prop}
-use Rattle.region_laws.specs.pattern.Allowed.{IsAllowed}
-use Rattle.region_laws.specs.pattern.Described.{value_in}
-use Rattle.region_laws.specs.pattern.Listed.{HasCell}
-use Rattle.region_laws.proofs.pattern.Keys.{owned_here}
-use Rattle.region_laws.proofs.pattern.Laws.{listed_from, same_group}
-use Rattle.region_laws.proofs.pattern.Origins.{From}
-use Rattle.region_laws.proofs.pattern.Standing.{Stands, StandsFree, StandsInKey, joined_by, listed_prop, prop_stands}
-use Rattle.region_laws.proofs.pattern.Types.{part_of_type}
-use Rattle.conflicts.specs.SameFacts.{are_compatible}
+use Rattle.regions.specs.region_laws.IsBasis.{IsBasis}
+use Rattle.regions.proofs.region_laws.Symbols.{Decides-prop}
+use Rattle.regions.specs.region_laws.pattern.Allowed.{IsAllowed}
+use Rattle.regions.specs.region_laws.pattern.Described.{value_in}
+use Rattle.regions.specs.region_laws.pattern.Listed.{HasCell}
+use Rattle.regions.proofs.region_laws.pattern.Keys.{owned_here}
+use Rattle.regions.proofs.region_laws.pattern.Laws.{listed_from, same_group}
+use Rattle.regions.proofs.region_laws.pattern.Origins.{From}
+use Rattle.regions.proofs.region_laws.pattern.Standing.{Stands, StandsFree, StandsInKey, joined_by, listed_prop, prop_stands}
+use Rattle.regions.proofs.region_laws.pattern.Types.{part_of_type}
+use Rattle.region_states.specs.conflicts.SameFacts.{are_compatible}
 use Rattle.conflict_laws.specs.rival.Alike.{AreComparable, AreWrittenAlike, PatternsMatch}
 use Rattle.conflict_laws.specs.rival.RivalValues.{first_values, second_values}
 use Rattle.conflict_laws.proofs.rival.Alike.{comparable_back}

@@ -5,7 +5,7 @@ use Rattle.std.proofs.lemmas.Bool.{and_from, and_parts, false_from_ne_true, not_
 use Rattle.std.proofs.lemmas.List.Elements.{Contains-append_right}
 use Rattle.emc_base.proofs.Mapped.{contains_filter, contains_map}
 use Rattle.round_trip.specs.Words.{SetId, TableId, AssocId, PropId, LinkFragment, Value, key_props, props_of}
-use Rattle.state_demand.proofs.Lists.{any_of, contains_flat_map, head_stands, none_in_nil}
+use Rattle.schema_laws.proofs.state_demand.Lists.{any_of, contains_flat_map, head_stands, none_in_nil}
 use Rattle.regions.specs.declared.region.Region.{Region}
 use Rattle.regions.specs.declared.pattern.Focus.TheVariants as focus
 use Rattle.regions.specs.declared.pattern.Pattern.{Pattern}
@@ -17,18 +17,18 @@ use Rattle.regions.specs.Patterns.{is_written, pattern_of}
 use Rattle.regions.specs.Regions.{regions_of}
 use Rattle.regions.specs.Settled.{Possible, multi, possible, single}
 use Rattle.regions.specs.Symbols.{SymbolWriting, fragment_writing, fragments_of, host_writings, is_linked, link_fragment_writing, link_fragments_of, region_writings}
-use Rattle.region_laws.specs.IsBasis.{IsBasis, IsHostOf}
-use Rattle.region_laws.proofs.Cells.{Decides-written}
-use Rattle.region_laws.proofs.Listed.{set_is}
-use Rattle.region_laws.proofs.Possible.{linked_hosts}
-use Rattle.region_laws.proofs.Symbols.{Decides-assoc}
-use Rattle.region_laws.proofs.pattern.Choices.{found_passes, none_passes}
-use Rattle.region_laws.proofs.pattern.Origins.{linked_decided}
+use Rattle.regions.specs.region_laws.IsBasis.{IsBasis, IsHostOf}
+use Rattle.regions.proofs.region_laws.Cells.{Decides-written}
+use Rattle.regions.proofs.region_laws.Listed.{set_is}
+use Rattle.regions.proofs.region_laws.Possible.{linked_hosts}
+use Rattle.regions.proofs.region_laws.Symbols.{Decides-assoc}
+use Rattle.regions.proofs.region_laws.pattern.Choices.{found_passes, none_passes}
+use Rattle.regions.proofs.region_laws.pattern.Origins.{linked_decided}
 use Rattle.region_states.specs.focus.Held.{HasRow}
 use Rattle.region_states.proofs.focus.Listed.{has_row}
 use Rattle.region_states.proofs.defaults.Defaults.{Decides-among}
-use Rattle.conflicts.specs.Facts.{lists}
-use Rattle.conflicts.specs.SameFacts.{is_absent, is_lost, is_multi, is_one_of, lists_anywhere}
+use Rattle.region_states.specs.conflicts.Facts.{lists}
+use Rattle.region_states.specs.conflicts.SameFacts.{is_absent, is_lost, is_multi, is_one_of, lists_anywhere}
 use Rattle.region_states.specs.Hosting.{HasOneEntityPerKey}
 use Rattle.conflict_laws.specs.same.SameValues.{first_several, may_differ}
 

@@ -2,7 +2,7 @@
 use Rattle.std.proofs.Common.{◌≡◌, ◌⊎◌, inl, inr, ⊎_elim, List, [], ◌∷◌, Bool, Contains, refl, sym, ap, subst, ◌∙◌}
 use Rattle.emc_base.proofs.Lists.{at_once}
 use Rattle.round_trip.specs.Words.{SetId, TableId, ColId, AssocId, PropId, Column, DemandsCell, Entity, HasDemandedCells, IsLegal, Null, Row, State, Table, Value, At, cell_of, row_key}
-use Rattle.state_demand.proofs.Lists.{head_stands, none_in_nil}
+use Rattle.schema_laws.proofs.state_demand.Lists.{head_stands, none_in_nil}
 use Rattle.regions.specs.declared.region.Region.{Region}
 use Rattle.regions.specs.declared.pattern.Focus.{Focus}
 use Rattle.regions.specs.declared.pattern.Focus.TheVariants as focus
@@ -10,13 +10,13 @@ use Rattle.regions.specs.declared.pattern.Symbol.{Symbol}
 use Rattle.regions.specs.Basis.{Basis}
 use Rattle.regions.specs.Patterns.{Valuation, by_entity, pattern_of, value_under, writings_of}
 use Rattle.regions.specs.Regions.{regions_of}
-use Rattle.region_laws.specs.IsBasis.{IsBasis}
-use Rattle.region_laws.specs.pattern.Allowed.{IsAllowed}
-use Rattle.region_laws.specs.pattern.Described.{value_in}
-use Rattle.region_laws.specs.pattern.Listed.{HasCell}
-use Rattle.region_laws.proofs.pattern.Allowed.{region_allowed}
-use Rattle.region_laws.proofs.pattern.Cells.{cell_of as made_cell}
-use Rattle.region_laws.proofs.pattern.Laws.{cell_one}
+use Rattle.regions.specs.region_laws.IsBasis.{IsBasis}
+use Rattle.regions.specs.region_laws.pattern.Allowed.{IsAllowed}
+use Rattle.regions.specs.region_laws.pattern.Described.{value_in}
+use Rattle.regions.specs.region_laws.pattern.Listed.{HasCell}
+use Rattle.regions.proofs.region_laws.pattern.Allowed.{region_allowed}
+use Rattle.regions.proofs.region_laws.pattern.Cells.{cell_of as made_cell}
+use Rattle.regions.proofs.region_laws.pattern.Laws.{cell_one}
 use Rattle.region_states.specs.focus.Held.{IsAtRow, IsHeldAt, ListsValue}
 use Rattle.region_states.proofs.focus.Demanded.{cells}
 use Rattle.region_states.proofs.focus.Partners.{are_hosted, are_partners, holds_hosted, links}

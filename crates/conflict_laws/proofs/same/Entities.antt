@@ -4,20 +4,20 @@ use Rattle.std.specs.Option.{option_map_or}
 use Rattle.std.proofs.lemmas.List.Elements.{All-contains}
 use Rattle.round_trip.specs.Words.{SetId, PropId, Entity, EntityModel, EntityType, IsEntity, IsLegal, State, Value, Null, entities_in, props_of, value_beside, value_of}
 use Rattle.round_trip.specs.soundness.Models.{IsSoundModel}
-use Rattle.sound_types.proofs.Once.{props_once}
+use Rattle.schema_laws.proofs.sound_types.Once.{props_once}
 use Rattle.condition_logic.specs.declared.atoms.Atom.{Atom}
 use Rattle.condition_logic.specs.declared.atoms.Atom.TheVariants as atom
-use Rattle.state_demand.proofs.Decisions.{not_or, value_or_not}
-use Rattle.state_demand.proofs.Joined.{same_values}
-use Rattle.state_demand.proofs.Lists.{any_or_none}
+use Rattle.schema_laws.proofs.state_demand.Decisions.{not_or, value_or_not}
+use Rattle.schema_laws.proofs.state_demand.Joined.{same_values}
+use Rattle.schema_laws.proofs.state_demand.Lists.{any_or_none}
 use Rattle.regions.specs.declared.region.Region.{Region}
 use Rattle.regions.specs.declared.pattern.Symbol.TheVariants as symbol
 use Rattle.regions.specs.Atoms.{atom_at}
 use Rattle.regions.specs.Basis.{Basis}
 use Rattle.regions.specs.Patterns.{Valuation}
 use Rattle.regions.specs.Settled.{Possible, is_nullable, multi, of_atom, possible, single}
-use Rattle.region_laws.specs.pattern.Allowed.{IsAllowed}
-use Rattle.region_laws.proofs.pattern.Regions.{lies_in}
+use Rattle.regions.specs.region_laws.pattern.Allowed.{IsAllowed}
+use Rattle.regions.proofs.region_laws.pattern.Regions.{lies_in}
 
 module _ (model : EntityModel) (sound : IsSoundModel model) where
   -- an entity has as many values as its type has properties

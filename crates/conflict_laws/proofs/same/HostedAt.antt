@@ -3,10 +3,10 @@ use Rattle.std.proofs.Common.{◌≡◌, List, Bool, Contains}
 use Rattle.emc_base.proofs.Mapped.{contains_filter}
 use Rattle.emc_base.proofs.Numbered.{filter_contains}
 use Rattle.round_trip.specs.Words.{Link, State, Value, links_in}
-use Rattle.state_demand.specs.Selecting.{same_key}
-use Rattle.state_demand.proofs.Selecting.{Decides-key}
+use Rattle.schema_laws.specs.state_demand.Selecting.{same_key}
+use Rattle.schema_laws.proofs.state_demand.Selecting.{Decides-key}
 use Rattle.regions.specs.Basis.{Host, host_key}
-use Rattle.region_laws.specs.RegionAt.{links_at}
+use Rattle.regions.specs.region_laws.RegionAt.{links_at}
 
 module _ (state : State) (host : Host) (key : List Value) where
   -- whether the entity of this key hosts the link

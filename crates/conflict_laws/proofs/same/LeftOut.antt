@@ -3,18 +3,18 @@ use Rattle.std.proofs.Common.{◌≡◌, ◌≢◌, inl, inr, ⊎_elim, [], List
 use Rattle.round_trip.specs.Words.{SetId, TableId, DemandsCell, DemandsRow, Entity, EntitySet, FailsAt, Null, State, Table, Value, At, cell_of, entities_in, key_of, place_at, row_key}
 use Rattle.round_trip.specs.FailsAt.{HasEntityOnly}
 use Rattle.round_trip.specs.declared.FailKind.TheVariants as kind
-use Rattle.sound_demand.specs.Made.{tables_for}
-use Rattle.sound_demand.proofs.Kept.{tables_there}
+use Rattle.schema_laws.specs.sound_demand.Made.{tables_for}
+use Rattle.schema_laws.proofs.sound_demand.Kept.{tables_there}
 use Rattle.regions.specs.declared.region.Region.{Region}
 use Rattle.regions.specs.Basis.{Basis}
 use Rattle.regions.specs.Patterns.{Valuation}
 use Rattle.regions.specs.Regions.{regions_of}
-use Rattle.region_laws.proofs.Listed.{set_is}
+use Rattle.regions.proofs.region_laws.Listed.{set_is}
 use Rattle.region_states.specs.focus.Held.{IsAtRow, IsHeldAt}
 use Rattle.region_states.proofs.focus.Demanded.{rows}
 use Rattle.region_states.proofs.defaults.Defaults.{default_admissible}
 use Rattle.region_states.specs.defaults.Defaults.{default_valuation}
-use Rattle.conflicts.specs.SameFacts.{is_absent}
+use Rattle.region_states.specs.conflicts.SameFacts.{is_absent}
 use Rattle.region_states.specs.Entities.{focus_entity}
 use Rattle.region_states.specs.Hosting.{DifferAtMostAt, LeavesFocusOut}
 use Rattle.region_states.proofs.Held.{focus_held}

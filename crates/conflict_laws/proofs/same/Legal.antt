@@ -5,15 +5,15 @@ use Rattle.emc_base.proofs.Numbered.{map_contains}
 use Rattle.round_trip.specs.Words.{SetId, PropId, TableId, Entity, EntityModel, EntitySet, HasFittingType, HasNoClash, IsLegal, Pair, Schema, State, Value, At, entities_in, key_of, key_props, value_of}
 use Rattle.round_trip.specs.declared.FailKind.TheVariants as kind
 use Rattle.round_trip.specs.soundness.Mappings.{IsSoundSchema}
-use Rattle.state_demand.specs.Owners.{IsOwned, paired_key, props_in}
-use Rattle.state_demand.proofs.Lists.{same_by_key}
-use Rattle.state_demand.proofs.Places.{agree_by_map, map_agree}
-use Rattle.sound_demand.proofs.Keys.{inherits_keys}
-use Rattle.sound_demand.proofs.Kept.{clash_shown}
+use Rattle.schema_laws.specs.state_demand.Owners.{IsOwned, paired_key, props_in}
+use Rattle.schema_laws.proofs.state_demand.Lists.{same_by_key}
+use Rattle.schema_laws.proofs.state_demand.Places.{agree_by_map, map_agree}
+use Rattle.schema_laws.proofs.sound_demand.Keys.{inherits_keys}
+use Rattle.schema_laws.proofs.sound_demand.Kept.{clash_shown}
 use Rattle.regions.specs.Basis.{Basis}
-use Rattle.region_laws.specs.IsBasis.{IsBasis}
+use Rattle.regions.specs.region_laws.IsBasis.{IsBasis}
 use Rattle.region_states.specs.focus.Held.{IsAtRow}
-use Rattle.conflicts.specs.There.{NoneFailsBy}
+use Rattle.region_states.specs.conflicts.There.{NoneFailsBy}
 
 -- where no legal state fails by a clash, none clashes
 pub unclashed : (schema : Schema) → IsSoundSchema schema → NoneFailsBy schema kind.Clash → (state : State) → IsLegal schema.model state → HasNoClash schema state

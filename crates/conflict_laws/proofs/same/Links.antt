@@ -7,12 +7,12 @@ use Rattle.round_trip.specs.Words.{AreSameTables, AreSameTuples, Assoc, IsLegal,
 use Rattle.round_trip.specs.FailsAt.{key_in_tuple}
 use Rattle.round_trip.specs.declared.FailKind.TheVariants as kind
 use Rattle.round_trip.specs.soundness.Mappings.{IsSoundSchema}
-use Rattle.state_demand.proofs.Good.{satisfied}
-use Rattle.sound_demand.specs.Deriving.{derives}
-use Rattle.sound_demand.proofs.Deriving.{decides_types}
-use Rattle.sound_demand.proofs.Fitting.{has_assocs}
-use Rattle.sound_demand.proofs.TupleKeys.{first_key_in, second_key_in}
-use Rattle.conflicts.specs.There.{NoneFailsBy}
+use Rattle.schema_laws.proofs.state_demand.Good.{satisfied}
+use Rattle.schema_laws.specs.sound_demand.Deriving.{derives}
+use Rattle.schema_laws.proofs.sound_demand.Deriving.{decides_types}
+use Rattle.schema_laws.proofs.sound_demand.Fitting.{has_assocs}
+use Rattle.schema_laws.proofs.sound_demand.TupleKeys.{first_key_in, second_key_in}
+use Rattle.region_states.specs.conflicts.There.{NoneFailsBy}
 
 module _ (schema : Schema) (sound : IsSoundSchema schema) (agrees : NoneFailsBy schema kind.Disagrees) where
   -- the fragments agree with the tables of a legal state

@@ -4,7 +4,7 @@ use Rattle.std.specs.Option.{option_map_or}
 use Rattle.std.proofs.lemmas.Bool.{and_parts, not-true}
 use Rattle.round_trip.specs.Words.{SetId, TableId, ColId, PropId, Prop, EntitySet, Entity, FailsAt, State, At, key_of, key_props, place_at, props_of, value_of}
 use Rattle.round_trip.specs.declared.FailKind.TheVariants as kind
-use Rattle.state_demand.proofs.Lists.{head_stands}
+use Rattle.schema_laws.proofs.state_demand.Lists.{head_stands}
 use Rattle.regions.specs.declared.region.Region.{Region}
 use Rattle.regions.specs.declared.pattern.Focus.TheVariants as focus
 use Rattle.regions.specs.declared.pattern.Symbol.{Symbol}
@@ -13,14 +13,14 @@ use Rattle.regions.specs.Basis.{Basis}
 use Rattle.regions.specs.Patterns.{Valuation, pattern_of, value_under}
 use Rattle.regions.specs.Regions.{regions_of}
 use Rattle.regions.specs.Settled.{Possible, multi, possible, single}
-use Rattle.region_laws.proofs.Regions.{prop_there}
-use Rattle.region_laws.specs.pattern.Described.{value_in}
-use Rattle.region_laws.specs.pattern.Listed.{HasCell, Lists}
+use Rattle.regions.proofs.region_laws.Regions.{prop_there}
+use Rattle.regions.specs.region_laws.pattern.Described.{value_in}
+use Rattle.regions.specs.region_laws.pattern.Listed.{HasCell, Lists}
 use Rattle.region_states.specs.defaults.Admissible.{AreTwoChoices, DifferAt, HasSeveral, IsAdmissible}
 use Rattle.region_states.specs.defaults.Defaults.{alone, changed, default_valuation, one_value, other_value}
 use Rattle.region_states.proofs.defaults.Changes.{differ_at, two_choices}
 use Rattle.region_states.proofs.defaults.Defaults.{Decides-among, default_admissible}
-use Rattle.conflicts.specs.SameFacts.{is_lost, is_multi, is_one_of, lists_anywhere}
+use Rattle.region_states.specs.conflicts.SameFacts.{is_lost, is_multi, is_one_of, lists_anywhere}
 use Rattle.region_states.specs.Entities.{focus_entity}
 use Rattle.region_states.specs.Hosting.{HoldRivals}
 use Rattle.region_states.proofs.Entities.{has_value}

@@ -8,12 +8,12 @@ use Rattle.regions.specs.declared.pattern.Symbol.TheVariants as symbol
 use Rattle.regions.specs.Basis.{Basis}
 use Rattle.regions.specs.Patterns.{by_entity, pattern_of}
 use Rattle.regions.specs.Settled.{Possible, multi, possible, single}
-use Rattle.region_laws.specs.IsBasis.{IsBasis}
-use Rattle.region_laws.specs.pattern.Allowed.{IsAllowed}
-use Rattle.region_laws.specs.pattern.Listed.{Lists}
+use Rattle.regions.specs.region_laws.IsBasis.{IsBasis}
+use Rattle.regions.specs.region_laws.pattern.Allowed.{IsAllowed}
+use Rattle.regions.specs.region_laws.pattern.Listed.{Lists}
 use Rattle.region_states.specs.focus.Held.{IsHeldAt}
 use Rattle.region_states.proofs.defaults.Defaults.{Decides-among}
-use Rattle.conflicts.specs.SameFacts.{is_lost, is_multi, is_one_of, lists_anywhere}
+use Rattle.region_states.specs.conflicts.SameFacts.{is_lost, is_multi, is_one_of, lists_anywhere}
 use Rattle.conflict_laws.specs.rival.Alike.{AreWrittenAlike, IsClear}
 use Rattle.conflict_laws.proofs.rival.Reading.{somewhere}
 use Rattle.conflict_laws.proofs.same.Cells.{held_allowed, value_is}

@@ -2,15 +2,15 @@
 use Rattle.std.proofs.Common.{◌≡◌, ◌⊎◌, inl, inr, ⊎_elim, List, ◌==◌, Contains, sym, ap, subst, ◌∙◌}
 use Rattle.std.proofs.lemmas.Bool.Decides.{Decides-eqb, Decides-like}
 use Rattle.round_trip.specs.Words.{SetId, TableId, Entity, IsLegal, Link, State, Value, Writing, WritesRow, entities_in, key_of, links_in, written_key}
-use Rattle.state_demand.specs.Owners.{StandsAt}
-use Rattle.state_demand.specs.Writings.{link_writing}
-use Rattle.state_demand.proofs.Decisions.{both_or_not, key_or_not, so_or_not}
-use Rattle.sound_demand.proofs.Local.{is_local_to_links}
+use Rattle.schema_laws.specs.state_demand.Owners.{StandsAt}
+use Rattle.schema_laws.specs.state_demand.Writings.{link_writing}
+use Rattle.schema_laws.proofs.state_demand.Decisions.{both_or_not, key_or_not, so_or_not}
+use Rattle.schema_laws.proofs.sound_demand.Local.{is_local_to_links}
 use Rattle.regions.specs.Basis.{Basis}
-use Rattle.region_laws.specs.Concrete.{IsWritingAt}
-use Rattle.region_laws.specs.IsBasis.{IsBasis}
-use Rattle.region_laws.specs.RegionAt.{links_at}
-use Rattle.region_laws.proofs.Owned.{row_writings}
+use Rattle.regions.specs.region_laws.Concrete.{IsWritingAt}
+use Rattle.regions.specs.region_laws.IsBasis.{IsBasis}
+use Rattle.regions.specs.region_laws.RegionAt.{links_at}
+use Rattle.regions.proofs.region_laws.Owned.{row_writings}
 use Rattle.region_states.specs.focus.Held.{IsAtRow, IsRowOfOne}
 use Rattle.region_states.proofs.focus.Demanded.{row_of_one}
 use Rattle.region_states.specs.Hosting.{DifferAtMostAt}

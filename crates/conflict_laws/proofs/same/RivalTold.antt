@@ -4,9 +4,9 @@ use Rattle.std.proofs.lemmas.Bool.{and_from, not_from_false}
 use Rattle.round_trip.specs.Words.{SetId, AssocId, Entity, State, Tables, key_of}
 use Rattle.regions.specs.Basis.{Basis}
 use Rattle.regions.specs.Patterns.{by_entity}
-use Rattle.region_laws.specs.IsBasis.{IsBasis}
-use Rattle.region_laws.proofs.Symbols.{Decides-assoc}
-use Rattle.conflicts.specs.SameFacts.{are_rivals, match_all, same_region}
+use Rattle.regions.specs.region_laws.IsBasis.{IsBasis}
+use Rattle.regions.proofs.region_laws.Symbols.{Decides-assoc}
+use Rattle.region_states.specs.conflicts.SameFacts.{are_rivals, match_all, same_region}
 use Rattle.conflict_laws.specs.rival.Alike.{AreComparable, IsClear, PatternsMatch, patterns_match}
 use Rattle.conflict_laws.proofs.rival.Alike.{alike_match}
 use Rattle.conflict_laws.proofs.rival.Matching.{match_self}

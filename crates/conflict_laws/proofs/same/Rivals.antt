@@ -3,24 +3,24 @@ use Rattle.std.proofs.Common.{◌≡◌, ◌≢◌, inl, inr, List, [], ◌∷�
 use Rattle.round_trip.specs.Words.{SetId, TableId, ColId, Entity, EntitySet, FailsAt, State, Table, Value, At, key_of, key_props, place_at, value_of}
 use Rattle.round_trip.specs.FailsAt.{HasEntityOnly}
 use Rattle.round_trip.specs.declared.FailKind.TheVariants as kind
-use Rattle.state_demand.proofs.Lists.{head_stands}
-use Rattle.state_demand.proofs.Places.{map_agree}
-use Rattle.sound_demand.specs.Made.{tables_for}
-use Rattle.sound_demand.proofs.Kept.{tables_there}
+use Rattle.schema_laws.proofs.state_demand.Lists.{head_stands}
+use Rattle.schema_laws.proofs.state_demand.Places.{map_agree}
+use Rattle.schema_laws.specs.sound_demand.Made.{tables_for}
+use Rattle.schema_laws.proofs.sound_demand.Kept.{tables_there}
 use Rattle.regions.specs.declared.region.Region.{Region}
 use Rattle.regions.specs.declared.pattern.Focus.TheVariants as focus
 use Rattle.regions.specs.declared.pattern.Symbol.{Symbol}
 use Rattle.regions.specs.Basis.{Basis}
 use Rattle.regions.specs.Patterns.{Valuation, by_entity, pattern_of}
 use Rattle.regions.specs.Regions.{regions_of}
-use Rattle.region_laws.specs.IsBasis.{IsBasis}
-use Rattle.region_laws.proofs.Listed.{set_is}
-use Rattle.region_laws.specs.pattern.Allowed.{IsAllowed}
-use Rattle.region_laws.specs.pattern.Described.{value_in}
-use Rattle.region_laws.specs.pattern.Listed.{HasCell}
-use Rattle.region_laws.proofs.pattern.Types.{key_among}
+use Rattle.regions.specs.region_laws.IsBasis.{IsBasis}
+use Rattle.regions.proofs.region_laws.Listed.{set_is}
+use Rattle.regions.specs.region_laws.pattern.Allowed.{IsAllowed}
+use Rattle.regions.specs.region_laws.pattern.Described.{value_in}
+use Rattle.regions.specs.region_laws.pattern.Listed.{HasCell}
+use Rattle.regions.proofs.region_laws.pattern.Types.{key_among}
 use Rattle.region_states.specs.focus.Held.{IsAtRow, IsHeldAt}
-use Rattle.conflicts.specs.There.{NoneFailsBy}
+use Rattle.region_states.specs.conflicts.There.{NoneFailsBy}
 use Rattle.region_states.specs.Entities.{focus_entity}
 use Rattle.region_states.specs.Hosting.{DifferAtMostAt, HoldRivals}
 use Rattle.region_states.proofs.Entities.{has_value, symbol_value}

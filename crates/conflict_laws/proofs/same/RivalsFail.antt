@@ -7,14 +7,14 @@ use Rattle.regions.specs.declared.region.Region.{Region}
 use Rattle.regions.specs.Basis.{Basis}
 use Rattle.regions.specs.Patterns.{Valuation}
 use Rattle.regions.specs.Regions.{Holds, regions_of, tested_props}
-use Rattle.region_laws.specs.IsBasis.{IsBasis}
-use Rattle.region_laws.specs.RegionAt.{atom_in, region_at}
-use Rattle.region_laws.proofs.Listed.{set_is}
-use Rattle.region_laws.proofs.Regions.{region_only}
-use Rattle.region_laws.proofs.Symbols.{Decides-assoc}
+use Rattle.regions.specs.region_laws.IsBasis.{IsBasis}
+use Rattle.regions.specs.region_laws.RegionAt.{atom_in, region_at}
+use Rattle.regions.proofs.region_laws.Listed.{set_is}
+use Rattle.regions.proofs.region_laws.Regions.{region_only}
+use Rattle.regions.proofs.region_laws.Symbols.{Decides-assoc}
 use Rattle.region_states.specs.focus.Held.{IsHeldAt}
 use Rattle.region_states.specs.defaults.Admissible.{IsAdmissible}
-use Rattle.conflicts.specs.SameFacts.{are_rivals, match_all, same_region}
+use Rattle.region_states.specs.conflicts.SameFacts.{are_rivals, match_all, same_region}
 use Rattle.region_states.specs.Entities.{focus_entity}
 use Rattle.region_states.specs.Hosting.{HoldRivals}
 use Rattle.region_states.proofs.Held.{focus_held}

@@ -2,15 +2,15 @@
 use Rattle.std.proofs.Common.{◌≡◌, List, Bool, Contains, refl, sym, subst, ◌∙◌}
 use Rattle.std.proofs.lemmas.List.Sorted.{Contains-permutation, IsPermutation-sym}
 use Rattle.round_trip.specs.Words.{SetId, TableId, AssocId, PropId, AreSameTables, DemandsRow, Entity, IsLegal, Pair, Row, State, Table, Tables, TablesAre, Value, At, entities_in, key_of, row_key, rows_in}
-use Rattle.state_demand.specs.Owners.{IsOwned, paired_key}
-use Rattle.state_demand.proofs.Lists.{of_any}
-use Rattle.state_demand.proofs.ReadBack.{cells_demanded, row_demanded, rows_demanded}
-use Rattle.sound_demand.proofs.ReadBack.{rows_of}
+use Rattle.schema_laws.specs.state_demand.Owners.{IsOwned, paired_key}
+use Rattle.schema_laws.proofs.state_demand.Lists.{of_any}
+use Rattle.schema_laws.proofs.state_demand.ReadBack.{cells_demanded, row_demanded, rows_demanded}
+use Rattle.schema_laws.proofs.sound_demand.ReadBack.{rows_of}
 use Rattle.regions.specs.declared.region.Region.{Region}
 use Rattle.regions.specs.declared.pattern.Focus.TheVariants as focus
 use Rattle.regions.specs.Basis.{Basis}
 use Rattle.regions.specs.Patterns.{by_entity, pattern_of}
-use Rattle.region_laws.specs.IsBasis.{IsBasis}
+use Rattle.regions.specs.region_laws.IsBasis.{IsBasis}
 use Rattle.region_states.specs.focus.Held.{HasRow, IsAtRow, IsHeldAt}
 use Rattle.region_states.proofs.focus.Demanded.{rows}
 use Rattle.region_states.proofs.focus.Listed.{row_owned}

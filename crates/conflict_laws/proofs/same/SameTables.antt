@@ -2,9 +2,9 @@
 use Rattle.std.proofs.Common.{◌≡◌, ◌⊎◌, ◌↔◌, inl, inr, ⊎_elim, List, refl}
 use Rattle.emc_base.proofs.Lists.{all_from_members}
 use Rattle.round_trip.specs.Words.{SetId, TableId, ColId, Column, DemandsCell, DemandsRow, HasDemandedCells, HasNoClash, AreDemandedRows, IsLegal, Null, Row, Schema, State, Table, Tables, TablesAre, Value, At, cell_of, row_key, rows_in}
-use Rattle.state_demand.proofs.ReadBack.{cells_demanded, row_demanded, rows_demanded}
+use Rattle.schema_laws.proofs.state_demand.ReadBack.{cells_demanded, row_demanded, rows_demanded}
 use Rattle.regions.specs.Basis.{Basis}
-use Rattle.region_laws.specs.IsBasis.{IsBasis}
+use Rattle.regions.specs.region_laws.IsBasis.{IsBasis}
 use Rattle.region_states.specs.Hosting.{DifferAtMostAt}
 use Rattle.conflict_laws.proofs.same.Moved.{IsAtFocus, mirrored, moved}
 

@@ -6,12 +6,12 @@ use Rattle.regions.specs.declared.region.Region.{Region}
 use Rattle.regions.specs.Basis.{Basis}
 use Rattle.regions.specs.Patterns.{Valuation}
 use Rattle.regions.specs.Regions.{regions_of}
-use Rattle.region_laws.proofs.pattern.Regions.{PartsOf, parts_of}
-use Rattle.conflicts.specs.Conflicts.{IsConflictAt}
-use Rattle.conflicts.specs.SameFacts.{is_absent, is_lost}
-use Rattle.conflicts.specs.There.{FailsThere}
-use Rattle.conflicts.specs.declared.conflict.Conflict.{Conflict}
-use Rattle.conflicts.specs.declared.conflict.Conflict.TheVariants as conflict
+use Rattle.regions.proofs.region_laws.pattern.Regions.{PartsOf, parts_of}
+use Rattle.region_states.specs.conflicts.Conflicts.{IsConflictAt}
+use Rattle.region_states.specs.conflicts.SameFacts.{is_absent, is_lost}
+use Rattle.region_states.specs.conflicts.There.{FailsThere}
+use Rattle.region_states.specs.declared.conflicts.conflict.Conflict.{Conflict}
+use Rattle.region_states.specs.declared.conflicts.conflict.Conflict.TheVariants as conflict
 use Rattle.conflict_laws.specs.same.SameValues.{first_several}
 use Rattle.conflict_laws.specs.same.States.{HasStates}
 use Rattle.conflict_laws.proofs.same.Absent.{several_lost}

@@ -3,16 +3,16 @@ use Rattle.std.proofs.Common.{◌≡◌, ◌∷◌, [], ◌++◌, List, flat_map
 use Rattle.std.specs.Option.{option_map_or}
 use Rattle.emc_base.proofs.Lists.{only_member, only_stands}
 use Rattle.round_trip.specs.Words.{SetId, AssocId, PropId, Assoc, Entity, EntitySet, Hosted, IsLegal, Link, State, TypeId, Value, At, entities_in, key_of, links_in}
-use Rattle.state_demand.proofs.Lists.{head_stands, tail_stands}
+use Rattle.schema_laws.proofs.state_demand.Lists.{head_stands, tail_stands}
 use Rattle.regions.specs.declared.region.Region.{Region}
 use Rattle.regions.specs.Basis.{Basis, Host, IsHostedLink, host_end, partner_end}
 use Rattle.regions.specs.Regions.{flagged}
-use Rattle.region_laws.specs.IsBasis.{AreHostedLinks, IsBasis, IsHostOf}
-use Rattle.region_laws.specs.Partners.{HasFewPartners, HasPartners, part_by}
-use Rattle.region_laws.specs.RegionAt.{flag_by, flag_in, has_link, hosted_links, links_at, region_at}
-use Rattle.region_laws.proofs.Flags.{flag_is}
-use Rattle.region_laws.proofs.Hosting.{hosted_are}
-use Rattle.region_laws.proofs.Regions.{region_among, region_holds}
+use Rattle.regions.specs.region_laws.IsBasis.{AreHostedLinks, IsBasis, IsHostOf}
+use Rattle.regions.specs.region_laws.Partners.{HasFewPartners, HasPartners, part_by}
+use Rattle.regions.specs.region_laws.RegionAt.{flag_by, flag_in, has_link, hosted_links, links_at, region_at}
+use Rattle.regions.proofs.region_laws.Flags.{flag_is}
+use Rattle.regions.proofs.region_laws.Hosting.{hosted_are}
+use Rattle.regions.proofs.region_laws.Regions.{region_among, region_holds}
 use Rattle.region_states.specs.focus.Held.{IsHeldAt, IsOfRegion}
 use Rattle.region_states.proofs.focus.Flags.{held_at}
 use Rattle.conflict_laws.proofs.same.HostedAt.{at_host, host_at}

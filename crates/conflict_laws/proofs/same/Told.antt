@@ -3,23 +3,23 @@ use Rattle.std.proofs.Common.{◌≡◌, ◌≢◌, ⊎_elim, [], ◌∷◌, Lis
 use Rattle.std.specs.List.{list_any}
 use Rattle.round_trip.specs.Words.{SetId, AssocId, PropId, Entity, EntitySet, State, Tables, Value, At, entities_in, key_of}
 use Rattle.round_trip.specs.declared.FailKind.TheVariants as kind
-use Rattle.state_demand.proofs.Decisions.{key_or_not}
-use Rattle.state_demand.proofs.Lists.{any_or_none, head_stands}
+use Rattle.schema_laws.proofs.state_demand.Decisions.{key_or_not}
+use Rattle.schema_laws.proofs.state_demand.Lists.{any_or_none, head_stands}
 use Rattle.regions.specs.declared.region.Region.{Region}
 use Rattle.regions.specs.declared.pattern.Focus.TheVariants as focus
 use Rattle.regions.specs.declared.pattern.PatternRow.{PatternRow}
 use Rattle.regions.specs.Basis.{Basis}
 use Rattle.regions.specs.Patterns.{pattern_of}
 use Rattle.regions.specs.Regions.{regions_of}
-use Rattle.region_laws.specs.IsBasis.{IsBasis}
-use Rattle.region_laws.specs.Partners.{HasFewPartners, part_by}
-use Rattle.region_laws.proofs.Listed.{set_is}
+use Rattle.regions.specs.region_laws.IsBasis.{IsBasis}
+use Rattle.regions.specs.region_laws.Partners.{HasFewPartners, part_by}
+use Rattle.regions.proofs.region_laws.Listed.{set_is}
 use Rattle.region_states.specs.focus.Held.{IsHeldAt}
 use Rattle.region_states.proofs.focus.Flags.{held_at, some_region}
-use Rattle.conflicts.specs.Conflicts.{IsConflictAt}
-use Rattle.conflicts.specs.SameFacts.{is_absent, same_region}
-use Rattle.conflicts.specs.declared.conflict.Conflict.{Conflict}
-use Rattle.conflicts.specs.declared.conflict.Conflict.TheVariants as conflict
+use Rattle.region_states.specs.conflicts.Conflicts.{IsConflictAt}
+use Rattle.region_states.specs.conflicts.SameFacts.{is_absent, same_region}
+use Rattle.region_states.specs.declared.conflicts.conflict.Conflict.{Conflict}
+use Rattle.region_states.specs.declared.conflicts.conflict.Conflict.TheVariants as conflict
 use Rattle.conflict_laws.specs.rival.Alike.{IsClear}
 use Rattle.conflict_laws.proofs.rival.Told.{told_same}
 use Rattle.conflict_laws.proofs.same.Rows.{HaveSameTables, entity_too, row_of_pattern}

@@ -6,8 +6,8 @@ use Rattle.round_trip.specs.declared.FailKind.TheVariants as kind
 use Rattle.regions.specs.declared.region.Region.{Region}
 use Rattle.regions.specs.Basis.{Basis}
 use Rattle.regions.specs.Patterns.{Valuation}
-use Rattle.region_laws.specs.IsBasis.{IsHostOf}
-use Rattle.conflicts.specs.There.{FailsThere, NoneFailsBy}
+use Rattle.regions.specs.region_laws.IsBasis.{IsHostOf}
+use Rattle.region_states.specs.conflicts.There.{FailsThere, NoneFailsBy}
 use Rattle.conflict_laws.specs.same.States.{HasStates}
 use Rattle.conflict_laws.proofs.same.Links.{link_too}
 use Rattle.conflict_laws.proofs.same.Names.{no_assoc, one_set}

@@ -7,9 +7,9 @@ use Rattle.regions.specs.Basis.{Basis}
 use Rattle.regions.specs.declared.pattern.Symbol.{Symbol}
 use Rattle.regions.specs.Patterns.{by_entity, cell_symbols, pattern_of}
 use Rattle.regions.specs.Symbols.{region_writings}
-use Rattle.region_laws.specs.IsBasis.{IsBasis}
-use Rattle.region_laws.specs.pattern.Described.{value_in}
-use Rattle.region_laws.specs.pattern.Listed.{HasCell}
+use Rattle.regions.specs.region_laws.IsBasis.{IsBasis}
+use Rattle.regions.specs.region_laws.pattern.Described.{value_in}
+use Rattle.regions.specs.region_laws.pattern.Listed.{HasCell}
 use Rattle.region_states.specs.focus.Held.{HasRow, IsAtRow, IsHeldAt}
 use Rattle.region_states.proofs.focus.Demanded.{rows}
 use Rattle.conflict_laws.specs.rival.Alike.{AreWrittenAlike, IsClear}

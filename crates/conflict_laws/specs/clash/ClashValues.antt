@@ -2,7 +2,7 @@
 -- Source: this project's choice of the states that it shows.
 use Rattle.std.specs.Prelude.{List, [], ◌∷◌, ◌++◌, find, slice_get, unwrap_or, Bool, not}
 use Rattle.std.specs.Option.{option_map_or}
-use Rattle.state_demand.specs.Selecting.{same_value}
+use Rattle.schema_laws.specs.state_demand.Selecting.{same_value}
 use Rattle.regions.specs.declared.region.Region.{Region}
 use Rattle.regions.specs.declared.pattern.Symbol.{Symbol}
 use Rattle.regions.specs.declared.pattern.Symbol.TheVariants as symbol

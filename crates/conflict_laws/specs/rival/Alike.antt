@@ -9,10 +9,10 @@ use Rattle.regions.specs.declared.pattern.Symbol.{Symbol}
 use Rattle.regions.specs.Basis.{Basis}
 use Rattle.regions.specs.Patterns.{Valuation, pattern_of}
 use Rattle.regions.specs.Regions.{regions_of}
-use Rattle.region_laws.specs.pattern.Described.{HasNoClashes, value_in}
-use Rattle.region_laws.specs.pattern.Listed.{HasCell}
+use Rattle.regions.specs.region_laws.pattern.Described.{HasNoClashes, value_in}
+use Rattle.regions.specs.region_laws.pattern.Listed.{HasCell}
 use Rattle.region_states.specs.focus.Held.{HasRow}
-use Rattle.conflicts.specs.SameFacts.{match_all, rows_match}
+use Rattle.region_states.specs.conflicts.SameFacts.{match_all, rows_match}
 
 -- no cell of the region's pattern clashes
 abbrev pub IsClear : Basis → Region → Type 0

@@ -5,7 +5,7 @@ use Rattle.std.specs.List.{enumerate_from, list_any}
 use Rattle.std.specs.Option.{option_map_or}
 use Rattle.round_trip.specs.Words.{PropId, GroupId, Value, Null, Prop, key_props, props_of}
 use Rattle.round_trip.specs.soundness.Joined.{prop}
-use Rattle.state_demand.specs.Selecting.{same_value}
+use Rattle.schema_laws.specs.state_demand.Selecting.{same_value}
 use Rattle.regions.specs.declared.region.Region.{Region}
 use Rattle.regions.specs.declared.pattern.Focus.TheVariants as focus
 use Rattle.regions.specs.declared.pattern.Symbol.TheVariants as symbol
@@ -16,8 +16,8 @@ use Rattle.regions.specs.Settled.{Settled, known, free, possible, settle}
 use Rattle.region_states.specs.defaults.Candidates.{first_free}
 use Rattle.region_states.specs.defaults.Defaults.{changed, default_valuation, is_dependent}
 use Rattle.region_states.specs.defaults.Fresh.{first_shared, fresh, second_shared}
-use Rattle.conflicts.specs.Facts.{listed_in, lists}
-use Rattle.conflicts.specs.SameFacts.{is_multi, is_one_of, lists_anywhere}
+use Rattle.region_states.specs.conflicts.Facts.{listed_in, lists}
+use Rattle.region_states.specs.conflicts.SameFacts.{is_multi, is_one_of, lists_anywhere}
 
 -- whether two answers name one group
 abbrev pub same_group : Option GroupId → Option GroupId → Bool

@@ -9,7 +9,7 @@ use Rattle.regions.specs.Basis.{Basis}
 use Rattle.regions.specs.Patterns.{Valuation}
 use Rattle.regions.specs.Settled.{possible}
 use Rattle.region_states.specs.defaults.Defaults.{alone, changed, default_valuation, one_value, other_value}
-use Rattle.conflicts.specs.SameFacts.{is_multi, is_one_of}
+use Rattle.region_states.specs.conflicts.SameFacts.{is_multi, is_one_of}
 
 module _ (basis : Basis) (region : Region) where
   -- the usual values, with the one value of the property

@@ -6,8 +6,8 @@ use Rattle.cells.specs.Limits.{IsWithinLimits}
 use Rattle.regions.specs.declared.region.Region.{Region}
 use Rattle.regions.specs.Basis.{Basis}
 use Rattle.regions.specs.Patterns.{Valuation}
-use Rattle.region_laws.specs.IsBasis.{IsBasis}
-use Rattle.conflicts.specs.There.{NoneFailsBy}
+use Rattle.regions.specs.region_laws.IsBasis.{IsBasis}
+use Rattle.region_states.specs.conflicts.There.{NoneFailsBy}
 use Rattle.region_states.specs.Hosting.{HaveFewPartners, HostsFocuses, HostsRivals, LeavesOut}
 
 -- a basis of a schema within the limits, with states as the laws ask for them; no entity may have any number of partners, and no legal state clashes

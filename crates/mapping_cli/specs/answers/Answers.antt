@@ -5,7 +5,7 @@ use Rattle.emc_base.specs.Lists.{At}
 use Rattle.mapping_core.specs.Words.{Keeps, PassesNoLimit, RoundTrips, Schema, State, Tables}
 use Rattle.mapping_core.specs.declared.loading.LoadFault.{LoadFault}
 use Rattle.mapping_core.specs.declared.loading.LoadFault.TheVariants as load
-use Rattle.command_texts.specs.Texts.{table_breach_text}
+use Rattle.texts.specs.command_texts.Texts.{table_breach_text}
 use Rattle.mapping_core.specs.declared.compiled.Compiled.{Compiled}
 use Rattle.mapping_cli.specs.declared.answers.answer.Answer.{Answer}
 use Rattle.mapping_cli.specs.declared.answers.answer.Halt.{Halt}

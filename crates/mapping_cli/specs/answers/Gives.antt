@@ -5,7 +5,7 @@ use Rattle.emc_base.specs.Lists.{At}
 use Rattle.mapping_core.specs.Words.{Breach, Failure, HoldsNoState, HoldsNoTables, HoldsState, HoldsTables, IsBreachOf, IsBreachOfTables, IsFailureOf, IsFirstLimit, IsLegal, IsLoaded, IsStateText, IsTablesText, IsToldRule, IsViewsText, AreLegalTables, Keeps, LimitFault, LoadsLegal, Means, PassesNoLimit, RoundTrips, RuleFault, Schema, State, Tables}
 use Rattle.mapping_core.specs.declared.loading.LoadFault.{LoadFault}
 use Rattle.mapping_core.specs.declared.loading.LoadFault.TheVariants as load
-use Rattle.command_texts.specs.Texts.{accepted_text, entity_breach_text, entity_shape_text, illegal_text, IsDiffersText, IsFailText, limit_text, no_case_text, rule_text, table_breach_text, table_shape_text}
+use Rattle.texts.specs.command_texts.Texts.{accepted_text, entity_breach_text, entity_shape_text, illegal_text, IsDiffersText, IsFailText, limit_text, no_case_text, rule_text, table_breach_text, table_shape_text}
 use Rattle.mapping_cli.specs.declared.answers.status.Status.{Status}
 use Rattle.mapping_cli.specs.declared.answers.status.Status.TheVariants.{Done, MappingRefused, DocumentRefused}
 use Rattle.mapping_cli.specs.declared.answers.command.Command.{Command}

@@ -4,10 +4,10 @@ ghost use Rattle.mapping_cli.specs.answers.Answers.{Accepts, AcceptsSchema, Refu
 
 use crate::answers::answer::{Answer, Halt};
 use crate::answers::status::Status;
-use command_texts::{fail_text, limit_text, rule_text};
 use emc_base::{Bin, Seq, Txt};
 use mapping_core::{Compiled, Refusal, Schema, VocabFault, decide, read};
 use std::alloc::Global;
+use texts::{fail_text, limit_text, rule_text};
 
 /// The accepted mapping of the documents that are the first three of these contents; or what is told where they aren't accepted.
 pub(crate) fn accepted(alloc: Global, contents: &Seq<Bin>) -> Result<Compiled, Halt>

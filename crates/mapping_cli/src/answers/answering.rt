@@ -9,10 +9,10 @@ use crate::answers::load::loaded;
 use crate::answers::status::Status;
 use crate::answers::store::stored;
 use crate::answers::views::viewed;
-use command_texts::accepted_text;
 use emc_base::{Bin, Memory, Seq};
 use mapping_core::Compiled;
 use std::alloc::Global;
+use texts::accepted_text;
 
 /// What a command answers on the contents of its input files: what is told of the documents of the mapping where they aren't accepted; else what the command gives
 /// by the mapping. `Memory` comes where memory ran out.

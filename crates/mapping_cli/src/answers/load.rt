@@ -5,12 +5,10 @@ ghost use Rattle.mapping_cli.specs.declared.answers.status.Status.TheVariants.{D
 
 use crate::answers::answer::Answer;
 use crate::answers::status::Status;
-use command_texts::{
-    differs_text, illegal_text, no_case_text, table_breach_text, table_shape_text,
-};
 use emc_base::{Bin, Memory};
 use mapping_core::{Compiled, EntityState, LoadFault, ShapeFault, Tables, load, read_tables};
 use std::alloc::Global;
+use texts::{differs_text, illegal_text, no_case_text, table_breach_text, table_shape_text};
 
 /// The entities of a table document by an accepted mapping.
 pub(crate) fn loaded(alloc: Global, compiled: &Compiled, document: &Bin) -> Result<Answer, Memory>

@@ -4,10 +4,10 @@ ghost use Rattle.mapping_cli.specs.answers.Answers.{AnswersStored, AnswersTables
 
 use crate::answers::answer::Answer;
 use crate::answers::status::Status;
-use command_texts::{entity_breach_text, entity_shape_text};
 use emc_base::{Bin, Memory};
 use mapping_core::{Compiled, EntityState, ShapeFault, StoreFault, read_entities, store_all};
 use std::alloc::Global;
+use texts::{entity_breach_text, entity_shape_text};
 
 /// The tables of an entity document by an accepted mapping.
 pub(crate) fn stored(alloc: Global, compiled: &Compiled, entities: &Bin) -> Result<Answer, Memory>

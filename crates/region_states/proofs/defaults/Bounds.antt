@@ -11,12 +11,12 @@ use Rattle.round_trip.specs.Words.{EntityModel, EntityType, PropId, TypeId, Asso
 use Rattle.edm_types.specs.IsA.{base}
 use Rattle.round_trip.specs.soundness.Inheritance.{IsRootKey}
 use Rattle.round_trip.specs.soundness.Models.{IsSoundModel}
-use Rattle.base_chains.proofs.Chains.{Ends}
-use Rattle.sound_types.proofs.BasePlaces.{base_ends, base_here, base_place}
-use Rattle.state_demand.proofs.Lists.{member_cases, none_in_nil}
-use Rattle.sound_demand.proofs.Keys.{inherits_keys}
+use Rattle.graphs.proofs.base_chains.Chains.{Ends}
+use Rattle.schema_laws.proofs.sound_types.BasePlaces.{base_ends, base_here, base_place}
+use Rattle.schema_laws.proofs.state_demand.Lists.{member_cases, none_in_nil}
+use Rattle.schema_laws.proofs.sound_demand.Keys.{inherits_keys}
 use Rattle.cells.specs.Limits.{IsSmallModel, most_props}
-use Rattle.region_laws.proofs.Symbols.{Decides-prop}
+use Rattle.regions.proofs.region_laws.Symbols.{Decides-prop}
 use Rattle.region_states.specs.defaults.Defaults.{place_in}
 use Rattle.region_states.specs.defaults.Fresh.{dependent, dependent_value, focus, focus_key, most_indices, partner, partner_key}
 use Rattle.region_states.proofs.defaults.Uses.{index_below}

@@ -11,7 +11,7 @@ use Rattle.condition_logic.specs.declared.atoms.Atom.{Atom}
 use Rattle.condition_logic.specs.declared.atoms.Atom.TheVariants as atom
 use Rattle.condition_logic.specs.declared.atoms.AtomOf.{AtomOf}
 use Rattle.member_groups.specs.Tested.{AreInOneGroup}
-use Rattle.state_demand.proofs.Lists.{none_in_nil}
+use Rattle.schema_laws.proofs.state_demand.Lists.{none_in_nil}
 use Rattle.cells.specs.Limits.{IsWithinLimits}
 use Rattle.regions.specs.declared.region.Region.{Region}
 use Rattle.regions.specs.Atoms.{Allows, LiesIn, atom_at}
@@ -19,9 +19,9 @@ use Rattle.regions.specs.Basis.{Basis}
 use Rattle.regions.specs.Patterns.{Valuation}
 use Rattle.regions.specs.Regions.{regions_of}
 use Rattle.regions.specs.Settled.{Possible, is_nullable, multi, of_atom, single}
-use Rattle.region_laws.specs.IsBasis.{IsBasis}
-use Rattle.region_laws.proofs.Atoms.{not_null}
-use Rattle.region_laws.proofs.Symbols.{Decides-prop}
+use Rattle.regions.specs.region_laws.IsBasis.{IsBasis}
+use Rattle.regions.proofs.region_laws.Atoms.{not_null}
+use Rattle.regions.proofs.region_laws.Symbols.{Decides-prop}
 use Rattle.region_states.specs.defaults.Short.{IsOfSort, IsShort}
 use Rattle.region_states.specs.defaults.Candidates.{AreTwoFree, first_free, next_free}
 use Rattle.region_states.specs.defaults.Fresh.{focus_key, fresh, lost, lost_value}

@@ -20,8 +20,8 @@ use Rattle.round_trip.specs.soundness.Kinds.{Corresponds, IsBinary, IsEnum, IsKe
 use Rattle.round_trip.specs.soundness.Lookups.{column_kind, columns_of, prop_kind}
 use Rattle.round_trip.specs.soundness.Mappings.{HasPairIds, IsSoundSchema}
 use Rattle.round_trip.specs.soundness.Models.{IsSoundModel}
-use Rattle.state_demand.proofs.Lists.{none_in_nil}
-use Rattle.sound_demand.proofs.Fitting.{sound_fragment}
+use Rattle.schema_laws.proofs.state_demand.Lists.{none_in_nil}
+use Rattle.schema_laws.proofs.sound_demand.Fitting.{sound_fragment}
 
 -- a kind, bounds aside; an enumeration as the kind below it
 unfoldable pub class_of : Kind → Kind

@@ -12,11 +12,11 @@ use Rattle.round_trip.specs.soundness.Joined.{ComparesNoBarred, IsBarred, IsDepe
 use Rattle.round_trip.specs.soundness.Joined as joined
 use Rattle.round_trip.specs.soundness.Kinds.{IsBinary, IsEnum, IsSoundKind}
 use Rattle.member_groups.specs.Tested.{HasCondition, IsComparedWith, IsConstant, IsTested, MakesTested}
-use Rattle.state_demand.proofs.Lists.{head_stands}
-use Rattle.sound_demand.proofs.Fitting.{assoc_of, sound_fragment, sound_link}
+use Rattle.schema_laws.proofs.state_demand.Lists.{head_stands}
+use Rattle.schema_laws.proofs.sound_demand.Fitting.{assoc_of, sound_fragment, sound_link}
 use Rattle.cells.specs.Limits.{IsWithinLimits, most_constants}
-use Rattle.region_laws.specs.IsBasis.{IsBasis}
-use Rattle.region_laws.proofs.Told.{constants_once}
+use Rattle.regions.specs.region_laws.IsBasis.{IsBasis}
+use Rattle.regions.proofs.region_laws.Told.{constants_once}
 use Rattle.regions.specs.Basis.{Basis}
 use Rattle.region_states.specs.defaults.Candidates.{AreTwoFree, candidates, first_free, next_free, numbers_from, letter, number}
 use Rattle.region_states.proofs.defaults.Candidates.{IsPlainKind, many, two_free, two_of_all}

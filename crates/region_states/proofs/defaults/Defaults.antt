@@ -11,17 +11,17 @@ use Rattle.round_trip.specs.soundness.Joined.{IsDependent, prop}
 use Rattle.condition_logic.specs.declared.atoms.Atom.{Atom}
 use Rattle.condition_logic.specs.declared.atoms.Atom.TheVariants as atom
 use Rattle.condition_logic.specs.declared.atoms.AtomOf.{AtomOf}
-use Rattle.state_demand.proofs.Lists.{Decides-any, any_of, none_in_nil, of_any}
+use Rattle.schema_laws.proofs.state_demand.Lists.{Decides-any, any_of, none_in_nil, of_any}
 use Rattle.cells.specs.Limits.{IsWithinLimits}
 use Rattle.regions.specs.declared.region.Region.{Region}
 use Rattle.regions.specs.Atoms.{Allows, LiesIn, atom_at, atoms_of}
 use Rattle.regions.specs.Basis.{Basis, Host, partner_end}
 use Rattle.regions.specs.Regions.{regions_of}
-use Rattle.region_laws.specs.IsBasis.{IsBasis}
-use Rattle.region_laws.proofs.Atoms.{not_null}
-use Rattle.region_laws.proofs.Owning.{declared_above}
-use Rattle.region_laws.proofs.Symbols.{Decides-prop}
-use Rattle.region_laws.specs.pattern.Allowed.{HasAllowedParts, end_at}
+use Rattle.regions.specs.region_laws.IsBasis.{IsBasis}
+use Rattle.regions.proofs.region_laws.Atoms.{not_null}
+use Rattle.regions.proofs.region_laws.Owning.{declared_above}
+use Rattle.regions.proofs.region_laws.Symbols.{Decides-prop}
+use Rattle.regions.specs.region_laws.pattern.Allowed.{HasAllowedParts, end_at}
 use Rattle.region_states.specs.defaults.Short.{IsShort}
 use Rattle.region_states.specs.defaults.Candidates.{AreTwoFree, first_free, next_free}
 use Rattle.region_states.specs.defaults.Fresh.{dependent_value, focus_key, fresh, most_indices, partner_key}

@@ -7,7 +7,7 @@ use Rattle.round_trip.specs.soundness.Inheritance.{IsKeyProp}
 use Rattle.round_trip.specs.soundness.Joined.{IsDependent, Joined, prop}
 use Rattle.round_trip.specs.soundness.Kinds.{IsEnum, IsKeyKind}
 use Rattle.cells.specs.Limits.{IsWithinLimits}
-use Rattle.region_laws.specs.IsBasis.{IsBasis}
+use Rattle.regions.specs.region_laws.IsBasis.{IsBasis}
 use Rattle.regions.specs.Basis.{Basis}
 use Rattle.region_states.specs.defaults.Candidates.{AreTwoFree, first_free, next_free}
 use Rattle.region_states.specs.defaults.Short.{TakesShort}

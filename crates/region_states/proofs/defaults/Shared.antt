@@ -10,8 +10,8 @@ use Rattle.round_trip.specs.soundness.Joined.{Joined, Member, prop}
 use Rattle.round_trip.specs.soundness.Joined as joined
 use Rattle.round_trip.specs.soundness.Kinds.{IsEnum}
 use Rattle.member_groups.specs.Tested.{AreInOneGroup, IsConstant}
-use Rattle.state_demand.specs.Selecting.{same_value}
-use Rattle.region_laws.specs.IsBasis.{IsBasis}
+use Rattle.schema_laws.specs.state_demand.Selecting.{same_value}
+use Rattle.regions.specs.region_laws.IsBasis.{IsBasis}
 use Rattle.regions.specs.Basis.{Basis}
 use Rattle.region_states.specs.defaults.Candidates.{candidates, first_free, free_values, is_free, next_free}
 use Rattle.region_states.proofs.defaults.Classes.{at_class, class_at, class_of, joined_class}

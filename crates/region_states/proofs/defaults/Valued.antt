@@ -7,13 +7,13 @@ use Rattle.round_trip.specs.Words.{PropId, Value, Null, Whole, Flag, Kind, Prop,
 use Rattle.round_trip.specs.soundness.Joined.{prop}
 use Rattle.condition_logic.specs.declared.atoms.Atom.{Atom}
 use Rattle.condition_logic.specs.declared.atoms.Atom.TheVariants as atom
-use Rattle.state_demand.proofs.Lists.{member_cases, none_in_nil}
+use Rattle.schema_laws.proofs.state_demand.Lists.{member_cases, none_in_nil}
 use Rattle.cells.specs.Limits.{IsWithinLimits}
 use Rattle.regions.specs.Fitting.{DecidesDomains}
 use Rattle.regions.specs.Atoms.{Allows, LiesIn, atoms_of, kind_atoms}
 use Rattle.regions.specs.Basis.{Basis}
-use Rattle.region_laws.specs.IsBasis.{IsBasis}
-use Rattle.region_laws.proofs.Atoms.{not_null}
+use Rattle.regions.specs.region_laws.IsBasis.{IsBasis}
+use Rattle.regions.proofs.region_laws.Atoms.{not_null}
 use Rattle.region_states.specs.defaults.Candidates.{AreTwoFree, first_free, next_free}
 use Rattle.region_states.proofs.defaults.Candidates.{IsPlainKind}
 use Rattle.region_states.proofs.defaults.Constants.{plain_two}

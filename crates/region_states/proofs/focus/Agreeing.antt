@@ -1,10 +1,10 @@
 -- A fragment agrees with the row of an entity or a link just where the pattern says so.
 use Rattle.std.proofs.Common.{◌≡◌, ◌↔◌, List, [], Bool, Contains, IsTrue, refl, sym, subst, ◌∙◌}
 use Rattle.round_trip.specs.Words.{SetId, AssocId, PropId, Assoc, Entity, Fragment, Link, LinkFragment, Pair, Row, Selects, Shows, ShowsLink, State, Table, TableId, Tables, Value, At, links_in, row_key, rows_in, written_key}
-use Rattle.state_demand.specs.Owners.{IsOwned}
-use Rattle.state_demand.specs.Writings.{link_writing}
-use Rattle.sound_demand.specs.Fragments.{IsHostedFragment, IsJoinedFragment, IsOwnedFragment, IsStoredIn}
-use Rattle.sound_demand.specs.ReadBack.{HasLinkOf, IsRowOfLink}
+use Rattle.schema_laws.specs.state_demand.Owners.{IsOwned}
+use Rattle.schema_laws.specs.state_demand.Writings.{link_writing}
+use Rattle.schema_laws.specs.sound_demand.Fragments.{IsHostedFragment, IsJoinedFragment, IsOwnedFragment, IsStoredIn}
+use Rattle.schema_laws.specs.sound_demand.ReadBack.{HasLinkOf, IsRowOfLink}
 use Rattle.regions.specs.declared.region.Region.{Region}
 use Rattle.regions.specs.declared.pattern.PatternRow.{PatternRow}
 use Rattle.regions.specs.declared.pattern.Focus.{Focus}
@@ -13,16 +13,16 @@ use Rattle.regions.specs.Basis.{Basis}
 use Rattle.regions.specs.Patterns.{Valuation, by_entity, by_link}
 use Rattle.regions.specs.Shown.{shows_link_row, shows_row}
 use Rattle.regions.specs.Symbols.{is_linked, selects_region}
-use Rattle.region_laws.specs.IsBasis.{IsBasis}
-use Rattle.region_laws.proofs.Owned.{cell_demanded, link_cell_demanded}
-use Rattle.region_laws.proofs.Possible.{linked_hosts}
-use Rattle.region_laws.proofs.Selected.{Decides-selected}
-use Rattle.region_laws.specs.pattern.Allowed.{IsAllowed}
-use Rattle.region_laws.specs.pattern.Described.{AreDemanded, IsRowFor}
-use Rattle.region_laws.proofs.pattern.Agreeing.{is_described, link_agrees}
-use Rattle.region_laws.proofs.pattern.Allowed.{region_allowed}
-use Rattle.region_laws.proofs.pattern.Origins.{linked_decided}
-use Rattle.region_laws.proofs.pattern.Shown.{link_shown, shown}
+use Rattle.regions.specs.region_laws.IsBasis.{IsBasis}
+use Rattle.regions.proofs.region_laws.Owned.{cell_demanded, link_cell_demanded}
+use Rattle.regions.proofs.region_laws.Possible.{linked_hosts}
+use Rattle.regions.proofs.region_laws.Selected.{Decides-selected}
+use Rattle.regions.specs.region_laws.pattern.Allowed.{IsAllowed}
+use Rattle.regions.specs.region_laws.pattern.Described.{AreDemanded, IsRowFor}
+use Rattle.regions.proofs.region_laws.pattern.Agreeing.{is_described, link_agrees}
+use Rattle.regions.proofs.region_laws.pattern.Allowed.{region_allowed}
+use Rattle.regions.proofs.region_laws.pattern.Origins.{linked_decided}
+use Rattle.regions.proofs.region_laws.pattern.Shown.{link_shown, shown}
 use Rattle.region_states.specs.focus.Agreeing.{IsClearRow, IsRowOfEntity}
 use Rattle.region_states.specs.focus.Held.{IsHeldAt}
 use Rattle.region_states.proofs.focus.Hosts.{HostsLink, has_link, hosts_link}

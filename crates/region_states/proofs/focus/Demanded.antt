@@ -2,16 +2,16 @@
 use Rattle.std.proofs.Common.{◌≡◌, ◌↔◌, inl, inr, List, Bool, IsTrue, sym, ap, subst, ◌∙◌}
 use Rattle.std.proofs.lemmas.List.Elements.{All-contains}
 use Rattle.round_trip.specs.Words.{AssocId, PropId, SetId, TableId, ColId, Assoc, DemandsCell, DemandsRow, Entity, Fragment, IsLegal, Link, LinkFragment, State, Value, Writing, Writes, written_key}
-use Rattle.sound_demand.specs.Local.{HasLocalDemand}
-use Rattle.sound_demand.proofs.Local.{local_demand}
+use Rattle.schema_laws.specs.sound_demand.Local.{HasLocalDemand}
+use Rattle.schema_laws.proofs.sound_demand.Local.{local_demand}
 use Rattle.regions.specs.declared.region.Region.{Region}
 use Rattle.regions.specs.declared.pattern.Focus.TheVariants as focus
 use Rattle.regions.specs.Basis.{Basis}
 use Rattle.regions.specs.Patterns.{by_entity, by_link, is_written, pattern_of}
 use Rattle.regions.specs.Symbols.{link_writings}
-use Rattle.region_laws.specs.Concrete.{HasSymbol}
-use Rattle.region_laws.specs.IsBasis.{IsBasis}
-use Rattle.region_laws.proofs.Owned.{cell_demanded, link_cell_demanded, link_row_demanded, row_demanded}
+use Rattle.regions.specs.region_laws.Concrete.{HasSymbol}
+use Rattle.regions.specs.region_laws.IsBasis.{IsBasis}
+use Rattle.regions.proofs.region_laws.Owned.{cell_demanded, link_cell_demanded, link_row_demanded, row_demanded}
 use Rattle.region_states.specs.focus.Held.{HasRow, IsAtLinkRow, IsAtRow, IsHeldAt, IsRowOfOne, ListsValue}
 use Rattle.region_states.proofs.focus.Listed.{has_row, has_symbol}
 

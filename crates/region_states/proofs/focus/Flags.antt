@@ -4,14 +4,14 @@ use Rattle.edm_types.specs.declared.model.Mult.TheVariants.{One, ZeroOrOne, Many
 use Rattle.round_trip.specs.Words.{SetId, Assoc, Entity, EntitySet, Hosted, IsLegal, Link, Mult, State, TypeId, Value, At, IsA, entities_in, key_of}
 use Rattle.regions.specs.declared.region.Region.{Region}
 use Rattle.regions.specs.Basis.{Basis, Host, host_end, partner_end}
-use Rattle.region_laws.specs.IsBasis.{IsBasis, IsHostOf}
-use Rattle.region_laws.specs.Partners.{HasFewPartners, part_by}
-use Rattle.region_laws.specs.RegionAt.{hosted_links, links_at, region_at}
-use Rattle.region_laws.proofs.Hosting.{covered, hosted_are, no_link}
-use Rattle.region_laws.proofs.Partners.{has_partners}
-use Rattle.region_laws.proofs.Possible.{must_link}
-use Rattle.region_laws.proofs.Regions.{flag_none, flag_one, region_among, region_holds}
-use Rattle.region_laws.proofs.pattern.Regions.{PartsOf, parts_of}
+use Rattle.regions.specs.region_laws.IsBasis.{IsBasis, IsHostOf}
+use Rattle.regions.specs.region_laws.Partners.{HasFewPartners, part_by}
+use Rattle.regions.specs.region_laws.RegionAt.{hosted_links, links_at, region_at}
+use Rattle.regions.proofs.region_laws.Hosting.{covered, hosted_are, no_link}
+use Rattle.regions.proofs.region_laws.Partners.{has_partners}
+use Rattle.regions.proofs.region_laws.Possible.{must_link}
+use Rattle.regions.proofs.region_laws.Regions.{flag_none, flag_one, region_among, region_holds}
+use Rattle.regions.proofs.region_laws.pattern.Regions.{PartsOf, parts_of}
 use Rattle.region_states.specs.focus.Held.{IsHeldAt, IsOfRegion}
 
 abbrev is_any : Mult → Bool

@@ -9,9 +9,9 @@ use Rattle.edm_types.specs.declared.mapping.CondOn.TheVariants as on
 use Rattle.round_trip.specs.soundness.Mappings.{HasFragmentIds, HasLinkFragmentIds, HasPairIds, IsCondId}
 use Rattle.round_trip.specs.soundness.Stores.{IsColId, IsKeyColumn, IsSoundTable, IsTableId}
 use Rattle.member_groups.specs.Tested.{HasCondition}
-use Rattle.state_demand.specs.Owners.{IsJoinedTo, IsOwned}
-use Rattle.state_demand.proofs.Lists.{any_of, head_stands}
-use Rattle.sound_demand.proofs.Fitting.{columns_are, link_ids, sound_fragment}
+use Rattle.schema_laws.specs.state_demand.Owners.{IsJoinedTo, IsOwned}
+use Rattle.schema_laws.proofs.state_demand.Lists.{any_of, head_stands}
+use Rattle.schema_laws.proofs.sound_demand.Fitting.{columns_are, link_ids, sound_fragment}
 use Rattle.regions.specs.declared.region.Region.{Region}
 use Rattle.regions.specs.declared.pattern.Symbol.{Symbol}
 use Rattle.regions.specs.declared.pattern.PatternRow.{PatternRow}
@@ -21,15 +21,15 @@ use Rattle.regions.specs.Basis.{Basis}
 use Rattle.regions.specs.Patterns.{Valuation, cell_symbols, is_written, pattern_of, pattern_row, writings_of}
 use Rattle.regions.specs.Regions.{regions_of}
 use Rattle.regions.specs.Symbols.{SymbolWriting, link_fragment_writing, link_fragments_of, region_writings}
-use Rattle.region_laws.specs.Concrete.{HasSymbol}
-use Rattle.region_laws.specs.IsBasis.{IsBasis}
-use Rattle.region_laws.proofs.Cells.{Decides-written}
-use Rattle.region_laws.proofs.Rows.{row_cells, rows_all, rows_only}
-use Rattle.region_laws.specs.pattern.Listed.{HasCell, Lists}
-use Rattle.region_laws.proofs.pattern.Cells.{cell_of as made_cell, listed_written, writing_to}
-use Rattle.region_laws.proofs.pattern.Keys.{owned_here}
-use Rattle.region_laws.proofs.pattern.Origins.{From, IsRegionWriter, by_cond, by_end, by_host, by_pair, chosen_of, is_from, link_of, region_writer}
-use Rattle.region_laws.proofs.pattern.Hosting.{one_link, side_among}
+use Rattle.regions.specs.region_laws.Concrete.{HasSymbol}
+use Rattle.regions.specs.region_laws.IsBasis.{IsBasis}
+use Rattle.regions.proofs.region_laws.Cells.{Decides-written}
+use Rattle.regions.proofs.region_laws.Rows.{row_cells, rows_all, rows_only}
+use Rattle.regions.specs.region_laws.pattern.Listed.{HasCell, Lists}
+use Rattle.regions.proofs.region_laws.pattern.Cells.{cell_of as made_cell, listed_written, writing_to}
+use Rattle.regions.proofs.region_laws.pattern.Keys.{owned_here}
+use Rattle.regions.proofs.region_laws.pattern.Origins.{From, IsRegionWriter, by_cond, by_end, by_host, by_pair, chosen_of, is_from, link_of, region_writer}
+use Rattle.regions.proofs.region_laws.pattern.Hosting.{one_link, side_among}
 use Rattle.region_states.specs.focus.Held.{HasRow, ListsValue}
 
 -- a list that isn't empty has a member

@@ -10,7 +10,7 @@ use Rattle.regions.specs.Atoms.{Allows, LiesIn, atom_at}
 use Rattle.regions.specs.Basis.{Basis, Host, partner_end}
 use Rattle.regions.specs.Patterns.{Valuation}
 use Rattle.regions.specs.Settled.{multi, possible}
-use Rattle.region_laws.specs.pattern.Allowed.{IsAllowed}
+use Rattle.regions.specs.region_laws.pattern.Allowed.{IsAllowed}
 use Rattle.region_states.specs.defaults.Short.{IsShort}
 use Rattle.region_states.specs.defaults.Fresh.{focus_key, partner_key}
 use Rattle.region_states.specs.defaults.Defaults.{fresh_at, place_in}

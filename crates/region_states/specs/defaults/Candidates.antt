@@ -5,7 +5,7 @@ use Rattle.std.specs.List.{list_any}
 use Rattle.emc_base.specs.declared.value.Value.TheVariants as value
 use Rattle.emc_base.specs.declared.value.Kind.TheVariants as kind
 use Rattle.round_trip.specs.Words.{Value, Null, Whole, Flag, Kind, InDomain}
-use Rattle.state_demand.specs.Selecting.{same_value}
+use Rattle.schema_laws.specs.state_demand.Selecting.{same_value}
 
 -- so many numbers, each one more than the one before it
 abbrev pub numbers_from : ℕ → ℕ → List ℕ

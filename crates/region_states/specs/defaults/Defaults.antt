@@ -11,7 +11,7 @@ use Rattle.regions.specs.declared.region.Region.{Region}
 use Rattle.regions.specs.Atoms.{atom_at}
 use Rattle.regions.specs.Basis.{Basis}
 use Rattle.regions.specs.Patterns.{Valuation}
-use Rattle.region_laws.specs.pattern.Allowed.{end_at}
+use Rattle.regions.specs.region_laws.pattern.Allowed.{end_at}
 use Rattle.region_states.specs.defaults.Candidates.{first_free, next_free}
 use Rattle.region_states.specs.defaults.Fresh.{dependent_value, focus_key, fresh, lost_value, partner_key}
 

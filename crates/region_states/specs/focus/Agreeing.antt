@@ -2,13 +2,13 @@
 -- Source: this project's; MSL version 3, MappingFragment and AssociationSetMapping; the query views of Melnik, Adya and Bernstein, SIGMOD 2007.
 use Rattle.std.specs.Prelude.{◌≡◌, List, Contains}
 use Rattle.round_trip.specs.Words.{SetId, TableId, Entity, Pair, Row, State, Table, Tables, row_key, rows_in}
-use Rattle.state_demand.specs.Owners.{StandsAt}
+use Rattle.schema_laws.specs.state_demand.Owners.{StandsAt}
 use Rattle.regions.specs.declared.pattern.Focus.{Focus}
 use Rattle.regions.specs.declared.pattern.PatternRow.{PatternRow}
 use Rattle.regions.specs.Basis.{Basis}
 use Rattle.regions.specs.Patterns.{pattern_of}
-use Rattle.region_laws.specs.pattern.Allowed.{told_of}
-use Rattle.region_laws.specs.pattern.Described.{HasNoClashes}
+use Rattle.regions.specs.region_laws.pattern.Allowed.{told_of}
+use Rattle.regions.specs.region_laws.pattern.Described.{HasNoClashes}
 
 -- the row is in the table, and by the pairing that of the entity
 pub record IsRowOfEntity (basis : Basis) (state : State) (tables : Tables) (s : SetId) (pairing : List Pair) (entity : Entity) (t : TableId) (table : Table) (row : Row)

@@ -2,8 +2,8 @@
 -- Source: this project's; MSL version 3, MappingFragment and AssociationSetMapping; the update views of Melnik, Adya and Bernstein, SIGMOD 2007.
 use Rattle.std.specs.Prelude.{◌≡◌, ◌⊎◌, List, Contains, Bool}
 use Rattle.round_trip.specs.Words.{SetId, TableId, ColId, AssocId, PropId, Value, Assoc, Entity, Hosted, Link, LinkFragment, Pair, State, entities_in, links_in, written_key}
-use Rattle.state_demand.specs.Owners.{IsJoinedTo, IsOwned, StandsAt}
-use Rattle.state_demand.specs.Writings.{link_writing}
+use Rattle.schema_laws.specs.state_demand.Owners.{IsJoinedTo, IsOwned, StandsAt}
+use Rattle.schema_laws.specs.state_demand.Writings.{link_writing}
 use Rattle.regions.specs.declared.region.Region.{Region}
 use Rattle.regions.specs.declared.pattern.Symbol.{Symbol}
 use Rattle.regions.specs.declared.pattern.PatternRow.{PatternRow}
@@ -11,9 +11,9 @@ use Rattle.regions.specs.declared.pattern.Pattern.{Pattern}
 use Rattle.regions.specs.Basis.{Basis}
 use Rattle.regions.specs.Patterns.{Valuation, value_under}
 use Rattle.regions.specs.Regions.{Holds, regions_of}
-use Rattle.region_laws.specs.IsBasis.{AreHostedLinks}
-use Rattle.region_laws.specs.Partners.{HasPartners}
-use Rattle.region_laws.specs.pattern.Listed.{Lists}
+use Rattle.regions.specs.region_laws.IsBasis.{AreHostedLinks}
+use Rattle.regions.specs.region_laws.Partners.{HasPartners}
+use Rattle.regions.specs.region_laws.pattern.Listed.{Lists}
 
 -- an entity of the set that one of the set's regions holds with the links that it hosts
 pub record IsOfRegion (basis : Basis) (state : State) (s : SetId) (entity : Entity) (region : Region) : Type 0 where

@@ -1,11 +1,11 @@
 use Rattle.std.proofs.Common.{List, All, Any, sym, subst, subst₂, ap, ◌∙◌}
 use Rattle.round_trip.specs.declared.FailKind.TheVariants as kind
 use Rattle.condition_logic.specs.declared.atoms.AtomOf.{AtomOf}
-use Rattle.state_demand.proofs.Lists.{of_any}
+use Rattle.schema_laws.proofs.state_demand.Lists.{of_any}
 use Rattle.regions.specs.declared.pattern.Pattern.{Pattern}
 use Rattle.regions.specs.declared.pattern.PatternRow.{PatternRow}
-use Rattle.region_basis.specs.BasisOf.{basis_of}
-use Rattle.conflicts.specs.declared.conflict.Conflict.{Conflict}
+use Rattle.cells.specs.region_basis.BasisOf.{basis_of}
+use Rattle.region_states.specs.declared.conflicts.conflict.Conflict.{Conflict}
 use Rattle.containment.specs.Cells.{ClashesIn, HasNoClash}
 use Rattle.containment.specs.Found.{IsOneOf}
 use Rattle.containment.proofs.Clashing.{clash_none, clash_told}

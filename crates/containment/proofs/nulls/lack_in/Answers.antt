@@ -1,9 +1,9 @@
 use Rattle.std.proofs.Common.{◌≡◌, ◌==◌, List, Option, false, true≢false, length, ap, sym, subst, ◌∙◌}
 use Rattle.std.specs.Option.{IfNone}
-use Rattle.region_basis.specs.BasisOf.{basis_of}
+use Rattle.cells.specs.region_basis.BasisOf.{basis_of}
 use Rattle.regions.specs.declared.pattern.Focus.TheVariants as focus
 use Rattle.regions.specs.declared.pattern.Symbol.{Symbol}
-use Rattle.conflicts.specs.Facts.{stands_for_null}
+use Rattle.region_states.specs.conflicts.Facts.{stands_for_null}
 use Rattle.containment.specs.declared.nulls.Lack.{Lack}
 use Rattle.containment.proofs.Lacking.{none_stands, symbol_stands}
 use Rattle.containment.proofs.nulls.lack_in.Goals as goal

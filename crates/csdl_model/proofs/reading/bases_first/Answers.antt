@@ -1,6 +1,6 @@
 use Rattle.std.proofs.Common.{ℕ, List, Option, length, sym, subst}
-use Rattle.base_chains.specs.Chains.{base_at, StaysWithin}
-use Rattle.csdl_lists.proofs.BaseTypes.{bases_within}
+use Rattle.graphs.specs.base_chains.Chains.{base_at, StaysWithin}
+use Rattle.csdl_names.proofs.csdl_lists.BaseTypes.{bases_within}
 use Rattle.csdl_model.proofs.reading.bases_first.Goals as goal
 
 pub walk_bases-requires : goal.walk_bases-requires

@@ -1,6 +1,6 @@
-use Rattle.rule_places.proofs.Rules.{least_joined}
-use Rattle.csdl_constraints.specs.Constraints.{BreaksConstraintRules}
-use Rattle.csdl_association_sets.specs.SetRules.{BreaksSetRules}
+use Rattle.layouts.proofs.rule_places.Rules.{least_joined}
+use Rattle.csdl_associations.specs.csdl_constraints.Constraints.{BreaksConstraintRules}
+use Rattle.csdl_associations.specs.csdl_association_sets.SetRules.{BreaksSetRules}
 use Rattle.csdl_model.proofs.reading.first_association_fault.Goals as goal
 
 pub returns : goal.returns

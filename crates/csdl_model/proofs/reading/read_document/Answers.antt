@@ -4,12 +4,12 @@ use Rattle.json_form.specs.Documents.{tree_of}
 use Rattle.json_form.specs.Nodes.{part_of}
 use Rattle.layouts.specs.declared.form.Form.TheVariants.{Object}
 use Rattle.layouts.specs.declared.form.Shape.TheVariants.{Model}
-use Rattle.csdl_lists.specs.declared.raw.RawModel.{RawModel}
-use Rattle.csdl_lists.specs.Raw.{raw_model}
+use Rattle.csdl_names.specs.declared.csdl_lists.raw.RawModel.{RawModel}
+use Rattle.csdl_names.specs.csdl_lists.Raw.{raw_model}
 use Rattle.csdl_meaning.specs.ModelMeaning.{meaning}
 use Rattle.csdl_model.specs.ModelFaults.{IsListFault}
-use Rattle.told_rules.specs.Reads.{Reads}
-use Rattle.told_rules.proofs.Readings.{passes_layout, stops_at_layout}
+use Rattle.layouts.specs.told_rules.Reads.{Reads}
+use Rattle.layouts.proofs.told_rules.Readings.{passes_layout, stops_at_layout}
 use Rattle.csdl_model.proofs.RuleNumbers.{list_number}
 use Rattle.csdl_model.proofs.reading.read_document.Goals as goal
 

@@ -1,10 +1,10 @@
 use Rattle.std.proofs.Common.{Some, None, subst}
 use Rattle.layouts.specs.Faults.{fault_cmp}
-use Rattle.least_fault.specs.Least.{IsLeast}
+use Rattle.groupings.specs.least_fault.Least.{IsLeast}
 use Rattle.csdl_names.specs.Unresolved.{IsUnresolved}
 use Rattle.csdl_meaning.specs.ModelMeaning.{meaning}
 use Rattle.csdl_model.specs.ModelFaults.{IsFaultAfterReferences}
-use Rattle.told_rules.proofs.Readings.{goes_on, stops_there}
+use Rattle.layouts.proofs.told_rules.Readings.{goes_on, stops_there}
 use Rattle.csdl_model.proofs.RuleNumbers.{after_unresolved}
 use Rattle.csdl_model.proofs.reading.read_references.Goals as goal
 

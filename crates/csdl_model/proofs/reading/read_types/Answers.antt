@@ -1,11 +1,11 @@
 use Rattle.std.proofs.Common.{Some, None, subst}
 use Rattle.layouts.specs.Faults.{fault_cmp}
-use Rattle.least_fault.specs.Least.{IsLeast}
+use Rattle.groupings.specs.least_fault.Least.{IsLeast}
 use Rattle.csdl_types.specs.TypeRules.{BreaksTypeRules}
 use Rattle.csdl_meaning.specs.ModelMeaning.{meaning}
 use Rattle.csdl_meaning.proofs.KeptTypes.{none_above_itself}
 use Rattle.csdl_model.specs.ModelFaults.{BreaksAssociationRules}
-use Rattle.told_rules.proofs.Readings.{goes_on, stops_there}
+use Rattle.layouts.proofs.told_rules.Readings.{goes_on, stops_there}
 use Rattle.csdl_model.proofs.RuleNumbers.{after_types}
 use Rattle.csdl_model.proofs.reading.read_types.Goals as goal
 

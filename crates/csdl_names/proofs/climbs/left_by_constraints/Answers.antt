@@ -1,7 +1,7 @@
 use Rattle.std.proofs.Common.{◌<◌, List, refl, subst, sum_by}
 use Rattle.std.proofs.lemmas.Option.{slice_get_read}
-use Rattle.csdl_lists.specs.declared.raw.RawAssociation.{RawAssociation}
-use Rattle.csdl_lists.specs.References.{names_in}
+use Rattle.csdl_names.specs.declared.csdl_lists.raw.RawAssociation.{RawAssociation}
+use Rattle.csdl_names.specs.csdl_lists.References.{names_in}
 use Rattle.csdl_names.specs.Climbs.{steps_of_constraint, steps_of_constraints}
 use Rattle.csdl_names.proofs.StepsLeft.{refuses, takes_over}
 use Rattle.csdl_names.proofs.climbs.left_by_constraints.Goals as goal

@@ -2,8 +2,8 @@ use Rattle.std.proofs.Common.{◌≡◌, ◌+◌, ℕ, List, sum_by, take, sym, 
 use Rattle.std.specs.List.{enumerate_from}
 use Rattle.emc_base.specs.Lists.{At}
 use Rattle.emc_base.proofs.Loops.{at_enumerated, take-enumerated}
-use Rattle.csdl_lists.specs.declared.raw.RawType.{RawType}
-use Rattle.csdl_lists.specs.References.{names_in}
+use Rattle.csdl_names.specs.declared.csdl_lists.raw.RawType.{RawType}
+use Rattle.csdl_names.specs.csdl_lists.References.{names_in}
 use Rattle.csdl_names.specs.Climbs.{steps_of_key, steps_of_keys}
 use Rattle.csdl_names.proofs.StepsLeft.{refuses, takes_more, takes_over}
 use Rattle.csdl_names.proofs.climbs.left_by_keys.Goals as goal

@@ -1,5 +1,5 @@
 use Rattle.std.proofs.Common.{◌≡◌, ◌+◌, length, sum_by, take}
-use Rattle.csdl_lists.specs.References.{names_in}
+use Rattle.csdl_names.specs.csdl_lists.References.{names_in}
 use Rattle.csdl_names.specs.Climbs.{steps_upto}
 use Rattle.csdl_names.proofs.climbs.left_by_names.Given as goal
 

@@ -1,6 +1,6 @@
 use Rattle.std.proofs.Common.{◌≡◌, ◌+◌, ℕ, length, sym, ap, ◌∙◌, arith}
 use Rattle.std.specs.Option.{is_some}
-use Rattle.csdl_lists.specs.References.{names_in}
+use Rattle.csdl_names.specs.csdl_lists.References.{names_in}
 use Rattle.csdl_names.specs.Climbs.{steps_upto}
 use Rattle.csdl_names.proofs.PropClimbs.{one_left}
 use Rattle.csdl_names.proofs.StepsLeft.{goes_to_base}

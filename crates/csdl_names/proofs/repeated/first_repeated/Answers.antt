@@ -2,10 +2,10 @@ use Rattle.std.proofs.Common.{◌⊎◌, codes}
 use Rattle.json_form.specs.declared.pointer.Step.TheVariants.{Member}
 use Rattle.layouts.specs.declared.fault.Fault.{Fault}
 use Rattle.layouts.specs.Inside.{Under}
-use Rattle.rule_places.specs.Places.{InList}
-use Rattle.rule_places.proofs.Seen.{least_behind}
+use Rattle.layouts.specs.rule_places.Places.{InList}
+use Rattle.layouts.proofs.rule_places.Seen.{least_behind}
 use Rattle.csdl_names.specs.Repeated.{IsRepeatedInAssociation, IsRepeatedInContainer, IsRepeatedInEnum, IsRepeatedInSchema, IsRepeatedInType}
-use Rattle.rule_places.proofs.Rules.{least_joined}
+use Rattle.layouts.proofs.rule_places.Rules.{least_joined}
 use Rattle.csdl_names.proofs.RepeatedTypes.{types_found}
 use Rattle.csdl_names.proofs.repeated.first_repeated.Goals as goal
 

@@ -1,5 +1,5 @@
 use Rattle.std.proofs.Common.{◌≡◌, map, take}
-use Rattle.name_places.specs.PlacesIn.{place_in}
+use Rattle.groupings.specs.name_places.PlacesIn.{place_in}
 use Rattle.csdl_names.specs.PropPlaces.{place_of_prop}
 use Rattle.csdl_names.proofs.tables.props_of.Given as goal
 

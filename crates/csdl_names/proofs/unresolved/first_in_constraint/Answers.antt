@@ -2,10 +2,10 @@ use Rattle.std.proofs.Common.{codes}
 use Rattle.json_form.specs.declared.pointer.Step.TheVariants.{Member}
 use Rattle.layouts.specs.declared.fault.Fault.{Fault}
 use Rattle.layouts.specs.Inside.{Under}
-use Rattle.rule_places.proofs.Seen.{least_behind}
-use Rattle.csdl_lists.specs.References.{names_in}
+use Rattle.layouts.proofs.rule_places.Seen.{least_behind}
+use Rattle.csdl_names.specs.csdl_lists.References.{names_in}
 use Rattle.csdl_names.specs.Unresolved.{IsUnresolvedInRole}
-use Rattle.rule_places.proofs.Rules.{least_joined}
+use Rattle.layouts.proofs.rule_places.Rules.{least_joined}
 use Rattle.csdl_names.proofs.unresolved.first_in_constraint.Goals as goal
 
 pub returns : goal.returns

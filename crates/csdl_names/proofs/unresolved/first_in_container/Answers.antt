@@ -1,9 +1,9 @@
 use Rattle.std.proofs.Common.{codes}
 use Rattle.layouts.specs.declared.fault.Fault.{Fault}
-use Rattle.rule_places.specs.Places.{InList}
-use Rattle.csdl_lists.specs.References.{names_in}
+use Rattle.layouts.specs.rule_places.Places.{InList}
+use Rattle.csdl_names.specs.csdl_lists.References.{names_in}
 use Rattle.csdl_names.specs.Unresolved.{IsUnresolvedInAssociationSet, IsUnresolvedInSet}
-use Rattle.rule_places.proofs.Rules.{least_joined}
+use Rattle.layouts.proofs.rule_places.Rules.{least_joined}
 use Rattle.csdl_names.proofs.unresolved.first_in_container.Goals as goal
 
 pub returns : goal.returns

@@ -3,11 +3,11 @@ use Rattle.std.specs.Option.{is_some}
 use Rattle.json_form.specs.declared.pointer.Step.TheVariants.{Member}
 use Rattle.layouts.specs.declared.fault.Fault.{Fault}
 use Rattle.layouts.specs.declared.rule.Rule.TheVariants.{Resolves}
-use Rattle.rule_places.specs.Places.{InList, IsAt}
-use Rattle.csdl_lists.specs.References.{names_in}
+use Rattle.layouts.specs.rule_places.Places.{InList, IsAt}
+use Rattle.csdl_names.specs.csdl_lists.References.{names_in}
 use Rattle.csdl_names.specs.Unresolved.{IsUnresolvedProp, end_of_role, type_of_role}
-use Rattle.rule_places.proofs.Rules.{least_joined, least_where, least_where_some}
-use Rattle.rule_places.proofs.LeastFound.{at_none, first_only, lent_some, none_of, none_tells}
+use Rattle.layouts.proofs.rule_places.Rules.{least_joined, least_where, least_where_some}
+use Rattle.layouts.proofs.rule_places.LeastFound.{at_none, first_only, lent_some, none_of, none_tells}
 use Rattle.csdl_names.proofs.unresolved.first_in_role.Goals as goal
 
 pub returns-in_default : goal.returns-in_default

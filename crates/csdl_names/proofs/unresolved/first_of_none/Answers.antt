@@ -1,9 +1,9 @@
 use Rattle.std.proofs.Common.{◌∷◌, []}
 use Rattle.json_form.specs.declared.pointer.Step.TheVariants.{Member}
 use Rattle.layouts.specs.declared.rule.Rule.TheVariants.{Resolves}
-use Rattle.rule_places.specs.Places.{IsAt}
-use Rattle.rule_places.proofs.Rules.{least_where}
-use Rattle.rule_places.proofs.LeastFound.{none_tells}
+use Rattle.layouts.specs.rule_places.Places.{IsAt}
+use Rattle.layouts.proofs.rule_places.Rules.{least_where}
+use Rattle.layouts.proofs.rule_places.LeastFound.{none_tells}
 use Rattle.csdl_names.proofs.unresolved.first_of_none.Goals as goal
 
 pub returns : goal.returns

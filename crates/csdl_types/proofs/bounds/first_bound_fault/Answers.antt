@@ -1,4 +1,4 @@
-use Rattle.rule_places.proofs.Rules.{least_in_same}
+use Rattle.layouts.proofs.rule_places.Rules.{least_in_same}
 use Rattle.csdl_types.proofs.bounds.first_bound_fault.Goals as goal
 
 pub returns : goal.returns

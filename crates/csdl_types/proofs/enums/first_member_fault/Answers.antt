@@ -1,5 +1,5 @@
 use Rattle.std.proofs.Common.{sym, ◌∙◌}
-use Rattle.rule_places.proofs.Rules.{least_in_same, least_where_some}
+use Rattle.layouts.proofs.rule_places.Rules.{least_in_same, least_where_some}
 use Rattle.csdl_types.proofs.enums.first_member_fault.Goals as goal
 
 pub returns : goal.returns

@@ -1,11 +1,11 @@
 use Rattle.std.proofs.Common.{[], ◌∷◌, ℕ, Contains, Option, codes, sym, subst}
 use Rattle.json_form.specs.declared.pointer.Step.TheVariants.{Member}
-use Rattle.least_fault.specs.Least.{IsLeast}
+use Rattle.groupings.specs.least_fault.Least.{IsLeast}
 use Rattle.layouts.specs.declared.fault.Fault.{Fault}
 use Rattle.layouts.specs.declared.rule.Rule.TheVariants.{InheritedName}
 use Rattle.layouts.specs.Faults.{fault_cmp}
-use Rattle.rule_places.specs.Places.{InList}
-use Rattle.rule_places.proofs.Rules.{least_by_place}
+use Rattle.layouts.specs.rule_places.Places.{InList}
+use Rattle.layouts.proofs.rule_places.Rules.{least_by_place}
 use Rattle.csdl_types.specs.Inherited.{IsInherited, IsInheritedFault}
 use Rattle.csdl_types.proofs.inherited.first_in_items.Goals as goal
 

@@ -1,12 +1,12 @@
 use Rattle.std.proofs.Common.{◌≡◌, ℕ, List, Option, Some, sym, subst}
 use Rattle.std.specs.Cmp.{nat_cmp_total}
 use Rattle.std.specs.Ordering.{nat_cmp}
-use Rattle.least_fault.specs.Least.{Among, IsLeast}
-use Rattle.least_fault.proofs.Leasts.{least_of_both}
-use Rattle.csdl_lists.specs.declared.raw.RawNav.{RawNav}
-use Rattle.csdl_lists.specs.declared.raw.RawProp.{RawProp}
+use Rattle.groupings.specs.least_fault.Least.{Among, IsLeast}
+use Rattle.groupings.proofs.least_fault.Leasts.{least_of_both}
+use Rattle.csdl_names.specs.declared.csdl_lists.raw.RawNav.{RawNav}
+use Rattle.csdl_names.specs.declared.csdl_lists.raw.RawProp.{RawProp}
 use Rattle.csdl_types.specs.OwnNames.{IsPlaceOfName}
-use Rattle.name_places.specs.PlacesIn.{place_in}
+use Rattle.groupings.specs.name_places.PlacesIn.{place_in}
 use Rattle.csdl_types.proofs.inherited.first_in_type.Goals as goal
 
 pub returns : goal.returns

@@ -1,4 +1,4 @@
-use Rattle.name_places.specs.PlacesIn.{place_in}
+use Rattle.groupings.specs.name_places.PlacesIn.{place_in}
 use Rattle.csdl_types.proofs.Inheriting.{first_sighted}
 use Rattle.csdl_types.proofs.inherited.first_inherited.Goals as goal
 

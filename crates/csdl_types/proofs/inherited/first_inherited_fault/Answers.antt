@@ -1,7 +1,7 @@
 use Rattle.std.proofs.Common.{ℕ, List, Contains, sym, subst}
-use Rattle.least_fault.proofs.Leasts.{least_same}
+use Rattle.groupings.proofs.least_fault.Leasts.{least_same}
 use Rattle.layouts.specs.Faults.{fault_cmp}
-use Rattle.base_chains.specs.Chains.{IsAncestor, StandAbove, base_at}
+use Rattle.graphs.specs.base_chains.Chains.{IsAncestor, StandAbove, base_at}
 use Rattle.csdl_types.specs.Inherited.{IsInNamesFault}
 use Rattle.csdl_types.proofs.Inheriting.{inherited_same, none_declared}
 use Rattle.csdl_types.proofs.inherited.first_inherited_fault.Goals as goal

@@ -1,5 +1,5 @@
 use Rattle.std.proofs.Common.{Some, sym, ap, ◌∙◌}
-use Rattle.rule_places.proofs.Rules.{least_in_same, least_where_some}
+use Rattle.layouts.proofs.rule_places.Rules.{least_in_same, least_where_some}
 use Rattle.csdl_types.proofs.keys.first_failing_key_prop.Goals as goal
 
 pub returns : goal.returns

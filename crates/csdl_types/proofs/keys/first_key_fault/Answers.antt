@@ -1,4 +1,4 @@
-use Rattle.rule_places.proofs.Rules.{least_where}
+use Rattle.layouts.proofs.rule_places.Rules.{least_where}
 use Rattle.csdl_types.proofs.keys.first_key_fault.Goals as goal
 
 pub returns : goal.returns

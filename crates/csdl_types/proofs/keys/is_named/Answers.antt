@@ -1,7 +1,7 @@
 use Rattle.std.proofs.Common.{◌≡◌, ◌↔◌, ◌∙◌, Bool, Contains, IsTrue, subst, sym, ap}
-use Rattle.name_places.specs.GivenNames.{first_place}
-use Rattle.name_places.specs.PlacesIn.{place_in}
-use Rattle.name_places.proofs.KnownNames.{named_by_place}
+use Rattle.groupings.specs.name_places.GivenNames.{first_place}
+use Rattle.groupings.specs.name_places.PlacesIn.{place_in}
+use Rattle.groupings.proofs.name_places.KnownNames.{named_by_place}
 use Rattle.csdl_types.proofs.keys.is_named.Goals as goal
 
 pub returns : goal.returns

@@ -1,12 +1,12 @@
 use Rattle.std.proofs.Common.{length, Option, sym, subst}
-use Rattle.least_fault.specs.Least.{IsLeast}
+use Rattle.groupings.specs.least_fault.Least.{IsLeast}
 use Rattle.layouts.specs.declared.fault.Fault.{Fault}
 use Rattle.layouts.specs.Faults.{fault_cmp}
-use Rattle.base_chains.specs.Chains.{base_at}
-use Rattle.base_chains.specs.Walks.{IsWalk}
-use Rattle.base_chains.specs.declared.walking.Walk.{Walk}
+use Rattle.graphs.specs.base_chains.Chains.{base_at}
+use Rattle.graphs.specs.base_chains.Walks.{IsWalk}
+use Rattle.graphs.specs.declared.base_chains.walking.Walk.{Walk}
 use Rattle.csdl_types.specs.TypeRules.{BreaksTypeRules}
-use Rattle.csdl_lists.proofs.BaseTypes.{bases_within}
+use Rattle.csdl_names.proofs.csdl_lists.BaseTypes.{bases_within}
 use Rattle.csdl_types.proofs.Cycles.{cycle_least, rooted_least}
 use Rattle.csdl_types.proofs.type_rules.first_fault_by.Goals as goal
 

@@ -1,4 +1,4 @@
-use Rattle.rule_places.proofs.Rules.{least_in_same, least_joined}
+use Rattle.layouts.proofs.rule_places.Rules.{least_in_same, least_joined}
 use Rattle.csdl_types.proofs.type_rules.first_later_fault.Goals as goal
 
 pub returns : goal.returns

@@ -1,7 +1,7 @@
 use Rattle.std.proofs.Common.{◌≡◌, [], ◌∷◌, ap, sym, ◌∙◌}
 use Rattle.json_form.specs.declared.pointer.Step.TheVariants.{Member}
 use Rattle.json_form.specs.Nodes.{part_of}
-use Rattle.least_fault.proofs.Leasts.{least_only}
+use Rattle.groupings.proofs.least_fault.Leasts.{least_only}
 use Rattle.layouts.specs.declared.fault.Fault.{Fault}
 use Rattle.layouts.specs.declared.rule.Rule.TheVariants.{HasMembers}
 use Rattle.layouts.specs.FaultOrder.{fault_cmp_total}

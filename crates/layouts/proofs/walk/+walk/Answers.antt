@@ -15,8 +15,8 @@ use Rattle.json_form.specs.Nodes.{part_of}
 use Rattle.json_form.specs.TreeParts.{items_in}
 use Rattle.json_form.proofs.Depths.{entry_depth, item_depth}
 use Rattle.json_form.proofs.Views.{members_in-entries, members_in-None}
-use Rattle.least_fault.specs.Least.{Among, IsLeast}
-use Rattle.least_fault.proofs.Leasts.{AmongFirst, least_all, least_more}
+use Rattle.groupings.specs.least_fault.Least.{Among, IsLeast}
+use Rattle.groupings.proofs.least_fault.Leasts.{AmongFirst, least_all, least_more}
 use Rattle.layouts.specs.FaultOrder.{fault_cmp_total}
 use Rattle.layouts.specs.Faults.{fault_cmp}
 use Rattle.layouts.specs.Inside.{IsEntryFault, IsItemFault, IsMemberFault, IsPartFault, Under, after}

@@ -2,8 +2,8 @@ use Rattle.std.proofs.Common.{◌+◌, ◌*◌}
 use Rattle.serde_json.specs.Data.{depth, members_depth}
 use Rattle.serde_json.specs.View.{members_view, view}
 use Rattle.json_form.specs.Nodes.{part_of}
-use Rattle.least_fault.specs.Least.{IsLeast}
-use Rattle.least_fault.proofs.Leasts.{AmongFirst}
+use Rattle.groupings.specs.least_fault.Least.{IsLeast}
+use Rattle.groupings.proofs.least_fault.Leasts.{AmongFirst}
 use Rattle.layouts.specs.Faults.{fault_cmp}
 use Rattle.layouts.specs.Inside.{IsItemFault}
 use Rattle.layouts.proofs.Walks.{Passed}

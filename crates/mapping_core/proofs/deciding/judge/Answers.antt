@@ -1,6 +1,6 @@
 use Rattle.std.proofs.Common.{Option, subst}
 use Rattle.round_trip.specs.Words.{LimitFault}
-use Rattle.mapping_limits.specs.FirstLimit.{IsFirstLimit}
+use Rattle.region_partition.specs.mapping_limits.FirstLimit.{IsFirstLimit}
 use Rattle.mapping_core.proofs.MadeOf.{made_by}
 use Rattle.mapping_core.proofs.deciding.judge.Goals as goal
 

@@ -1,11 +1,11 @@
 use Rattle.std.proofs.Common.{Option, subst}
 use Rattle.cells.specs.Cells.{is_free_in}
 use Rattle.cells.specs.Parts.{schema_in}
-use Rattle.region_basis.specs.BasisOf.{basis_of}
-use Rattle.region_basis.proofs.Bases.{basis_is}
-use Rattle.row_differences.specs.Differences.{IsFirstDifference, TellsDifference}
-use Rattle.row_differences.specs.declared.differences.Difference.{Difference}
-use Rattle.row_differences.proofs.OfState.{null_free_cells, rows_apart}
+use Rattle.cells.specs.region_basis.BasisOf.{basis_of}
+use Rattle.cells.proofs.region_basis.Bases.{basis_is}
+use Rattle.keyed_rows.specs.row_differences.Differences.{IsFirstDifference, TellsDifference}
+use Rattle.keyed_rows.specs.declared.row_differences.differences.Difference.{Difference}
+use Rattle.keyed_rows.proofs.row_differences.OfState.{null_free_cells, rows_apart}
 use Rattle.mapping_core.proofs.Comparing.{has_tables, kept_keys, legal_apart}
 use Rattle.mapping_core.proofs.Stored.{clear}
 use Rattle.mapping_core.proofs.Telling.{cells_decide}

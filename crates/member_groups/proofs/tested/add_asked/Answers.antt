@@ -1,10 +1,10 @@
 use Rattle.std.proofs.Common.{◌≡◌, ℕ, refl, sym, subst, ◌∙◌}
 use Rattle.std.specs.BTreeSet.{BTreeSet}
 use Rattle.std.proofs.lemmas.Option.{slice_get_read}
-use Rattle.mapping_asks.specs.Adding.{Adds, HasKey}
+use Rattle.member_groups.specs.mapping_asks.Adding.{Adds, HasKey}
 use Rattle.member_groups.specs.Causes.{AsksGroup}
-use Rattle.mapping_asks.proofs.Adding.{adds_as, adds_next, adds_nothing, adds_number}
-use Rattle.group_numbers.proofs.Joint.{no_joint, one_joint}
+use Rattle.member_groups.proofs.mapping_asks.Adding.{adds_as, adds_next, adds_nothing, adds_number}
+use Rattle.member_groups.proofs.group_numbers.Joint.{no_joint, one_joint}
 use Rattle.member_groups.proofs.tested.add_asked.Goals as goal
 use Rattle.member_groups.proofs.tested.add_asked.Goals.{in-Some+in_ok-insert, in_default}
 

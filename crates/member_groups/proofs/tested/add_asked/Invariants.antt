@@ -1,5 +1,5 @@
 use Rattle.std.proofs.Common.{take}
-use Rattle.mapping_asks.specs.Adding.{Adds, Each, HasKey}
+use Rattle.member_groups.specs.mapping_asks.Adding.{Adds, Each, HasKey}
 use Rattle.member_groups.specs.Causes.{AsksGroup}
 use Rattle.member_groups.proofs.tested.add_asked.Given as goal
 

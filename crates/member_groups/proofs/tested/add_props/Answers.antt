@@ -2,9 +2,9 @@ use Rattle.std.proofs.Common.{◌≡◌, ℕ, List, Option, refl, sym, subst, �
 use Rattle.std.specs.BTreeSet.{BTreeSet}
 use Rattle.std.proofs.lemmas.Option.{slice_get_read}
 use Rattle.round_trip.specs.Words.{Prop, At}
-use Rattle.mapping_asks.specs.Adding.{Adds, HasKey}
+use Rattle.member_groups.specs.mapping_asks.Adding.{Adds, HasKey}
 use Rattle.member_groups.specs.Causes.{MarksGroup, mark_by}
-use Rattle.mapping_asks.proofs.Adding.{adds_as, adds_below, adds_nothing, adds_number}
+use Rattle.member_groups.proofs.mapping_asks.Adding.{adds_as, adds_below, adds_nothing, adds_number}
 use Rattle.member_groups.proofs.Sharing.{no_mark, one_mark}
 use Rattle.member_groups.proofs.tested.add_props.Goals as goal
 use Rattle.member_groups.proofs.tested.add_props.Goals.{in-Some+in_ok-insert, in_default}

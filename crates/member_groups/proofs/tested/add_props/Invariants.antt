@@ -1,4 +1,4 @@
-use Rattle.mapping_asks.specs.Adding.{Adds, EachBelow, HasKey}
+use Rattle.member_groups.specs.mapping_asks.Adding.{Adds, EachBelow, HasKey}
 use Rattle.member_groups.specs.Causes.{MarksGroup}
 use Rattle.member_groups.proofs.tested.add_props.Given as goal
 

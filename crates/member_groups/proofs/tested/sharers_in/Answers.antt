@@ -1,10 +1,10 @@
 use Rattle.std.proofs.Common.{◌≡◌, ◌≤◌, ℕ, List, Contains, length, sym, subst, ◌∙◌, arith}
-use Rattle.mapping_asks.specs.declared.member.MemberId.{MemberId}
-use Rattle.mapping_asks.specs.declared.member.MemberId.TheVariants.{Prop}
-use Rattle.mapping_asks.specs.Adding.{Adds, EachBelow, Tells}
+use Rattle.member_groups.specs.declared.mapping_asks.member.MemberId.{MemberId}
+use Rattle.member_groups.specs.declared.mapping_asks.member.MemberId.TheVariants.{Prop}
+use Rattle.member_groups.specs.mapping_asks.Adding.{Adds, EachBelow, Tells}
 use Rattle.member_groups.specs.Causes.{IsSharer}
-use Rattle.mapping_asks.proofs.Adding.{adds_as, adds_below, adds_last, adds_nothing, no_member, tells_added}
-use Rattle.group_numbers.proofs.Joint.{no_joint}
+use Rattle.member_groups.proofs.mapping_asks.Adding.{adds_as, adds_below, adds_last, adds_nothing, no_member, tells_added}
+use Rattle.member_groups.proofs.group_numbers.Joint.{no_joint}
 use Rattle.member_groups.proofs.Sharing.{one_stands}
 use Rattle.member_groups.proofs.tested.sharers_in.Goals as goal
 use Rattle.member_groups.proofs.tested.sharers_in.Goals.{in-Some+in_ok-push, in_default}

@@ -1,5 +1,5 @@
 use Rattle.std.proofs.Common.{Contains}
-use Rattle.mapping_asks.specs.Adding.{Adds, EachBelow}
+use Rattle.member_groups.specs.mapping_asks.Adding.{Adds, EachBelow}
 use Rattle.member_groups.specs.Causes.{IsSharer}
 use Rattle.member_groups.proofs.tested.sharers_in.Given as goal
 

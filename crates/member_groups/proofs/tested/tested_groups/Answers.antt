@@ -1,13 +1,13 @@
 use Rattle.std.proofs.Common.{◌⊎◌, ℕ, List, Contains, length, subst}
 use Rattle.round_trip.specs.Words.{Fragment}
 use Rattle.std.specs.BTreeSet.{BTreeSet}
-use Rattle.mapping_asks.specs.declared.member.MemberId.{MemberId}
-use Rattle.mapping_asks.specs.Adding.{Each, EachBelow, HasKey, Tells}
-use Rattle.mapping_asks.specs.Several.{StandsWithTwo}
+use Rattle.member_groups.specs.declared.mapping_asks.member.MemberId.{MemberId}
+use Rattle.member_groups.specs.mapping_asks.Adding.{Each, EachBelow, HasKey, Tells}
+use Rattle.member_groups.specs.mapping_asks.Several.{StandsWithTwo}
 use Rattle.member_groups.specs.Causes.{AsksGroup, IsSharer, MarksGroup}
-use Rattle.mapping_asks.specs.Writes.{WritesBy}
-use Rattle.mapping_asks.proofs.Adding.{adds_both, no_number, tells_added, tells_as}
-use Rattle.mapping_asks.proofs.Firsts.{stands_as}
+use Rattle.member_groups.specs.mapping_asks.Writes.{WritesBy}
+use Rattle.member_groups.proofs.mapping_asks.Adding.{adds_both, no_number, tells_added, tells_as}
+use Rattle.member_groups.proofs.mapping_asks.Firsts.{stands_as}
 use Rattle.member_groups.proofs.tested.tested_groups.Goals as goal
 
 pub returns : goal.returns

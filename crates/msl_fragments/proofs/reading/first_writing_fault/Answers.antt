@@ -1,10 +1,10 @@
 use Rattle.std.proofs.Common.{◌≡◌, ◌⊎◌, ap, subst}
-use Rattle.least_fault.specs.Least.{IsLeast}
+use Rattle.groupings.specs.least_fault.Least.{IsLeast}
 use Rattle.layouts.specs.declared.fault.Fault.{Fault}
 use Rattle.layouts.specs.Faults.{fault_cmp}
-use Rattle.rule_places.proofs.Rules.{least_joined}
+use Rattle.layouts.proofs.rule_places.Rules.{least_joined}
 use Rattle.round_trip.specs.Words.{Mapping, Schema}
-use Rattle.link_places.specs.Between.{schema_of}
+use Rattle.table_owners.specs.link_places.Between.{schema_of}
 use Rattle.msl_rules.specs.FragmentRules.{IsInFragments}
 use Rattle.msl_rules.specs.LinkRules.{IsInLinks}
 use Rattle.msl_rules.specs.MappingMeaning.{schema_in}

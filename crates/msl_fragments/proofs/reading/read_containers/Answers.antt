@@ -1,10 +1,10 @@
 use Rattle.std.proofs.Common.{Some, None, subst}
 use Rattle.layouts.specs.Faults.{fault_cmp}
-use Rattle.least_fault.specs.Least.{IsLeast}
+use Rattle.groupings.specs.least_fault.Least.{IsLeast}
 use Rattle.msl_rules.specs.NameRules.{HasOtherContainer}
 use Rattle.msl_fragments.specs.Steps.{IsFaultAfterContainers}
 use Rattle.msl_rules.specs.MappingMeaning.{mapping_in}
-use Rattle.told_rules.proofs.Readings.{goes_on, stops_there}
+use Rattle.layouts.proofs.told_rules.Readings.{goes_on, stops_there}
 use Rattle.msl_fragments.proofs.Steps.{after_container}
 use Rattle.msl_fragments.proofs.reading.read_containers.Goals as goal
 

@@ -4,13 +4,13 @@ use Rattle.json_form.specs.Documents.{tree_of}
 use Rattle.json_form.specs.Nodes.{part_of}
 use Rattle.layouts.specs.declared.form.Form.TheVariants.{Object}
 use Rattle.layouts.specs.declared.form.Shape.TheVariants.{Mapping}
-use Rattle.msl_lists.specs.declared.raw.RawMapping.{RawMapping}
-use Rattle.msl_lists.specs.Raw.{raw_mapping}
+use Rattle.msl_rules.specs.declared.msl_lists.raw.RawMapping.{RawMapping}
+use Rattle.msl_rules.specs.msl_lists.Raw.{raw_mapping}
 use Rattle.msl_rules.specs.KeepsMapping.{HasFewItems}
 use Rattle.msl_rules.specs.MappingFaults.{IsMappingListFault}
 use Rattle.msl_rules.specs.MappingMeaning.{mapping_in}
-use Rattle.told_rules.specs.Reads.{Reads}
-use Rattle.told_rules.proofs.Readings.{passes_layout, stops_at_layout}
+use Rattle.layouts.specs.told_rules.Reads.{Reads}
+use Rattle.layouts.proofs.told_rules.Readings.{passes_layout, stops_at_layout}
 use Rattle.msl_fragments.proofs.Steps.{list_number}
 use Rattle.msl_fragments.proofs.reading.read_document.Goals as goal
 

@@ -1,4 +1,4 @@
-use Rattle.msl_written.proofs.KeysApart.{keys_apart}
+use Rattle.msl_checks.proofs.msl_written.KeysApart.{keys_apart}
 use Rattle.msl_fragments.proofs.reading.read_writing.Goals as goal
 
 pub invariant_of-between-clause-apart : goal.invariant_of-between-clause-apart

@@ -1,11 +1,11 @@
 use Rattle.std.proofs.Common.{List, Option, Some, None, subst}
 use Rattle.std.specs.Borrow.{Bor}
 use Rattle.cells.specs.Cells.{is_free_in}
-use Rattle.candidates.specs.Rows.{shown_row, shown_rows}
-use Rattle.candidates.specs.declared.placed.PlacedRow.{PlacedRow}
-use Rattle.region_basis.specs.BasisOf.{basis_of}
+use Rattle.case_laws.specs.candidates.Rows.{shown_row, shown_rows}
+use Rattle.case_laws.specs.declared.candidates.placed.PlacedRow.{PlacedRow}
+use Rattle.cells.specs.region_basis.BasisOf.{basis_of}
 use Rattle.round_trip.specs.Words.{Value}
-use Rattle.row_groups.specs.Shown.{shown_cells}
+use Rattle.keyed_rows.specs.row_groups.Shown.{shown_cells}
 use Rattle.query_views.specs.Answers.{TellsKey}
 use Rattle.query_views.specs.First.{FindsFirst, cases_in, readings_in}
 use Rattle.query_views.specs.Lent.{shown_values}

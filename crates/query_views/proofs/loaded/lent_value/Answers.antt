@@ -1,7 +1,7 @@
 use Rattle.std.proofs.Common.{◌≡◌, ◌==◌, List, Some, None, position, slice_get, unwrap_or, ap, sym, ◌∙◌}
-use Rattle.candidates.specs.Rows.{shown_rows}
-use Rattle.candidates.specs.declared.placed.PlacedRow.{PlacedRow}
-use Rattle.case_reading.specs.Sources.{read_values}
+use Rattle.case_laws.specs.candidates.Rows.{shown_rows}
+use Rattle.case_laws.specs.declared.candidates.placed.PlacedRow.{PlacedRow}
+use Rattle.query_cases.specs.case_reading.Sources.{read_values}
 use Rattle.round_trip.specs.Words.{Null, PropId, props_of}
 use Rattle.query_views.proofs.Beside.{none_there, value_there}
 use Rattle.query_views.proofs.loaded.lent_value.Goals as goal

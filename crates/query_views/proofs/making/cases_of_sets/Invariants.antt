@@ -1,7 +1,7 @@
 use Rattle.std.proofs.Common.{◌≡◌, map, take}
 use Rattle.cells.specs.Cells.{is_free_in}
-use Rattle.region_basis.specs.BasisOf.{basis_of}
-use Rattle.region_cases.specs.Cases.{case_of}
+use Rattle.cells.specs.region_basis.BasisOf.{basis_of}
+use Rattle.case_laws.specs.region_cases.Cases.{case_of}
 use Rattle.query_views.proofs.making.cases_of_sets.Given as goal
 
 -- the cases of the sets so far have come

@@ -1,6 +1,6 @@
 use Rattle.std.proofs.Common.{length, refl}
 use Rattle.std.proofs.lemmas.Option.{slice_get_read}
-use Rattle.case_reading.specs.Reading.{IsReadingOf}
+use Rattle.query_cases.specs.case_reading.Reading.{IsReadingOf}
 use Rattle.query_views.proofs.Zips.{one_more_beside}
 use Rattle.query_views.proofs.making.readings_of.Goals as goal
 

@@ -1,6 +1,6 @@
 use Rattle.std.proofs.Common.{take}
 use Rattle.std.specs.List.{AllZip}
-use Rattle.case_reading.specs.Reading.{IsReadingOf}
+use Rattle.query_cases.specs.case_reading.Reading.{IsReadingOf}
 use Rattle.query_views.proofs.making.readings_of.Given as goal
 
 -- the cases so far are read so

@@ -1,4 +1,4 @@
-use Rattle.sound_forests.proofs.Whole.{sound_holds}
+use Rattle.schema_laws.proofs.sound_forests.Whole.{sound_holds}
 use Rattle.regions_check.proofs.expressions.holds.Goals as goal
 
 pub holds_entity-requires-clause-whole : goal.holds_entity-requires-clause-whole

@@ -1,4 +1,4 @@
-use Rattle.sound_forests.proofs.Whole.{sound_holds}
+use Rattle.schema_laws.proofs.sound_forests.Whole.{sound_holds}
 use Rattle.regions_check.proofs.expressions.size_below.Goals as goal
 
 pub subtree-requires-clause-whole : goal.subtree-requires-clause-whole

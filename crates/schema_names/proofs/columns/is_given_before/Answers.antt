@@ -1,8 +1,8 @@
 use Rattle.std.proofs.Common.{◌≡◌, ◌↔◌, ◌∙◌, false, nat_lt, subst, sym, rules, IsTrue, Bool}
 use Rattle.std.specs.Option.{option_map_or}
 use Rattle.round_trip.specs.Words.{Column}
-use Rattle.name_places.specs.GivenNames.{first_place, IsGivenBefore}
-use Rattle.name_places.proofs.FirstPlaces.{tells_given}
+use Rattle.groupings.specs.name_places.GivenNames.{first_place, IsGivenBefore}
+use Rattle.groupings.proofs.name_places.FirstPlaces.{tells_given}
 use Rattle.schema_names.proofs.columns.is_given_before.Goals as goal
 
 pub returns : goal.returns

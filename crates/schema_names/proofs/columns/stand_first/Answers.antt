@@ -4,8 +4,8 @@ use Rattle.std.proofs.lemmas.Option.{slice_get_read}
 use Rattle.emc_base.specs.Lists.{At}
 use Rattle.emc_base.proofs.Lists.{at_once}
 use Rattle.round_trip.specs.Words.{Column}
-use Rattle.name_places.specs.GivenNames.{IsGivenBefore}
-use Rattle.name_places.proofs.KnownNames.{apart_names, not_apart}
+use Rattle.groupings.specs.name_places.GivenNames.{IsGivenBefore}
+use Rattle.groupings.proofs.name_places.KnownNames.{apart_names, not_apart}
 use Rattle.schema_names.proofs.columns.stand_first.Goals as goal
 
 pub returns-then-is_given_before : goal.returns-then-is_given_before

@@ -1,7 +1,7 @@
 use Rattle.std.proofs.Common.{◌<◌, ℕ}
 use Rattle.round_trip.specs.Words.{Column}
 use Rattle.emc_base.specs.Lists.{At}
-use Rattle.name_places.specs.GivenNames.{IsGivenBefore}
+use Rattle.groupings.specs.name_places.GivenNames.{IsGivenBefore}
 use Rattle.schema_names.proofs.columns.stand_first.Given as goal
 
 -- the columns that were passed are the first of their names

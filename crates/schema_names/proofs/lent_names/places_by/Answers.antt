@@ -3,8 +3,8 @@ use Rattle.std.specs.Borrow.{Bor}
 use Rattle.std.proofs.lemmas.List.{take_all}
 use Rattle.std.proofs.lemmas.Option.{slice_get_read}
 use Rattle.std.proofs.lemmas.Result.{IfOk-weaker}
-use Rattle.name_places.specs.GivenNames.{first_place}
-use Rattle.name_places.specs.PlacesIn.{place_in}
+use Rattle.groupings.specs.name_places.GivenNames.{first_place}
+use Rattle.groupings.specs.name_places.PlacesIn.{place_in}
 use Rattle.schema_names.specs.LentNames.{ArePlacesBy}
 use Rattle.schema_names.proofs.Listed.{first_listed, made_more}
 use Rattle.schema_names.proofs.lent_names.places_by.Goals as goal

@@ -1,6 +1,6 @@
-use Rattle.rule_places.proofs.Rules.{least_joined}
+use Rattle.layouts.proofs.rule_places.Rules.{least_joined}
 use Rattle.csdl_names.specs.Repeated.{IsRepeated}
-use Rattle.ssdl_rules.specs.Owned.{IsShared}
+use Rattle.ssdl_model.specs.ssdl_rules.Owned.{IsShared}
 use Rattle.ssdl_model.proofs.reading.first_given_twice.Goals as goal
 
 pub returns : goal.returns

@@ -1,6 +1,6 @@
-use Rattle.rule_places.proofs.Rules.{least_joined}
+use Rattle.layouts.proofs.rule_places.Rules.{least_joined}
 use Rattle.csdl_names.specs.Unresolved.{IsUnresolved}
-use Rattle.ssdl_rules.specs.Owned.{IsEndless}
+use Rattle.ssdl_model.specs.ssdl_rules.Owned.{IsEndless}
 use Rattle.ssdl_model.proofs.reading.first_nameless.Goals as goal
 
 pub returns : goal.returns

@@ -4,12 +4,12 @@ use Rattle.json_form.specs.Documents.{tree_of}
 use Rattle.json_form.specs.Nodes.{part_of}
 use Rattle.layouts.specs.declared.form.Form.TheVariants.{Object}
 use Rattle.layouts.specs.declared.form.Shape.TheVariants.{Store}
-use Rattle.csdl_lists.specs.declared.raw.RawModel.{RawModel}
-use Rattle.ssdl_lists.specs.RawStore.{IsUnbased, raw_store}
-use Rattle.ssdl_making.specs.StoreMeaning.{store_meaning}
+use Rattle.csdl_names.specs.declared.csdl_lists.raw.RawModel.{RawModel}
+use Rattle.ssdl_model.specs.ssdl_lists.RawStore.{IsUnbased, raw_store}
+use Rattle.ssdl_model.specs.ssdl_making.StoreMeaning.{store_meaning}
 use Rattle.ssdl_model.specs.StoreFaults.{IsStoreListFault}
-use Rattle.told_rules.specs.Reads.{Reads}
-use Rattle.told_rules.proofs.Readings.{passes_layout, stops_at_layout}
+use Rattle.layouts.specs.told_rules.Reads.{Reads}
+use Rattle.layouts.proofs.told_rules.Readings.{passes_layout, stops_at_layout}
 use Rattle.ssdl_model.proofs.RuleNumbers.{list_number}
 use Rattle.ssdl_model.proofs.SoundReading.{store_unbased}
 use Rattle.ssdl_model.proofs.reading.read_document.Goals as goal

@@ -1,10 +1,10 @@
 use Rattle.std.proofs.Common.{Some, None, subst}
 use Rattle.layouts.specs.Faults.{fault_cmp}
-use Rattle.least_fault.specs.Least.{IsLeast}
-use Rattle.ssdl_making.specs.StoreMeaning.{store_meaning}
-use Rattle.ssdl_rules.specs.StoreRules.{BreaksStoreRules}
+use Rattle.groupings.specs.least_fault.Least.{IsLeast}
+use Rattle.ssdl_model.specs.ssdl_making.StoreMeaning.{store_meaning}
+use Rattle.ssdl_model.specs.ssdl_rules.StoreRules.{BreaksStoreRules}
 use Rattle.ssdl_model.specs.StoreFaults.{NamesNothing}
-use Rattle.told_rules.proofs.Readings.{goes_on, stops_there}
+use Rattle.layouts.proofs.told_rules.Readings.{goes_on, stops_there}
 use Rattle.ssdl_model.proofs.RuleNumbers.{after_nameless}
 use Rattle.ssdl_model.proofs.reading.read_references.Goals as goal
 

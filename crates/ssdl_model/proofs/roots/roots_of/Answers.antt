@@ -1,8 +1,8 @@
 use Rattle.std.proofs.Common.{[], ◌∷◌, ◌++◌, ◌<◌, length, sym, ◌∙◌, zero-add, arith}
 use Rattle.std.proofs.lemmas.List.FromFn.{map-range_with_len_more}
-use Rattle.base_chains.specs.Chains.{root}
+use Rattle.graphs.specs.base_chains.Chains.{root}
 use Rattle.csdl_meaning.specs.Meaning.{base_in}
-use Rattle.ssdl_sound.proofs.Unbased.{top_is}
+use Rattle.ssdl_model.proofs.ssdl_sound.Unbased.{top_is}
 use Rattle.ssdl_model.proofs.roots.roots_of.Goals as goal
 
 pub loop-place-preserved : goal.loop-place-preserved

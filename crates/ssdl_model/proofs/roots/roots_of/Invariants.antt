@@ -1,6 +1,6 @@
 use Rattle.std.proofs.Common.{◌≡◌, length, map}
 use Rattle.std.specs.List.{range_with_len}
-use Rattle.base_chains.specs.Chains.{root}
+use Rattle.graphs.specs.base_chains.Chains.{root}
 use Rattle.csdl_meaning.specs.Meaning.{base_in}
 use Rattle.ssdl_model.proofs.roots.roots_of.Given as goal
 

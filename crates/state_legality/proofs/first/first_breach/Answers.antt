@@ -1,10 +1,10 @@
 use Rattle.std.proofs.Common.{Option, sym, subst}
-use Rattle.least_fault.specs.Least.{IsLeast}
+use Rattle.groupings.specs.least_fault.Least.{IsLeast}
 use Rattle.round_trip.specs.Words.{Breach, IsBreachOf}
 use Rattle.round_trip.specs.Breaches.{BreaksRule}
-use Rattle.breach_order.specs.Founds.{found_cmp}
-use Rattle.breach_order.specs.declared.found.Found.{Found}
-use Rattle.breach_order.proofs.FirstFound.{first_of_least}
+use Rattle.entity_state.specs.breach_order.Founds.{found_cmp}
+use Rattle.entity_state.specs.declared.breach_order.found.Found.{Found}
+use Rattle.entity_state.proofs.breach_order.FirstFound.{first_of_least}
 use Rattle.state_legality.specs.Tells.{BreaksState}
 use Rattle.state_legality.proofs.Joined.{legal_where_clean}
 use Rattle.state_legality.proofs.first.first_breach.Goals as goal

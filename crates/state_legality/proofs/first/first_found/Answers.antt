@@ -1,9 +1,9 @@
 use Rattle.std.proofs.Common.{List, Option, subst, subst₂}
-use Rattle.least_fault.specs.Least.{IsLeast}
+use Rattle.groupings.specs.least_fault.Least.{IsLeast}
 use Rattle.round_trip.specs.Words.{Entity, Link}
-use Rattle.breach_order.specs.Founds.{found_cmp}
-use Rattle.set_legality.specs.Tells.{BreaksSets, IsFirstInSets, state_of}
-use Rattle.link_legality.specs.Tells.{BreaksLinks}
+use Rattle.entity_state.specs.breach_order.Founds.{found_cmp}
+use Rattle.state_legality.specs.set_legality.Tells.{BreaksSets, IsFirstInSets, state_of}
+use Rattle.state_legality.specs.link_legality.Tells.{BreaksLinks}
 use Rattle.state_legality.proofs.Joined.{least_of_all}
 use Rattle.state_legality.proofs.first.first_found.Goals as goal
 

@@ -1,7 +1,7 @@
 use Rattle.std.proofs.Common.{List, subst₂, sym}
 use Rattle.round_trip.specs.Words.{Entity, Link}
-use Rattle.set_legality.specs.Tells.{AreLegalSets}
-use Rattle.link_legality.specs.Tells.{KeepsLinkRules, state_of}
+use Rattle.state_legality.specs.set_legality.Tells.{AreLegalSets}
+use Rattle.state_legality.specs.link_legality.Tells.{KeepsLinkRules, state_of}
 use Rattle.state_legality.proofs.Joined.{legal_from, links_of, sets_of}
 use Rattle.state_legality.proofs.legal.is_legal.Goals as goal
 

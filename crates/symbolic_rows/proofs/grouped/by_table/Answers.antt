@@ -1,6 +1,6 @@
 use Rattle.std.proofs.Common.{List, [], ◌∷◌, map, subst, sym}
 use Rattle.std.proofs.lemmas.List.{map-append}
-use Rattle.group_numbers.specs.Numbers.{HoldsEach}
+use Rattle.member_groups.specs.group_numbers.Numbers.{HoldsEach}
 use Rattle.regions.specs.Symbols.{SymbolWriting}
 use Rattle.symbolic_rows.specs.Grouped.{AreTo}
 use Rattle.symbolic_rows.specs.Written.{in_symbols}

@@ -1,5 +1,5 @@
 use Rattle.std.proofs.Common.{map}
-use Rattle.group_numbers.specs.Numbers.{HoldsEach}
+use Rattle.member_groups.specs.group_numbers.Numbers.{HoldsEach}
 use Rattle.symbolic_rows.specs.Grouped.{AreTo}
 use Rattle.symbolic_rows.specs.Written.{in_symbols}
 use Rattle.symbolic_rows.proofs.grouped.by_table.Given as goal

@@ -3,7 +3,7 @@ use Rattle.std.proofs.lemmas.List.{take_all}
 use Rattle.std.proofs.lemmas.Option.{slice_get_read}
 use Rattle.emc_base.proofs.Loops.{take_item}
 use Rattle.round_trip.specs.Words.{ColId}
-use Rattle.group_numbers.specs.Numbers.{HoldsEach}
+use Rattle.member_groups.specs.group_numbers.Numbers.{HoldsEach}
 use Rattle.regions.specs.declared.pattern.Symbol.{Symbol}
 use Rattle.symbolic_rows.specs.Grouped.{AreIn}
 use Rattle.symbolic_rows.proofs.rows.put_all.Goals as goal

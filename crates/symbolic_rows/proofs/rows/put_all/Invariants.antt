@@ -1,6 +1,6 @@
 use Rattle.std.proofs.Common.{ℕ, ◌++◌, List, take}
 use Rattle.round_trip.specs.Words.{ColId}
-use Rattle.group_numbers.specs.Numbers.{HoldsEach}
+use Rattle.member_groups.specs.group_numbers.Numbers.{HoldsEach}
 use Rattle.regions.specs.declared.pattern.Symbol.{Symbol}
 use Rattle.symbolic_rows.specs.Grouped.{AreIn}
 use Rattle.symbolic_rows.proofs.rows.put_all.Given as goal

@@ -2,7 +2,7 @@ use Rattle.std.proofs.Common.{List, length, ◌++◌, take, refl, sym, ap, subst
 use Rattle.std.proofs.lemmas.List.{take_all}
 use Rattle.std.proofs.lemmas.Option.{slice_get_read}
 use Rattle.round_trip.specs.Words.{ColId}
-use Rattle.group_numbers.specs.Numbers.{HoldsEach}
+use Rattle.member_groups.specs.group_numbers.Numbers.{HoldsEach}
 use Rattle.regions.specs.declared.pattern.Symbol.{Symbol}
 use Rattle.symbolic_rows.specs.declared.writing.Writing.{Writing}
 use Rattle.symbolic_rows.specs.Grouped.{AreIn, given_by}

@@ -1,5 +1,5 @@
 use Rattle.std.proofs.Common.{length, take}
-use Rattle.group_numbers.specs.Numbers.{HoldsEach}
+use Rattle.member_groups.specs.group_numbers.Numbers.{HoldsEach}
 use Rattle.symbolic_rows.specs.Grouped.{AreIn, given_by}
 use Rattle.symbolic_rows.proofs.rows.row_by.Given as goal
 

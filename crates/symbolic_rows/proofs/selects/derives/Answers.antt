@@ -1,7 +1,7 @@
 use Rattle.std.proofs.lemmas.Bool.Decides.{same_from_decides}
-use Rattle.sound_demand.specs.Deriving.{derives}
-use Rattle.sound_demand.proofs.Deriving.{decides_types}
-use Rattle.sound_forests.proofs.Whole.{sound_holds}
+use Rattle.schema_laws.specs.sound_demand.Deriving.{derives}
+use Rattle.schema_laws.proofs.sound_demand.Deriving.{decides_types}
+use Rattle.schema_laws.proofs.sound_forests.Whole.{sound_holds}
 use Rattle.symbolic_rows.proofs.selects.derives.Goals as goal
 
 pub is_of-requires-clause-whole : goal.is_of-requires-clause-whole

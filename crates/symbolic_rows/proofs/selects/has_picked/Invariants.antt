@@ -1,7 +1,7 @@
 use Rattle.std.proofs.Common.{◌≡◌, false, take}
 use Rattle.std.specs.List.{list_any}
-use Rattle.state_demand.specs.Selecting.{is_picked}
-use Rattle.sound_demand.specs.Deriving.{derives}
+use Rattle.schema_laws.specs.state_demand.Selecting.{is_picked}
+use Rattle.schema_laws.specs.sound_demand.Deriving.{derives}
 use Rattle.symbolic_rows.proofs.selects.has_picked.Given as goal
 
 -- none of the picks so far fits

@@ -1,6 +1,6 @@
 use Rattle.std.proofs.Common.{◌≡◌, map, take}
-use Rattle.region_basis.specs.BasisOf.{basis_of}
-use Rattle.view_rows.specs.Made.{rows_of_region}
+use Rattle.cells.specs.region_basis.BasisOf.{basis_of}
+use Rattle.update_views.specs.view_rows.Made.{rows_of_region}
 use Rattle.update_views.proofs.making.rows_of_regions.Given as goal
 
 -- the rows so far

@@ -1,5 +1,5 @@
-use Rattle.region_basis.specs.BasisOf.{basis_of}
-use Rattle.set_regions.proofs.Sets.{AreOfFirst}
+use Rattle.cells.specs.region_basis.BasisOf.{basis_of}
+use Rattle.region_partition.proofs.set_regions.Sets.{AreOfFirst}
 use Rattle.update_views.specs.Making.{IsSetView}
 use Rattle.update_views.proofs.making.set_views.Given as goal
 

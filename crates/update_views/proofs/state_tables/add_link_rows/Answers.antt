@@ -2,7 +2,7 @@ use Rattle.std.proofs.Common.{◌++◌, length, ◌∷◌, [], map, take, Some, 
 use Rattle.std.proofs.lemmas.Option.{slice_get-get_or}
 use Rattle.emc_base.specs.Lists.{At}
 use Rattle.table_files.specs.declared.tables.TableRow.{TableRow}
-use Rattle.view_rows.specs.Held.{row_by_link}
+use Rattle.update_views.specs.view_rows.Held.{row_by_link}
 use Rattle.update_views.specs.Placed.{with_rows}
 use Rattle.update_views.proofs.Added.{next_image, row_added, size_row}
 use Rattle.update_views.proofs.state_tables.add_link_rows.Goals as goal

@@ -1,5 +1,5 @@
 use Rattle.std.proofs.Common.{◌≡◌, length, map, take}
-use Rattle.view_rows.specs.Held.{row_by_link}
+use Rattle.update_views.specs.view_rows.Held.{row_by_link}
 use Rattle.update_views.specs.Placed.{with_rows}
 use Rattle.update_views.proofs.state_tables.add_link_rows.Given as goal
 

@@ -1,8 +1,8 @@
 use Rattle.std.proofs.Common.{ap, ◌∙◌}
 use Rattle.regions.specs.declared.pattern.Focus.{Focus}
-use Rattle.region_basis.specs.BasisOf.{basis_of}
-use Rattle.conflicts.specs.declared.conflict.Conflict.{Conflict}
-use Rattle.conflicts.specs.declared.conflict.Conflict.TheVariants as conflict
+use Rattle.cells.specs.region_basis.BasisOf.{basis_of}
+use Rattle.region_states.specs.declared.conflicts.conflict.Conflict.{Conflict}
+use Rattle.region_states.specs.declared.conflicts.conflict.Conflict.TheVariants as conflict
 use Rattle.witness_state.proofs.Given.{first_of, tells_of}
 use Rattle.witness_state.proofs.failures.build.Goals as goal
 

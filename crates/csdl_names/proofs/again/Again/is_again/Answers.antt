@@ -1,6 +1,6 @@
 use Rattle.std.proofs.Common.{⊎_elim, inr, sym, subst}
 use Rattle.std.proofs.lemmas.Bool.{both_ways}
-use Rattle.name_places.specs.GivenNames.{IsGivenBefore}
+use Rattle.groupings.specs.name_places.GivenNames.{IsGivenBefore}
 use Rattle.csdl_names.specs.KnownNames.{IsKnown}
 use Rattle.csdl_names.proofs.again.Again.is_again.Goals as goal
 

@@ -1,8 +1,8 @@
 use Rattle.std.proofs.Common.{◌∷◌, []}
 use Rattle.json_form.specs.declared.pointer.Step.TheVariants.{Member}
 use Rattle.layouts.specs.declared.rule.Rule.TheVariants.{NamedOnce}
-use Rattle.rule_places.specs.Places.{IsAt}
-use Rattle.rule_places.proofs.Rules.{least_where}
+use Rattle.layouts.specs.rule_places.Places.{IsAt}
+use Rattle.layouts.proofs.rule_places.Rules.{least_where}
 use Rattle.csdl_names.proofs.again.AgainFinderFault.find.Goals as goal
 
 pub returns : goal.returns

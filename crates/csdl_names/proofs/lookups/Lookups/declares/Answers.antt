@@ -1,6 +1,6 @@
 use Rattle.std.proofs.Common.{◌↔◌, Bool, IsTrue, sym, ap, subst, ◌∙◌}
 use Rattle.std.specs.Option.{is_some}
-use Rattle.name_places.proofs.KnownNames.{some_named}
+use Rattle.groupings.proofs.name_places.KnownNames.{some_named}
 use Rattle.csdl_names.specs.Unresolved.{Declares}
 use Rattle.csdl_names.proofs.PropTables.{places_at}
 use Rattle.csdl_names.proofs.lookups.Lookups.declares.Goals as goal

@@ -1,10 +1,10 @@
 use Rattle.std.proofs.Common.{◌≡◌, ◌≤◌, ℕ, sym, subst, ◌∙◌, refl, arith}
 use Rattle.std.proofs.lemmas.Bool.{both_ways}
-use Rattle.csdl_lists.specs.References.{base_of, names_in}
+use Rattle.csdl_names.specs.csdl_lists.References.{base_of, names_in}
 use Rattle.csdl_names.specs.Unresolved.{root}
-use Rattle.base_chains.proofs.Depths.{HasDepth, depth_base}
+use Rattle.graphs.proofs.base_chains.Depths.{HasDepth, depth_base}
 use Rattle.csdl_names.proofs.Lacking.{lack_few, lack_up, not_declared}
-use Rattle.rule_places.proofs.LeastFound.{none_tells}
+use Rattle.layouts.proofs.rule_places.LeastFound.{none_tells}
 use Rattle.csdl_names.proofs.lookups.Lookups.lacks_prop.Goals as goal
 
 pub returns-then-declares : goal.returns-then-declares

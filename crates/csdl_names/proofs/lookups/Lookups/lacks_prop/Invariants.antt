@@ -1,7 +1,7 @@
 use Rattle.std.proofs.Common.{◌≡◌, ◌↔◌, ℕ, ◌+◌, length}
-use Rattle.csdl_lists.specs.References.{base_of, names_in}
+use Rattle.csdl_names.specs.csdl_lists.References.{base_of, names_in}
 use Rattle.csdl_names.specs.Unresolved.{LacksProp}
-use Rattle.base_chains.proofs.Depths.{HasDepth}
+use Rattle.graphs.proofs.base_chains.Depths.{HasDepth}
 use Rattle.csdl_names.proofs.lookups.Lookups.lacks_prop.Given as goal
 
 -- the type lacks what the place lacks that was climbed to, by a step for each count

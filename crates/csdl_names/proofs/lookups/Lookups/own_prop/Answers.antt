@@ -1,5 +1,5 @@
 use Rattle.std.proofs.Common.{Some, None, sym, ap, ◌∙◌}
-use Rattle.name_places.specs.PlacesIn.{place_in}
+use Rattle.groupings.specs.name_places.PlacesIn.{place_in}
 use Rattle.csdl_names.proofs.PropTables.{own_is}
 use Rattle.csdl_names.proofs.lookups.Lookups.own_prop.Goals as goal
 

@@ -1,5 +1,5 @@
 use Rattle.std.proofs.Common.{◌≡◌, ℕ, ◌+◌, length, refl, sym, ap, ◌∙◌, arith}
-use Rattle.csdl_lists.specs.References.{names_in}
+use Rattle.csdl_names.specs.csdl_lists.References.{names_in}
 use Rattle.csdl_names.specs.PropPlaces.{prop_upto}
 use Rattle.csdl_names.proofs.PropClimbs.{one_left, climb_ends, climb_fails, climb_goes}
 use Rattle.csdl_names.proofs.lookups.Lookups.prop_of_type.Goals as goal

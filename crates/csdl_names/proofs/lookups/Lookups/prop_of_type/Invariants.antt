@@ -1,5 +1,5 @@
 use Rattle.std.proofs.Common.{◌≡◌, ◌+◌, ℕ, length}
-use Rattle.csdl_lists.specs.References.{names_in}
+use Rattle.csdl_names.specs.csdl_lists.References.{names_in}
 use Rattle.csdl_names.specs.PropPlaces.{prop_of_type, prop_upto}
 use Rattle.csdl_names.proofs.lookups.Lookups.prop_of_type.Given as goal
 

@@ -1,7 +1,7 @@
 use Rattle.std.proofs.Common.{MatchOption, Option, sym, subst}
-use Rattle.least_fault.specs.Least.{IsLeast}
+use Rattle.groupings.specs.least_fault.Least.{IsLeast}
 use Rattle.layouts.specs.Faults.{fault_cmp}
-use Rattle.csdl_lists.specs.declared.raw.RawType.{RawType}
+use Rattle.csdl_names.specs.declared.csdl_lists.raw.RawType.{RawType}
 use Rattle.csdl_names.specs.Repeated.{IsRepeatedInType}
 use Rattle.csdl_names.proofs.PropTables.{places_at}
 use Rattle.csdl_names.proofs.repeated.InTypesFinderRawTypeFault.find.Goals as goal

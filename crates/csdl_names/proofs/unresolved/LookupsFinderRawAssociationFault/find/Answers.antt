@@ -2,13 +2,13 @@ use Rattle.std.proofs.Common.{MatchOption, codes}
 use Rattle.json_form.specs.declared.pointer.Step.TheVariants.{Member}
 use Rattle.layouts.specs.declared.fault.Fault.{Fault}
 use Rattle.layouts.specs.Inside.{Under}
-use Rattle.rule_places.specs.Places.{InList}
-use Rattle.rule_places.proofs.Seen.{least_behind}
-use Rattle.csdl_lists.specs.declared.raw.RawConstraint.{RawConstraint}
-use Rattle.csdl_lists.specs.References.{names_in}
+use Rattle.layouts.specs.rule_places.Places.{InList}
+use Rattle.layouts.proofs.rule_places.Seen.{least_behind}
+use Rattle.csdl_names.specs.declared.csdl_lists.raw.RawConstraint.{RawConstraint}
+use Rattle.csdl_names.specs.csdl_lists.References.{names_in}
 use Rattle.csdl_names.specs.Unresolved.{IsUnresolvedInConstraint, IsUnresolvedInEnd}
-use Rattle.rule_places.proofs.Rules.{least_joined, least_where_some}
-use Rattle.rule_places.proofs.LeastFound.{at_none, first_only, none_of}
+use Rattle.layouts.proofs.rule_places.Rules.{least_joined, least_where_some}
+use Rattle.layouts.proofs.rule_places.LeastFound.{at_none, first_only, none_of}
 use Rattle.csdl_names.proofs.unresolved.LookupsFinderRawAssociationFault.find.Goals as goal
 
 pub returns-in_default : goal.returns-in_default

@@ -2,10 +2,10 @@ use Rattle.std.proofs.Common.{◌⊎◌, ◌∷◌, [], codes}
 use Rattle.json_form.specs.declared.pointer.Step.TheVariants.{Member}
 use Rattle.layouts.specs.declared.fault.Fault.{Fault}
 use Rattle.layouts.specs.declared.rule.Rule.TheVariants.{Resolves}
-use Rattle.rule_places.specs.Places.{IsAt}
-use Rattle.csdl_lists.specs.References.{names_in}
+use Rattle.layouts.specs.rule_places.Places.{IsAt}
+use Rattle.csdl_names.specs.csdl_lists.References.{names_in}
 use Rattle.csdl_names.specs.Unresolved.{LacksRole, NamesNothing}
-use Rattle.rule_places.proofs.Rules.{least_joined}
+use Rattle.layouts.proofs.rule_places.Rules.{least_joined}
 use Rattle.csdl_names.proofs.LeastFound.{names_nothing}
 use Rattle.csdl_names.proofs.unresolved.LookupsFinderRawNavFault.find.Goals as goal
 

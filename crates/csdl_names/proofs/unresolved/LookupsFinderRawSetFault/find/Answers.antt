@@ -1,5 +1,5 @@
 use Rattle.std.proofs.Common.{codes}
-use Rattle.csdl_lists.specs.References.{names_in}
+use Rattle.csdl_names.specs.csdl_lists.References.{names_in}
 use Rattle.csdl_names.proofs.LeastFound.{names_nothing}
 use Rattle.csdl_names.proofs.unresolved.LookupsFinderRawSetFault.find.Goals as goal
 

@@ -1,9 +1,9 @@
 use Rattle.std.proofs.Common.{ℕ, List, Option, subst, subst₂}
-use Rattle.least_fault.specs.Least.{IsLeast}
+use Rattle.groupings.specs.least_fault.Least.{IsLeast}
 use Rattle.layouts.specs.Faults.{fault_cmp}
-use Rattle.rule_places.proofs.Rules.{least_joined}
-use Rattle.csdl_lists.specs.declared.raw.RawType.{RawType}
-use Rattle.csdl_lists.specs.References.{Names}
+use Rattle.layouts.proofs.rule_places.Rules.{least_joined}
+use Rattle.csdl_names.specs.declared.csdl_lists.raw.RawType.{RawType}
+use Rattle.csdl_names.specs.csdl_lists.References.{Names}
 use Rattle.csdl_types.specs.Inherited.{IsInheritedNameFault}
 use Rattle.csdl_types.specs.PropTypes.{IsPropTypeFault}
 use Rattle.csdl_types.proofs.type_rules.LaterRulesFinderRawTypeFault.find.Goals as goal

@@ -3,7 +3,7 @@ use Rattle.mapping_core.specs.Compiles.{Decides}
 use Rattle.mapping_core.specs.Words.{Schema}
 use Rattle.mapping_core.specs.declared.verdict.Refusal.{Refusal}
 use Rattle.mapping_core.specs.declared.verdict.Refusal.TheVariants.{Fails}
-use Rattle.command_texts.specs.Texts.{IsFailText}
+use Rattle.texts.specs.command_texts.Texts.{IsFailText}
 use Rattle.mapping_cli.proofs.answers.accepting.accepted_schema.Goals as goal
 
 pub returns-in_ok-text-in-Err-Fails : goal.returns-in_ok-text-in-Err-Fails

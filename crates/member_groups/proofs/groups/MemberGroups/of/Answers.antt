@@ -1,10 +1,10 @@
 use Rattle.std.proofs.Common.{List, refl, subst}
-use Rattle.link_places.specs.Between.{schema_of}
+use Rattle.table_owners.specs.link_places.Between.{schema_of}
 use Rattle.round_trip.specs.Words.{Fragment}
-use Rattle.joined_groups.specs.Groups.{TellsGroups}
-use Rattle.mapping_asks.specs.declared.asks.Ask.{Ask}
-use Rattle.group_numbers.specs.declared.numbered.Numbered.{Numbered}
-use Rattle.group_constants.specs.Constants.{ListsGroups}
+use Rattle.member_groups.specs.joined_groups.Groups.{TellsGroups}
+use Rattle.member_groups.specs.declared.mapping_asks.asks.Ask.{Ask}
+use Rattle.member_groups.specs.declared.group_numbers.numbered.Numbered.{Numbered}
+use Rattle.member_groups.specs.group_constants.Constants.{ListsGroups}
 use Rattle.member_groups.specs.Causes.{AreTested}
 use Rattle.member_groups.proofs.Telling.{tells_groups}
 use Rattle.member_groups.proofs.groups.MemberGroups.of.Goals as goal

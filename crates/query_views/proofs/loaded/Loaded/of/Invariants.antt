@@ -1,6 +1,6 @@
 use Rattle.cells.specs.Cells.{is_free_in}
-use Rattle.region_basis.specs.BasisOf.{basis_of}
-use Rattle.set_regions.proofs.Sets.{AreOfFirst}
+use Rattle.cells.specs.region_basis.BasisOf.{basis_of}
+use Rattle.region_partition.proofs.set_regions.Sets.{AreOfFirst}
 use Rattle.query_views.proofs.Candidates.{AreLent}
 use Rattle.query_views.proofs.loaded.Loaded.of.Given as goal
 

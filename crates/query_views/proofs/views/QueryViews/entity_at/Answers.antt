@@ -1,9 +1,9 @@
 use Rattle.std.proofs.Common.{◌≢◌, ◌==◌, List, [], Option, None, length, true≢false, ap, sym, subst, ◌∙◌}
 use Rattle.cells.specs.Cells.{is_free_in}
-use Rattle.candidates.specs.Rows.{AreRowsAt, shown_row, shown_rows}
-use Rattle.candidates.specs.declared.placed.PlacedRow.{PlacedRow}
-use Rattle.region_basis.specs.BasisOf.{basis_of}
-use Rattle.candidates.specs.Viewed.{IsViewed}
+use Rattle.case_laws.specs.candidates.Rows.{AreRowsAt, shown_row, shown_rows}
+use Rattle.case_laws.specs.declared.candidates.placed.PlacedRow.{PlacedRow}
+use Rattle.cells.specs.region_basis.BasisOf.{basis_of}
+use Rattle.case_laws.specs.candidates.Viewed.{IsViewed}
 use Rattle.round_trip.specs.Words.{Entity}
 use Rattle.query_views.specs.First.{FindsFirst, cases_in, readings_in}
 use Rattle.query_views.specs.declared.views.Met.{Met}

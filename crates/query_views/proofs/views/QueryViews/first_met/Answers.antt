@@ -1,6 +1,6 @@
 use Rattle.std.proofs.Common.{List, sym, subst}
-use Rattle.region_basis.specs.BasisOf.{basis_of}
-use Rattle.region_cases.specs.declared.case.Case.{Case}
+use Rattle.cells.specs.region_basis.BasisOf.{basis_of}
+use Rattle.case_laws.specs.declared.region_cases.case.Case.{Case}
 use Rattle.query_views.specs.Views.{IsReaderOf}
 use Rattle.query_views.proofs.Zips.{zip_at}
 use Rattle.query_views.proofs.views.QueryViews.first_met.Goals as goal

@@ -1,7 +1,7 @@
 use Rattle.std.proofs.Common.{ℕ, List, Option, ap, ◌∙◌}
 use Rattle.std.specs.Option.{option_and_then}
-use Rattle.name_places.specs.GivenNames.{first_place}
-use Rattle.name_places.specs.PlacesIn.{place_in}
+use Rattle.groupings.specs.name_places.GivenNames.{first_place}
+use Rattle.groupings.specs.name_places.PlacesIn.{place_in}
 use Rattle.schema_names.specs.declared.columns.TableColumns.{TableColumns}
 use Rattle.schema_names.proofs.LookUps.{look_up}
 use Rattle.schema_names.proofs.names.SchemaNames.column_named.Goals as goal

@@ -1,6 +1,6 @@
 use Rattle.std.proofs.Common.{◌≡◌, ◌↔◌, ◌∙◌, ℕ, List, Any, Bool, IsTrue, MatchOption, Option, sym, ap, subst}
 use Rattle.std.specs.Option.{is_some}
-use Rattle.name_places.proofs.KnownNames.{some_named}
+use Rattle.groupings.proofs.name_places.KnownNames.{some_named}
 use Rattle.schema_names.proofs.names.SchemaNames.names_association.Goals as goal
 
 pub returns : goal.returns

@@ -1,6 +1,6 @@
 use Rattle.std.proofs.Common.{◌∙◌, ap}
 use Rattle.std.specs.Option.{option_and_then}
-use Rattle.name_places.specs.GivenNames.{first_place}
+use Rattle.groupings.specs.name_places.GivenNames.{first_place}
 use Rattle.schema_names.proofs.names.SchemaNames.type_named.Goals as goal
 
 pub returns : goal.returns

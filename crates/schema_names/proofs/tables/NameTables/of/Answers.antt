@@ -1,5 +1,5 @@
 use Rattle.std.proofs.Common.{List, rules, ap, subst, ◌∙◌}
-use Rattle.name_places.specs.GivenNames.{first_place}
+use Rattle.groupings.specs.name_places.GivenNames.{first_place}
 use Rattle.round_trip.specs.Words.{Table}
 use Rattle.schema_names.specs.Columns.{AreColumnsOf}
 use Rattle.schema_names.proofs.tables.NameTables.of.Goals as goal

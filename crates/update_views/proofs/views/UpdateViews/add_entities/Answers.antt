@@ -2,7 +2,7 @@ use Rattle.std.proofs.Common.{◌++◌, List, flat_map, take, Some, sym, ap, ◌
 use Rattle.std.proofs.lemmas.Option.{slice_get-get_or}
 use Rattle.emc_base.specs.Lists.{At}
 use Rattle.round_trip.specs.Words.{Entity, key_of}
-use Rattle.host_links.specs.Grouped.{links_in}
+use Rattle.cells.specs.host_links.Grouped.{links_in}
 use Rattle.table_files.specs.declared.tables.TableRow.{TableRow}
 use Rattle.update_views.specs.Placed.{with_rows}
 use Rattle.update_views.specs.Views.{local_rows}

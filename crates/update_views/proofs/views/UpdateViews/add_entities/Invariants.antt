@@ -1,6 +1,6 @@
 use Rattle.std.proofs.Common.{◌≡◌, flat_map, length, take}
 use Rattle.round_trip.specs.Words.{key_of}
-use Rattle.host_links.specs.Grouped.{links_in}
+use Rattle.cells.specs.host_links.Grouped.{links_in}
 use Rattle.update_views.specs.Placed.{with_rows}
 use Rattle.update_views.specs.Views.{local_rows}
 use Rattle.update_views.proofs.views.UpdateViews.add_entities.Given as goal

@@ -5,7 +5,7 @@ use Rattle.emc_base.specs.Lists.{At}
 use Rattle.emc_base.proofs.Loops.{take-enumerated}
 use Rattle.round_trip.specs.Words.{Hosted, Link, SetId, Value}
 use Rattle.table_files.specs.declared.tables.TableRow.{TableRow}
-use Rattle.filled_rows.specs.Gathered.{rows_of_links}
+use Rattle.case_laws.specs.filled_rows.Gathered.{rows_of_links}
 use Rattle.update_views.specs.Placed.{with_rows}
 use Rattle.update_views.specs.Views.{joined_row, local_rows}
 use Rattle.update_views.proofs.Added.{next_numbered, rows_added}

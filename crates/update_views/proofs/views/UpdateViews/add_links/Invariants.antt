@@ -1,7 +1,7 @@
 use Rattle.std.proofs.Common.{◌≡◌, List, flat_map, length, take}
 use Rattle.std.specs.List.{enumerate_from}
 use Rattle.round_trip.specs.Words.{Hosted, SetId, Value}
-use Rattle.filled_rows.specs.Gathered.{rows_of_links}
+use Rattle.case_laws.specs.filled_rows.Gathered.{rows_of_links}
 use Rattle.update_views.specs.Placed.{with_rows}
 use Rattle.update_views.specs.Views.{joined_row, local_rows}
 use Rattle.update_views.proofs.views.UpdateViews.add_links.Given as goal

@@ -4,9 +4,9 @@ use Rattle.std.proofs.lemmas.Option.{slice_get-get_or}
 use Rattle.emc_base.specs.Lists.{At}
 use Rattle.emc_base.proofs.Loops.{take-enumerated}
 use Rattle.round_trip.specs.Words.{Entity}
-use Rattle.host_links.specs.Grouped.{links_in}
+use Rattle.cells.specs.host_links.Grouped.{links_in}
 use Rattle.table_files.specs.declared.tables.TableRow.{TableRow}
-use Rattle.filled_rows.specs.Gathered.{rows_of_set}
+use Rattle.case_laws.specs.filled_rows.Gathered.{rows_of_set}
 use Rattle.update_views.specs.Placed.{with_rows}
 use Rattle.update_views.specs.Views.{joined_row, local_rows}
 use Rattle.update_views.proofs.Added.{next_numbered, rows_added}

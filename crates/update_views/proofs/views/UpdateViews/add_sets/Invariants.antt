@@ -1,7 +1,7 @@
 use Rattle.std.proofs.Common.{◌≡◌, flat_map, length, take}
 use Rattle.std.specs.List.{enumerate_from}
-use Rattle.host_links.specs.Grouped.{links_in}
-use Rattle.filled_rows.specs.Gathered.{rows_of_set}
+use Rattle.cells.specs.host_links.Grouped.{links_in}
+use Rattle.case_laws.specs.filled_rows.Gathered.{rows_of_set}
 use Rattle.update_views.specs.Placed.{with_rows}
 use Rattle.update_views.specs.Views.{joined_row, local_rows}
 use Rattle.update_views.proofs.views.UpdateViews.add_sets.Given as goal

@@ -1,7 +1,0 @@
-use Rattle.std.proofs.Common.{take}
-use Rattle.arrow_cycles.specs.Ends.{IsEnds}
-use Rattle.arrow_cycles.proofs.arrow.ends_by_place.Given as goal
-
--- the ends of the arrows so far
-abbrev pub invariant-loop-arrow : goal.invariant-loop-arrow
-invariant-loop-arrow l = IsEnds l.count (take l.arrow-index l.arrows) l.ends.items

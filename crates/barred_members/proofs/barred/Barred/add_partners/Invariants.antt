@@ -1,9 +1,0 @@
-use Rattle.std.proofs.Common.{take}
-use Rattle.round_trip.specs.Words.{EntityModel, Mapping}
-use Rattle.link_places.specs.Between.{schema_of}
-use Rattle.barred_members.specs.Added.{Adds, Each, Hosts}
-use Rattle.barred_members.proofs.barred.Barred.add_partners.Given as goal
-
--- those so far are added
-abbrev pub invariant-loop-fragment : goal.invariant-loop-fragment
-invariant-loop-fragment l = (model : EntityModel) (mapping : Mapping) → Adds (Each (Hosts (schema_of model l.store mapping)) (take l.fragment-index l.links)) l.initial.self l.self

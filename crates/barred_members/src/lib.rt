@@ -1,6 +1,0 @@
-//! The properties and columns that tell another entity, or are joined to one that does.
-#![tactic(auto)]
-
-mod barred;
-
-pub use barred::Barred;

@@ -1,8 +1,0 @@
-use Rattle.base_chains.specs.Chains.{base_at}
-use Rattle.base_chains.proofs.Turns.{IsWalking}
-use Rattle.std.proofs.Common.{length}
-use Rattle.base_chains.proofs.walking.walk_bases.Given as goal
-
--- the walk over the places that were passed
-abbrev pub invariant-loop-place : goal.invariant-loop-place
-invariant-loop-place l = IsWalking (base_at l.bases) (length l.bases) l.place l.seen.items l.order.items l.first

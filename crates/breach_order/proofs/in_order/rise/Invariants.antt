@@ -1,7 +1,0 @@
-use Rattle.std.proofs.Common.{◌≤◌}
-use Rattle.breach_order.proofs.Rising.{RisesTo}
-use Rattle.breach_order.proofs.in_order.rise.Given as goal
-
--- the keys that were passed rise
-abbrev pub invariant-loop-i : goal.invariant-loop-i
-invariant-loop-i g l = (1 ≤ l.i) × RisesTo g.K.Ord.cmp l.keys l.i

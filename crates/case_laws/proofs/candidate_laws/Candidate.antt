@@ -1,0 +1,84 @@
+-- The entities that the query view of a set gives are those of the legal state.
+use Rattle.std.proofs.Common.{◌≡◌, ◌≢◌, ℕ, List, get_or, AllPairs, Bool, Contains, IsPermutation, sym, ap, subst, ◌∙◌, arith}
+use Rattle.std.specs.Ordering.{ordering_reverse}
+use Rattle.std.specs.Cmp.Lexicographic.{slice_cmp}
+use Rattle.std.specs.declared.cmp.Ordering.{Ordering}
+use Rattle.std.specs.declared.cmp.Ordering.TheVariants.{Less}
+use Rattle.std.proofs.lemmas.Option.{get_or_from_slice_get, slice_get-get_or, slice_get_within}
+use Rattle.graphs.proofs.base_chains.Orders.{place_of_member}
+use Rattle.emc_base.specs.Order.{value_cmp}
+use Rattle.emc_base.specs.OrderLaws.{key_cmp_total}
+use Rattle.emc_base.proofs.Mapped.{contains_at}
+use Rattle.round_trip.specs.Words.{SetId, TableId, ColId, Entity, EntitySet, At, IsLegal, RoundTrips, State, Tables, Value, entities_in, key_of}
+use Rattle.cells.specs.Limits.{IsWithinLimits}
+use Rattle.schema_laws.proofs.kept_states.Entities.{apart_by_key}
+use Rattle.schema_laws.proofs.state_demand.Permutations.{same_members_permute}
+use Rattle.regions.specs.Basis.{Basis}
+use Rattle.regions.specs.region_laws.IsBasis.{IsBasis}
+use Rattle.region_states.specs.LoneStates.{HasNoAssociationSets}
+use Rattle.case_laws.specs.candidates.Candidates.{AreViewed, IsBefore}
+use Rattle.case_laws.specs.candidates.Viewed.{IsViewed}
+use Rattle.case_laws.specs.Reading.{DecidesFree, HasStateTables}
+use Rattle.case_laws.proofs.candidate_laws.OwnView.{entity_at, has_rows, view_is_own}
+use Rattle.case_laws.proofs.candidate_laws.Zipped.{beside_left, beside_right}
+
+-- no key comes before itself
+never_before : (key : List Value) → ¬ IsBefore key key
+never_before key before = by (slice_cmp value_cmp key key) before (key_cmp_total.antisymm key key)
+  where
+    by : (order : Ordering) → order ≡ Less → order ≡ ordering_reverse order → ⊥
+    by order less turned = let same : Less ≡ ordering_reverse Less = subst (λ one. one ≡ ordering_reverse one) less turned in absurd cc
+
+-- so rising keys are different
+keys_apart : (keys : List (List Value)) → AllPairs IsBefore keys → AllPairs (λ key other. key ≢ other) keys
+keys_apart keys rising i j d below within same =
+    never_before (get_or keys j d) (subst (λ key. IsBefore key (get_or keys j d)) same (rising i j d below within))
+
+module _ (basis : Basis) (is : IsBasis basis) (limits : IsWithinLimits basis.schema) (none : HasNoAssociationSets basis.schema.model) (round : RoundTrips basis.schema)
+    (is_free : TableId → ColId → Bool) (decides : DecidesFree basis.schema is_free) (state : State) (legal : IsLegal basis.schema.model state)
+    (tables : Tables) (has : HasStateTables basis.schema state tables) (s : SetId) (entities : List Entity) (viewed : AreViewed basis is_free tables s entities) where
+  abbrev Views : List Value → Entity → Type 0
+  Views = IsViewed basis is_free tables s
+
+  -- the entity of a key is one of the state, with this key
+  own_entity : (key : List Value) (entity : Entity) → Contains viewed.keys key → Views key entity → Contains (entities_in state s) entity × (key_of basis.schema.model entity ≡ key)
+  own_entity key entity among view =
+      let found = entity_at basis is limits none round is_free decides state legal tables has s key ((viewed.are key).0 among) in
+      let View : List Value → Type 0 = λ one. Views one entity in
+      let same : entity ≡ found.0 = view_is_own basis is limits none round is_free decides state legal tables has s found.0 found.1 entity (subst View (sym found.2) view) in
+      (subst (Contains (entities_in state s)) (sym same) found.1, ap (key_of basis.schema.model) same ∙ found.2)
+
+  -- the key beside it
+  key_at : (i : ℕ) (entity : Entity) → At entities i entity → At viewed.keys i (key_of basis.schema.model entity) × Contains (entities_in state s) entity
+  key_at i entity here =
+      let found = beside_right Views viewed.keys entities viewed.each i entity here in
+      let own = own_entity found.0 entity (contains_at viewed.keys i found.0 found.1) found.2 in
+      (subst (At viewed.keys i) (sym own.1) found.1, own.0)
+
+  -- so each is one of the state's
+  to_state : (entity : Entity) → Contains entities entity → Contains (entities_in state s) entity
+  to_state entity among = (key_at among.0 entity (place_of_member entities entity among)).1
+
+  -- and each of the state's is one of them: it has a key with rows
+  from_state : (entity : Entity) → Contains (entities_in state s) entity → Contains entities entity
+  from_state entity stands =
+      let key : List Value = key_of basis.schema.model entity in
+      let among : Contains viewed.keys key = (viewed.are key).1 (has_rows basis is limits none round is_free decides state legal tables has s entity stands) in
+      let found = beside_left Views viewed.keys entities viewed.each among.0 key (place_of_member viewed.keys key among) in
+      let same : found.0 ≡ entity = view_is_own basis is limits none round is_free decides state legal tables has s entity stands found.0 found.2 in
+      subst (Contains entities) same (contains_at entities among.0 found.0 found.1)
+
+  -- no entity is given twice
+  once : AllPairs (λ entity other. entity ≢ other) entities
+  once i j d below within same =
+      let early = key_at i (get_or entities i d) (slice_get-get_or entities i d (omega arith)) in
+      let late = key_at j (get_or entities j d) (slice_get-get_or entities j d within) in
+      let key : List Value = key_of basis.schema.model (get_or entities j d) in
+      let is_early = get_or_from_slice_get viewed.keys i (key_of basis.schema.model (get_or entities i d)) key early.0 in
+      let is_late = get_or_from_slice_get viewed.keys j key key late.0 in
+      keys_apart viewed.keys viewed.rising i j key below (slice_get_within viewed.keys j key late.0) (is_early ∙ ap (key_of basis.schema.model) same ∙ sym is_late)
+
+  -- they are the state's, in some order
+  pub same_entities : (set : EntitySet) → At basis.schema.model.sets s.index set → IsPermutation (entities_in state s) entities
+  same_entities set here = same_members_permute (entities_in state s) entities
+      (apart_by_key (key_of basis.schema.model) (entities_in state s) (legal.sets s set here).keys) once from_state to_state

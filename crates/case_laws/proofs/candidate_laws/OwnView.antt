@@ -1,0 +1,94 @@
+-- The rows at the key of an entity of a legal state meet the case of its region, and the query view gives this entity.
+use Rattle.std.proofs.Common.{◌≡◌, List, [], length, Bool, Contains, sym, ap, subst, ◌∙◌}
+use Rattle.std.proofs.lemmas.List.{length-map}
+use Rattle.std.proofs.lemmas.List.Elements.{All-contains}
+use Rattle.emc_base.proofs.Mapped.{contains_at, contains_map}
+use Rattle.emc_base.proofs.Numbered.{map_contains}
+use Rattle.round_trip.specs.Words.{SetId, TableId, ColId, Entity, EntitySet, At, IsLegal, RoundTrips, State, Tables, Value, entities_in, key_of, key_props, value_of}
+use Rattle.cells.specs.Limits.{IsWithinLimits}
+use Rattle.schema_laws.proofs.state_demand.Lists.{none_in_nil}
+use Rattle.conflict_laws.proofs.same.Legal.{key_parts}
+use Rattle.regions.specs.declared.region.Region.{Region}
+use Rattle.regions.specs.Basis.{Basis}
+use Rattle.regions.specs.Regions.{regions_of}
+use Rattle.regions.specs.region_laws.IsBasis.{IsBasis}
+use Rattle.region_states.specs.focus.Held.{IsOfRegion}
+use Rattle.region_states.proofs.focus.Flags.{some_region}
+use Rattle.case_laws.specs.filled_rows.Demanded.{IsHeldWith}
+use Rattle.region_states.specs.LoneStates.{HasNoAssociationSets}
+use Rattle.region_states.proofs.Legal.{no_host}
+use Rattle.case_laws.specs.declared.region_cases.case.Case.{Case}
+use Rattle.case_laws.specs.region_cases.Cases.{case_of, cases_of}
+use Rattle.case_laws.specs.region_cases.Meets.{IsEntityOf, MeetsCase}
+use Rattle.case_laws.specs.candidates.Rows.{HasRows}
+use Rattle.case_laws.specs.candidates.Viewed.{IsViewed, LacksCase}
+use Rattle.case_laws.specs.Reading.{DecidesFree, HasStateTables}
+use Rattle.case_laws.specs.Told.{AreTold}
+use Rattle.case_laws.proofs.Keys.{set_key_is}
+use Rattle.case_laws.proofs.OwnCase.{meets_own, row_there, told_is_own}
+use Rattle.case_laws.proofs.Whole.{key_of_row, set_of_entity}
+
+module _ (basis : Basis) (is : IsBasis basis) (limits : IsWithinLimits basis.schema) (none : HasNoAssociationSets basis.schema.model) (round : RoundTrips basis.schema)
+    (is_free : TableId → ColId → Bool) (decides : DecidesFree basis.schema is_free) (state : State) (legal : IsLegal basis.schema.model state)
+    (tables : Tables) (has : HasStateTables basis.schema state tables) (s : SetId) where
+  -- a key with rows is that of an entity
+  pub entity_at : (key : List Value) → HasRows basis.schema tables s key → (entity : Entity) × Contains (entities_in state s) entity × (key_of basis.schema.model entity ≡ key)
+  entity_at key rows = key_of_row basis is state legal tables has s key rows.whole rows.table rows.held rows.stands
+
+  module _ (entity : Entity) (stands : Contains (entities_in state s) entity) where
+    abbrev key : List Value
+    key = key_of basis.schema.model entity
+
+    -- it stands in a set of the model
+    set_found : (set : EntitySet) × At basis.schema.model.sets s.index set
+    set_found = set_of_entity basis state legal s entity stands
+
+    -- and a region holds it
+    region_found : (region : Region) × IsOfRegion basis state s entity region
+    region_found = some_region basis is state legal s set_found.0 set_found.1 entity stands
+
+    held : IsHeldWith basis state s entity region_found.1.links region_found.0
+    held = let of_region = region_found.1 in record { stands = stands; hosted = of_region.hosted; listed = of_region.listed; holds = of_region.holds }
+
+    -- whose case its rows meet
+    own_met : MeetsCase basis tables key (case_of is_free basis region_found.0)
+    own_met = meets_own basis is limits none round is_free decides state legal tables has s entity region_found.1.links region_found.0 held
+
+    -- rows stand at its key
+    pub has_rows : HasRows basis.schema tables s key
+    has_rows =
+        let set = set_found in
+        let row = row_there basis is limits none round is_free decides state legal tables has s entity stands in record {
+          whole = length-map (key_props basis.schema.model entity.ty) (value_of basis.schema.model entity)
+              ∙ ap length (key_parts basis.schema is.sound s set.0 set.1 state legal entity stands)
+              ∙ ap length (sym (set_key_is basis.schema is.sound s set.0 set.1));
+          table = row.0;
+          held = row.1;
+          stands = row.2;
+        }
+
+    -- what the query view gives at its key is this entity
+    pub view_is_own : (viewed : Entity) → IsViewed basis is_free tables s key viewed → viewed ≡ entity
+    view_is_own viewed view =
+        let found = map_contains (case_of is_free basis) (regions_of basis s) view.case
+        (contains_at (cases_of is_free basis s) view.first_met.place view.case view.first_met.is_case) in
+        let region : Region = found.0 in
+        let Met : Case → Type 0 = λ case. MeetsCase basis tables key case in
+        let Tells : Case → Type 0 = λ case. IsEntityOf basis tables key case viewed in
+        let told : AreTold basis is_free s region tables key viewed [] = record {
+          entity_told = subst Tells (sym found.2) view.told;
+          links_told = record { tells = λ hosted. (λ among. absurd (none_in_nil hosted among), λ link. absurd (no_host basis is none region.set link.host link.is_host)) };
+        } in
+        (told_is_own basis is limits none round is_free decides state legal tables has s entity region_found.1.links region_found.0 held
+        region found.1 (subst Met (sym found.2) view.first_met.meets) viewed [] told).0
+
+  -- so no key lacks a case
+  pub case_met : (key : List Value) → ¬ LacksCase basis is_free tables s key
+  case_met key lacks =
+      let found = entity_at key lacks.rows in
+      let region : Region = (region_found found.0 found.1).0 in
+      let Met : List Value → Type 0 = λ one. MeetsCase basis tables one (case_of is_free basis region) in
+      let Unmet : Case → Type 0 = λ case. ¬ MeetsCase basis tables key case in
+      All-contains Unmet (cases_of is_free basis s) (case_of is_free basis region) lacks.none
+      (contains_map (case_of is_free basis) (regions_of basis s) region (held found.0 found.1).listed)
+      (subst Met found.2 (own_met found.0 found.1))

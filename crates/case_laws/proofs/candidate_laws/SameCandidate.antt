@@ -1,0 +1,51 @@
+-- The state of all entities that the query views give is the legal state whose tables these are; so it is as legal, and has the same tables.
+use Rattle.std.proofs.Common.{◌≡◌, ⊎_elim, ◌<◌, ◌≤◌, List, [], length, Bool, IsPermutation, sym, ap, subst, ◌∙◌, arith}
+use Rattle.std.proofs.lemmas.Bool.{cases_lt}
+use Rattle.std.proofs.lemmas.List.Sorted.{IsPermutation-refl}
+use Rattle.emc_base.proofs.Lists.{item_at}
+use Rattle.round_trip.specs.Words.{SetId, TableId, ColId, AssocId, AreSameTables, IsLegal, IsSameState, RoundTrips, State, Tables, TablesAre, entities_in, links_in}
+use Rattle.cells.specs.Limits.{IsWithinLimits}
+use Rattle.schema_laws.proofs.kept_states.Entities.{past_none}
+use Rattle.schema_laws.proofs.same_states.SameState.{as_legal}
+use Rattle.schema_laws.proofs.same_states.SameTables.{tables_too, turned}
+use Rattle.schema_laws.proofs.state_demand.SameTables.{same_tables}
+use Rattle.regions.specs.Basis.{Basis}
+use Rattle.regions.specs.region_laws.IsBasis.{IsBasis}
+use Rattle.region_states.specs.LoneStates.{HasNoAssociationSets}
+use Rattle.case_laws.specs.candidates.Candidates.{IsCandidate}
+use Rattle.case_laws.specs.Reading.{DecidesFree, HasStateTables}
+use Rattle.case_laws.proofs.candidate_laws.Candidate.{same_entities}
+
+-- two empty lists are the same
+both_none : {X : Type 0} (xs ys : List X) → xs ≡ [] → ys ≡ [] → IsPermutation xs ys
+both_none xs ys no_xs no_ys = subst (IsPermutation xs) (no_xs ∙ sym no_ys) (IsPermutation-refl xs)
+
+module _ (basis : Basis) (is : IsBasis basis) (limits : IsWithinLimits basis.schema) (none : HasNoAssociationSets basis.schema.model) (round : RoundTrips basis.schema)
+    (is_free : TableId → ColId → Bool) (decides : DecidesFree basis.schema is_free) (tables : Tables) (candidate : State)
+    (of_tables : IsCandidate basis is_free tables candidate) (state : State) (legal : IsLegal basis.schema.model state) (has : HasStateTables basis.schema state tables) where
+  entities_same : (s : SetId) → IsPermutation (entities_in state s) (entities_in candidate s)
+  entities_same s = ⊎_elim
+      (λ (within : s.index < length basis.schema.model.sets).
+      let found = item_at basis.schema.model.sets s.index within in
+      same_entities basis is limits none round is_free decides state legal tables has s (entities_in candidate s) (of_tables.sets s found.0 found.1) found.0 found.1)
+      (λ (past : length basis.schema.model.sets ≤ s.index). both_none (entities_in state s) (entities_in candidate s)
+      (past_none state.entities (length basis.schema.model.sets) s.index legal.shape.sets past)
+      (past_none candidate.entities (length basis.schema.model.sets) s.index of_tables.shape.sets past))
+      (cases_lt s.index (length basis.schema.model.sets))
+
+  -- there are no links
+  links_same : (a : AssocId) → IsPermutation (links_in state a) (links_in candidate a)
+  links_same a = both_none (links_in state a) (links_in candidate a)
+      (past_none state.links 0 a.index (legal.shape.assocs ∙ ap length none) (omega arith))
+      (past_none candidate.links 0 a.index (of_tables.shape.assocs ∙ ap length none) (omega arith))
+
+  pub same : IsSameState state candidate
+  same = record { entities = entities_same; links = links_same }
+
+  -- so it is legal
+  pub legal_too : IsLegal basis.schema.model candidate
+  legal_too = as_legal basis.schema.model state candidate same of_tables.shape legal
+
+  -- and its tables are these, but for what free cells hold
+  pub rows_same : (fresh : Tables) → TablesAre basis.schema candidate fresh → AreSameTables has.erased fresh
+  rows_same fresh are = same_tables basis.schema state has.erased fresh has.are (tables_too basis.schema candidate state (turned state candidate same) fresh are)

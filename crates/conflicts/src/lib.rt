@@ -1,6 +1,0 @@
-//! Conflicts: what makes some legal entity state fail, told by regions and symbols.
-#![tactic(auto)]
-
-mod conflict;
-
-pub use conflict::Conflict;

@@ -1,7 +1,0 @@
-use Rattle.std.proofs.Common.{take}
-use Rattle.csdl_association_sets.specs.Told.{AreArrowsOf}
-use Rattle.csdl_association_sets.proofs.set_arrows.arrows_of.Given as goal
-
--- the arrows of the association sets that were passed
-abbrev pub invariant-loop-set : goal.invariant-loop-set
-invariant-loop-set l = AreArrowsOf l.constraints (take l.set-index l.set-items) l.arrows.items

@@ -1,0 +1,2 @@
+pub mod csdl_constraints
+pub mod csdl_association_sets

@@ -1,5 +1,0 @@
-use Rattle.std.proofs.Common.{refl}
-use Rattle.csdl_forests.proofs.a_school_is_two_trees.Goals as goal
-
-pub returns : goal.returns
-returns c = record { trees = refl }

@@ -1,0 +1,17 @@
+//! The model that a CSDL document means, made from its lists.
+
+mod associations;
+mod forest;
+mod ids;
+mod kinds;
+mod lists;
+mod model;
+mod props;
+mod sets;
+mod sizes;
+mod types;
+
+pub use ids::narrow;
+pub use kinds::simple_kind;
+pub use lists::put_found;
+pub use model::make_model;

@@ -1,5 +1,0 @@
-use Rattle.csdl_sound.proofs.SoundModel.{sound_model}
-use Rattle.csdl_sound.proofs.a_document_that_breaks_no_rule_is_sound.Goals as goal
-
-pub returns : goal.returns
-returns c = record { sound = sound_model }

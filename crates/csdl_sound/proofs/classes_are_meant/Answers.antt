@@ -1,6 +1,0 @@
-use Rattle.std.proofs.Common.{refl}
-use Rattle.csdl_sound.proofs.ClassesKeep.{classes_keep}
-use Rattle.csdl_sound.proofs.classes_are_meant.Goals as goal
-
-pub returns : goal.returns
-returns c = record { sets = refl; assocs = refl; forest = refl; keeps = classes_keep }

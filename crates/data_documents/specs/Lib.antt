@@ -1,0 +1,3 @@
+pub mod shape_faults
+pub mod entity_documents
+pub mod table_documents

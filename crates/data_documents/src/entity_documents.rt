@@ -1,0 +1,14 @@
+//! Entity documents: entities for each entity set and links for each independent association set as JSON, the first place where one is of
+//! another shape, and the state that it holds.
+
+mod doc_shape;
+mod entity_shape;
+mod link_shape;
+mod members;
+mod names;
+mod read;
+mod state;
+mod tables;
+
+pub use names::ModelNames;
+pub use state::{entity_of_node, key_of_node, link_of_node, state_of_doc};

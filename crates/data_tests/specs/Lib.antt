@@ -1,0 +1,1 @@
+pub mod staff_example

@@ -1,5 +1,0 @@
-use Rattle.std.proofs.Common.{◌∙◌}
-use Rattle.entity_documents.proofs.names.ModelNames.association_set_named.Goals as goal
-
-pub returns : goal.returns
-returns c = c.place_of.ensures ∙ (λ k. c.args.self.now.tabled.association_sets k c.args.name.now)

@@ -1,8 +1,0 @@
-use Rattle.std.proofs.Common.{◌≡◌, map, take}
-use Rattle.serde_json.specs.View.{view}
-use Rattle.entity_documents.specs.States.{link_in}
-use Rattle.entity_documents.proofs.read.stored_links.Given as goal
-
--- the items that were passed, as links
-abbrev pub invariant-loop-item : goal.invariant-loop-item
-invariant-loop-item l = l.links ≡ map (λ item. link_in l.model l.assoc (view item)) (take l.item-index l.items)

@@ -1,6 +1,0 @@
-use Rattle.std.proofs.Common.{rules}
-use Rattle.entity_documents.specs.Tables.{name_or}
-use Rattle.entity_documents.proofs.tables.props_by_name.Goals as goal
-
-pub returns : goal.returns
-returns c = c.in_ok-places.ensures (name_or c.args.model.now c.args.unnamed.now) (λ prop name lent. search rules)

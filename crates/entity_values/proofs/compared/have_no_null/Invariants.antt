@@ -1,8 +1,0 @@
-use Rattle.std.proofs.Common.{◌≢◌}
-use Rattle.round_trip.specs.Words.{Null, value_of}
-use Rattle.breach_order.proofs.Turns.{EachTo}
-use Rattle.entity_values.proofs.compared.have_no_null.Given as goal
-
--- the values of the properties that were passed aren't null
-abbrev pub invariant-loop-prop : goal.invariant-loop-prop
-invariant-loop-prop l = EachTo (λ _ prop. value_of l.model l.entity prop ≢ Null) l.props l.prop-index

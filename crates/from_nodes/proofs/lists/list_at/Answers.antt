@@ -1,9 +1,0 @@
-use Rattle.std.proofs.Common.{map, ap, ◌∙◌}
-use Rattle.serde_json.specs.View.{view}
-use Rattle.emc_base.proofs.Loops.{map-taken}
-use Rattle.from_nodes.proofs.lists.list_at.Goals as goal
-
-pub returns : goal.returns
-returns g c =
-    map-taken g.T.FromNode.of view c.items_at-item-items.result.now c.loop-item.list c.loop-item.item-index c.loop-item-test.false c.loop-item.invariant
-    ∙ ap (map g.T.FromNode.of) c.items_at-item-items.ensures

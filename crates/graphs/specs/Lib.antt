@@ -1,0 +1,2 @@
+pub mod base_chains
+pub mod arrow_cycles

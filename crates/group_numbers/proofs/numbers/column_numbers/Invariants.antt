@@ -1,8 +1,0 @@
-use Rattle.round_trip.specs.soundness.Joined.{col}
-use Rattle.joined_groups.specs.Labels.{label_of}
-use Rattle.group_numbers.specs.Numbers.{AreNumbered, Grows}
-use Rattle.group_numbers.proofs.numbers.column_numbers.Given as goal
-
--- the columns so far have their numbers
-abbrev pub invariant-loop-place : goal.invariant-loop-place
-invariant-loop-place l = Grows l.initial.labels.keys l.labels.keys × AreNumbered l.labels.keys (λ i. label_of l.groups (col l.id (record { index = i }))) l.place l.numbers

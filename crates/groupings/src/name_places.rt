@@ -1,0 +1,9 @@
+//! Names that are given in lists, and the place where each is given first.
+
+mod named;
+mod once;
+mod places;
+
+pub use named::Named;
+pub use once::{are_apart, holds_each_once};
+pub use places::{Places, first_places, places_of};

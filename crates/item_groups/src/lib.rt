@@ -1,6 +1,0 @@
-//! Items that have keys, in the order of their keys, and grouped by them in an ordered map.
-#![tactic(auto)]
-
-mod groups;
-
-pub use groups::{group, in_order};

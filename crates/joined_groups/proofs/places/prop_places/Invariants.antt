@@ -1,6 +1,0 @@
-use Rattle.joined_groups.specs.Places.{HavePlaces, IsPropOfKey}
-use Rattle.joined_groups.proofs.places.prop_places.Given as goal
-
--- the properties so far have places
-abbrev pub invariant-loop-place : goal.invariant-loop-place
-invariant-loop-place l = HavePlaces (IsPropOfKey l.model) l.place 0 l.places

@@ -1,8 +1,0 @@
-//! The least of what is wrong: found item by item over lists, and joined from several searches.
-#![tactic(auto)]
-
-mod finder;
-mod least;
-
-pub use finder::{Finder, first_among};
-pub use least::earlier;

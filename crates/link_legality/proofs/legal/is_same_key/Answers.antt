@@ -1,8 +1,0 @@
-use Rattle.std.proofs.Common.{sym, ◌∙◌}
-use Rattle.link_legality.proofs.Holding.{tied_keys}
-use Rattle.link_legality.proofs.legal.is_same_key.Goals as goal
-
-pub returns : goal.returns
-returns c =
-    let tied = tied_keys c.args.one.now c.args.other.now in
-    (λ is. tied.0 (sym c.eq.ensures ∙ is), λ same. c.eq.ensures ∙ tied.1 same)

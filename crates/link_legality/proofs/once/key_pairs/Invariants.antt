@@ -1,7 +1,0 @@
-use Rattle.std.proofs.Common.{◌≡◌, map, take}
-use Rattle.link_legality.specs.Once.{link_of}
-use Rattle.link_legality.proofs.once.key_pairs.Given as goal
-
--- the keys of the links that were passed
-abbrev pub invariant-loop-link : goal.invariant-loop-link
-invariant-loop-link l = map link_of l.pairs.items ≡ take l.link-index l.links

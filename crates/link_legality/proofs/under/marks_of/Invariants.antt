@@ -1,8 +1,0 @@
-use Rattle.std.proofs.Common.{false, replicate}
-use Rattle.edm_types.specs.Marks.{AddsMarks}
-use Rattle.link_legality.proofs.Marked.{PassedTo}
-use Rattle.link_legality.proofs.under.marks_of.Given as goal
-
--- the places of the types that were passed are marked
-abbrev pub invariant-loop-t : goal.invariant-loop-t
-invariant-loop-t l = AddsMarks (PassedTo l.types l.t-index) (replicate l.count false) l.marks.items

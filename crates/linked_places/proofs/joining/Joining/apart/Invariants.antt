@@ -1,6 +1,0 @@
-use Rattle.linked_places.specs.Joinings.{IsAlone}
-use Rattle.linked_places.proofs.joining.Joining.apart.Given as goal
-
--- each place so far is in a class of its own
-abbrev pub invariant-loop-place : goal.invariant-loop-place
-invariant-loop-place l = IsAlone l.place l.joining

@@ -1,7 +1,0 @@
-use Rattle.std.proofs.Common.{take}
-use Rattle.linked_places.specs.Joinings.{AreNumbered}
-use Rattle.linked_places.proofs.joining.renumber.Given as goal
-
--- the places so far have the number
-abbrev pub invariant-loop-place : goal.invariant-loop-place
-invariant-loop-place l = AreNumbered l.number (take l.place-index l.places) l.initial.numbers.items l.numbers.items

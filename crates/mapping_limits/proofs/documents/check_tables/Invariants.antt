@@ -1,7 +1,0 @@
-use Rattle.std.proofs.Common.{◌≡◌, [], flat_map, take}
-use Rattle.mapping_limits.specs.Checked.{of_table}
-use Rattle.mapping_limits.proofs.documents.check_tables.Given as goal
-
--- none of the tables so far passes the limit
-abbrev pub invariant-loop-table : goal.invariant-loop-table
-invariant-loop-table l = flat_map of_table (take l.table-index l.tables) ≡ []

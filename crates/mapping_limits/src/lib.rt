@@ -1,9 +1,0 @@
-//! The limits of a mapping: the first that is passed.
-#![tactic(auto)]
-
-mod by_cells;
-mod documents;
-mod first;
-mod passed;
-
-pub use first::first_limit;

@@ -1,0 +1,8 @@
+use Rattle.std.proofs.Common.{[]}
+use Rattle.layouts.specs.declared.rule.Rule.TheVariants.{Corresponds}
+use Rattle.layouts.specs.rule_places.Places.{IsAt}
+use Rattle.layouts.proofs.rule_places.Rules.{least_where}
+use Rattle.msl_checks.proofs.msl_written.pairs.UnfitFinderRawPairFault.find.Goals as goal
+
+pub returns : goal.returns
+returns c = least_where (IsAt Corresponds []) c.in_ok-found.found c.is_unfit-is_unfit.ensures c.in_ok-found.ensures

@@ -1,7 +1,0 @@
-use Rattle.std.proofs.Common.{◌≡◌, List, ℕ, take}
-use Rattle.msl_link_rules.specs.WrittenColumns.{end_in, first_writing}
-use Rattle.msl_link_rules.proofs.columns.WrittenColumns.of.Given as goal
-
--- the columns of the ends that were passed have their ends
-abbrev pub invariant-loop-place : goal.invariant-loop-place
-invariant-loop-place l = (col : List ℕ) → end_in l.columns col ≡ first_writing (take l.place l.ends) col

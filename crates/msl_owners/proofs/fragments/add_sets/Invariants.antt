@@ -1,9 +1,0 @@
-use Rattle.std.proofs.Common.{take}
-use Rattle.std.specs.List.{enumerate_from, flat_map}
-use Rattle.msl_owners.specs.AllWriters.{Adds}
-use Rattle.msl_owners.proofs.Writers.{of_set}
-use Rattle.msl_owners.proofs.fragments.add_sets.Given as goal
-
--- what the mappings of entity sets that were passed write is added
-abbrev pub invariant-loop-place : goal.invariant-loop-place
-invariant-loop-place l = Adds l.initial.all l.all (flat_map (of_set l.names.model.now l.names.store.now) (take l.place (enumerate_from 0 l.raw.sets)))

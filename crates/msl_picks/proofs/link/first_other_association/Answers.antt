@@ -1,9 +1,0 @@
-use Rattle.std.proofs.Common.{◌∷◌, [], codes}
-use Rattle.json_form.specs.declared.pointer.Step.TheVariants.{Member}
-use Rattle.layouts.specs.declared.rule.Rule.TheVariants.{MappedAssociation}
-use Rattle.rule_places.specs.Places.{IsAt}
-use Rattle.rule_places.proofs.Rules.{least_where}
-use Rattle.msl_picks.proofs.link.first_other_association.Goals as goal
-
-pub returns : goal.returns
-returns c = λ i. least_where (IsAt MappedAssociation (Member (codes "TypeName") ∷ [])) c.in_ok-found.found c.is_of_other-is_other.ensures c.in_ok-found.ensures

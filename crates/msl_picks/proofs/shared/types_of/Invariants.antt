@@ -1,7 +1,0 @@
-use Rattle.std.proofs.Common.{◌≡◌, map, take}
-use Rattle.msl_picks.specs.PickedProps.{pick_type}
-use Rattle.msl_picks.proofs.shared.types_of.Given as goal
-
--- the types of the picks that were passed
-abbrev pub invariant-loop-pick : goal.invariant-loop-pick
-invariant-loop-pick l = l.types.items ≡ map (pick_type l.names.model.now) (take l.pick-index l.picks)

@@ -1,8 +1,0 @@
--- The places of names, as they are known.
-use Rattle.std.specs.Prelude.{ℕ, List, Option}
-use Rattle.std.specs.BTreeMap.{get_by_text}
-use Rattle.name_places.specs.declared.places.Places.{Places}
-
--- the place that is known of a name
-abbrev pub place_in : Places → List ℕ → Option ℕ
-place_in places name = get_by_text places.by_name name

@@ -1,0 +1,7 @@
+use Rattle.std.proofs.Common.{◌≡◌, ◌++◌, map, take}
+use Rattle.query_cases.specs.case_index.Codes.{columns_in, told_number}
+use Rattle.query_cases.proofs.case_index.codes.add_told.Given as goal
+
+-- the numbers of the columns so far have come behind
+abbrev pub invariant-loop-column : goal.invariant-loop-column
+invariant-loop-column l = l.code.items ≡ l.initial.code.items ++ map (told_number l.cells) (take l.column-index (columns_in l.telling l.fn.table))

@@ -1,0 +1,5 @@
+//! Which values a cell of a case may hold.
+
+mod holding;
+
+pub use holding::may_hold;

@@ -1,0 +1,11 @@
+//! How an entity is read from the rows at its key by a case of its set.
+
+mod firsts;
+mod laws;
+mod making;
+mod meeting;
+mod reading;
+mod shown;
+
+pub use laws::met_cases_are_read;
+pub use reading::{CellPlace, Reading, Source, Twins};

@@ -1,0 +1,12 @@
+//! The cases of regions: made, indexed, met by rows, and read back.
+#![tactic(auto)]
+
+mod case_cells;
+mod case_index;
+mod case_making;
+mod case_reading;
+
+pub use case_cells::may_hold;
+pub use case_index::CaseIndex;
+pub use case_making::{cases_of, link_case};
+pub use case_reading::{CellPlace, Reading, Source, Twins, met_cases_are_read};

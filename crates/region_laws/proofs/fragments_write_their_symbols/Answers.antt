@@ -1,8 +1,0 @@
-use Rattle.region_laws.proofs.Concrete.{entity_concrete, link_concrete}
-use Rattle.region_laws.proofs.fragments_write_their_symbols.Goals as goal
-
-pub returns-clause-entity : goal.returns-clause-entity
-returns-clause-entity c = entity_concrete
-
-pub returns-clause-link : goal.returns-clause-link
-returns-clause-link c = link_concrete

@@ -1,8 +1,0 @@
-use Rattle.region_laws.proofs.pattern.Shown.{link_shown, shown}
-use Rattle.region_laws.proofs.pattern_laws.shown_is_decided.Goals as goal
-
-pub returns-clause-fragments : goal.returns-clause-fragments
-returns-clause-fragments c = shown
-
-pub returns-clause-links : goal.returns-clause-links
-returns-clause-links c = link_shown

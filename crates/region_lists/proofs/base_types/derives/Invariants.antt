@@ -1,7 +1,0 @@
-use Rattle.std.proofs.Common.{◌≡◌, ◌-◌}
-use Rattle.sound_demand.specs.Deriving.{derives, is_under}
-use Rattle.region_lists.proofs.base_types.derives.Given as goal
-
--- the answer is that of the type to which the walk has come
-abbrev pub invariant-loop : goal.invariant-loop
-invariant-loop l = derives l.fn.model l.fn.t l.fn.u ≡ is_under l.model (l.end - l.counter) l.at l.u

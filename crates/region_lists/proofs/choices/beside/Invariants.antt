@@ -1,7 +1,0 @@
-use Rattle.std.proofs.Common.{◌≡◌, take}
-use Rattle.region_lists.specs.Listing.{beside}
-use Rattle.region_lists.proofs.choices.beside.Given as goal
-
--- those of the lists so far have come
-abbrev pub invariant-loop-first : goal.invariant-loop-first
-invariant-loop-first g l = l.lists ≡ beside (take l.first-index l.first-items) l.seconds

@@ -1,7 +1,0 @@
-use Rattle.std.proofs.Common.{◌≡◌, ◌++◌, flat_map, map, take}
-use Rattle.region_lists.specs.Listing.{region_with}
-use Rattle.region_lists.proofs.listing.add_chosen.Given as goal
-
--- those with the atoms so far have come
-abbrev pub invariant-loop-atoms : goal.invariant-loop-atoms
-invariant-loop-atoms l = l.regions ≡ l.initial.regions ++ flat_map (λ atoms. map (region_with l.set l.ty atoms) l.linked) (take l.atoms-index l.atoms-items)

@@ -1,7 +1,0 @@
-use Rattle.std.proofs.Common.{◌≡◌, ◌++◌, map, take}
-use Rattle.region_lists.specs.Listing.{region_with}
-use Rattle.region_lists.proofs.listing.add_linked.Given as goal
-
--- those with the links so far have come
-abbrev pub invariant-loop-assocs : goal.invariant-loop-assocs
-invariant-loop-assocs l = l.regions ≡ l.initial.regions ++ map (region_with l.set l.ty l.atoms) (take l.assocs-index l.linked)

@@ -1,0 +1,5 @@
+use Rattle.regions.proofs.region_laws.Domains.{decides_domains}
+use Rattle.regions.proofs.region_laws.domains_are_decided.Goals as goal
+
+pub returns : goal.returns
+returns c = record { decided = decides_domains }

@@ -1,0 +1,19 @@
+use Rattle.regions.proofs.region_laws.Hosting.{hosted_are}
+use Rattle.regions.proofs.region_laws.Regions.{flag_none, flag_one, region_among, region_holds, region_only}
+use Rattle.regions.proofs.region_laws.regions_part_entities.Goals as goal
+
+pub returns-clause-hosted : goal.returns-clause-hosted
+returns-clause-hosted c = hosted_are
+
+pub returns-clause-held : goal.returns-clause-held
+returns-clause-held c basis is state legal s set is_set entity stands links hosted =
+    (region_among basis is state legal s set is_set entity stands links hosted, region_holds basis is state legal s set is_set entity stands links hosted)
+
+pub returns-clause-only : goal.returns-clause-only
+returns-clause-only c = region_only
+
+pub returns-clause-one : goal.returns-clause-one
+returns-clause-one c = flag_one
+
+pub returns-clause-none : goal.returns-clause-none
+returns-clause-none c = flag_none

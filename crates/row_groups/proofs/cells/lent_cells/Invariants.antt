@@ -1,8 +1,0 @@
-use Rattle.std.proofs.Common.{◌≡◌, take}
-use Rattle.edm_types.specs.Rows.{cells_of}
-use Rattle.row_groups.specs.Shown.{shown_cells}
-use Rattle.row_groups.proofs.cells.lent_cells.Given as goal
-
--- the cells of the columns that were passed are lent
-abbrev pub invariant-loop-col : goal.invariant-loop-col
-invariant-loop-col l = shown_cells l.cells ≡ cells_of l.row (take l.col-index l.cols)

@@ -1,8 +1,0 @@
-//! Rules that speak of what lists hold: where they are broken, and the least of such faults.
-#![tactic(auto)]
-
-mod lists;
-mod sites;
-
-pub use lists::{behind, behind_member, fault_at_item, fault_on_item, first_at, first_in_list};
-pub use sites::{fault_at, fault_here_if, fault_if};

@@ -1,5 +1,0 @@
-use Rattle.same_conflicts.proofs.Lists.{no_item}
-use Rattle.same_conflicts.proofs.absent.leaves_no_row.Goals as goal
-
-pub returns : goal.returns
-returns c = no_item c.args.one.now.pattern.rows c.is_empty.result c.is_empty.ensures

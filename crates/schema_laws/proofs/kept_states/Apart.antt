@@ -1,0 +1,75 @@
+-- Where no legal state fails and no association is independent, legal states with the same tables are the same.
+use Rattle.std.proofs.Common.{◌≡◌, ⊎_elim, inl, ◌<◌, ◌≤◌, List, [], length, Contains, IsPermutation, refl, sym, subst, ◌∙◌}
+use Rattle.std.proofs.lemmas.Bool.{cases_lt}
+use Rattle.std.proofs.lemmas.List.Elements.{All-contains}
+use Rattle.std.proofs.lemmas.List.Sorted.{IsPermutation-refl, IsPermutation-sym, Contains-permutation}
+use Rattle.emc_base.proofs.Lists.{item_at}
+use Rattle.round_trip.specs.Words.{AreSameTables, Assoc, AssocId, At, Entity, EntitySet, IsIndependent, IsLegal, IsLink, IsSameState, Keeps, RoundTrips, Schema, SetId, State, Tables, TablesAre, entities_in, key_of, links_in, place_at, rows_in}
+use Rattle.round_trip.specs.declared.FailKind.TheVariants as kind
+use Rattle.round_trip.specs.soundness.Mappings.{IsSoundSchema}
+use Rattle.schema_laws.proofs.sound_demand.Kept.{all_stored}
+use Rattle.schema_laws.proofs.state_demand.Permutations.{same_members_permute}
+use Rattle.schema_laws.proofs.kept_states.Entities.{apart_by_key, none_stands, past_none, stands_or_not}
+
+-- two empty lists are the same
+both_none : {X : Type 0} (xs ys : List X) → xs ≡ [] → ys ≡ [] → IsPermutation xs ys
+both_none xs ys no_xs no_ys = subst (IsPermutation xs) (no_xs ∙ sym no_ys) (IsPermutation-refl xs)
+
+module _ (schema : Schema) (round_trips : RoundTrips schema) where
+  -- a set of the model holds each entity of the one state in the other too
+  stands_too : (c d : State) (s t : Tables) → IsLegal schema.model c → IsLegal schema.model d → TablesAre schema c s → TablesAre schema d t → AreSameTables s t
+      → (u : SetId) (set : EntitySet) → At schema.model.sets u.index set → (entity : Entity) → Contains (entities_in c u) entity → Contains (entities_in d u) entity
+  stands_too c d s t is_c is_d are_c are_d same u set is_set entity has = ⊎_elim
+      (λ there. there)
+      (λ (not_there : ¬ Contains (entities_in d u) entity). absurd (round_trips kind.Same (place_at set.name (key_of schema.model entity) []) c d (record {
+        legal = is_c;
+        fails = record {
+          tables = s;
+          other_tables = t;
+          defined = are_c;
+          other_defined = are_d;
+          same_tables = same;
+          other_legal = is_d;
+          different = λ (alike : IsSameState c d). not_there (Contains-permutation (entities_in c u) (entities_in d u) entity (alike.entities u) has);
+          differ = inl (u, set, key_of schema.model entity, is_set, inl (entity, has, refl, not_there), refl);
+        };
+      })))
+      (stands_or_not (entities_in d u) entity)
+
+  module _ (no_links : (a : AssocId) (assoc : Assoc) → At schema.model.assocs a.index assoc → ¬ IsIndependent assoc) where
+    -- a legal state has no links
+    links_none : (state : State) → IsLegal schema.model state → (a : AssocId) → links_in state a ≡ []
+    links_none state legal a = ⊎_elim
+        (λ (within : a.index < length schema.model.assocs).
+        let found = item_at schema.model.assocs a.index within in
+        none_stands (links_in state a) (λ link has.
+        no_links a found.0 found.1 (All-contains (IsLink schema.model found.0) (links_in state a) link (legal.shape.links a found.0 found.1) has).independent))
+        (λ (past : length schema.model.assocs ≤ a.index). past_none state.links (length schema.model.assocs) a.index legal.shape.assocs past)
+        (cases_lt a.index (length schema.model.assocs))
+
+    module _ (c d : State) (s t : Tables) (is_c : IsLegal schema.model c) (is_d : IsLegal schema.model d)
+        (are_c : TablesAre schema c s) (are_d : TablesAre schema d t) (same : AreSameTables s t) where
+      -- a set of the model holds the same entities in both
+      same_in_set : (u : SetId) (set : EntitySet) → At schema.model.sets u.index set → IsPermutation (entities_in c u) (entities_in d u)
+      same_in_set u set is_set = same_members_permute (entities_in c u) (entities_in d u)
+          (apart_by_key (key_of schema.model) (entities_in c u) (is_c.sets u set is_set).keys)
+          (apart_by_key (key_of schema.model) (entities_in d u) (is_d.sets u set is_set).keys)
+          (stands_too c d s t is_c is_d are_c are_d same u set is_set)
+          (stands_too d c t s is_d is_c are_d are_c (λ table. IsPermutation-sym (rows_in s table) (rows_in t table) (same table)) u set is_set)
+
+      -- and past these both hold none
+      same_entities : (u : SetId) → IsPermutation (entities_in c u) (entities_in d u)
+      same_entities u = ⊎_elim
+          (λ (within : u.index < length schema.model.sets). let found = item_at schema.model.sets u.index within in same_in_set u found.0 found.1)
+          (λ (past : length schema.model.sets ≤ u.index). both_none (entities_in c u) (entities_in d u)
+          (past_none c.entities (length schema.model.sets) u.index is_c.shape.sets past)
+          (past_none d.entities (length schema.model.sets) u.index is_d.shape.sets past))
+          (cases_lt u.index (length schema.model.sets))
+
+      -- legal states with the same tables are the same
+      pub same_state : IsSameState c d
+      same_state = record { entities = same_entities; links = λ a. both_none (links_in c a) (links_in d a) (links_none c is_c a) (links_none d is_d a) }
+
+    -- each legal state is stored, and told apart from the others by its tables
+    pub keeps : IsSoundSchema schema → Keeps schema
+    keeps sound = record { round_trips = round_trips; every_state = record { stored = all_stored schema sound round_trips; told_apart = same_state } }

@@ -1,0 +1,3 @@
+pub mod sound_types
+pub mod state_demand
+pub mod sound_demand

@@ -1,7 +1,0 @@
-use Rattle.round_trip.specs.Words.{key_of}
-use Rattle.breach_order.proofs.Apart.{ApartTo}
-use Rattle.set_legality.proofs.legal.are_apart.Given as goal
-
--- of the entities that were passed none has the key of one before it
-abbrev pub invariant-loop-i : goal.invariant-loop-i
-invariant-loop-i l = ApartTo (key_of l.model) l.entities l.i

@@ -1,8 +1,0 @@
-use Rattle.std.proofs.Common.{length, replicate, false}
-use Rattle.edm_types.specs.Marks.{AddsMarks}
-use Rattle.set_legality.proofs.Marking.{HasPlace}
-use Rattle.set_legality.proofs.types.under_types.Given as goal
-
--- the types that were passed are marked
-abbrev pub invariant-loop-ty : goal.invariant-loop-ty
-invariant-loop-ty l = AddsMarks (HasPlace l.list l.ty-index) (replicate (length l.model.types) false) l.marks.items

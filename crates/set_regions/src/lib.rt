@@ -1,6 +1,0 @@
-//! The regions of all entity sets.
-#![tactic(auto)]
-
-mod all_regions;
-
-pub use all_regions::regions_of_sets;

@@ -1,5 +1,0 @@
-use Rattle.sound_examples.proofs.BrokenStores as broken
-use Rattle.sound_examples.proofs.broken_stores_are_not_sound.Goals as goal
-
-pub returns : goal.returns
-returns c = record { key = broken.no_optional_key; names = broken.no_one_name; itself = broken.no_to_itself; whole = broken.no_to_half }

@@ -1,5 +1,0 @@
-use Rattle.sound_types.proofs.Once.{props_once}
-use Rattle.sound_types.proofs.a_sound_type_has_each_property_once.Goals as goal
-
-pub returns : goal.returns
-returns c = record { once = λ model t sound. props_once model sound t }

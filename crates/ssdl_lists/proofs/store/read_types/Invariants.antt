@@ -1,8 +1,0 @@
-use Rattle.std.proofs.Common.{◌≡◌, map, take}
-use Rattle.serde_json.specs.View.{view}
-use Rattle.ssdl_lists.specs.RawStore.{raw_table}
-use Rattle.ssdl_lists.proofs.store.read_types.Given as goal
-
--- the types that were passed are read
-abbrev pub invariant-loop-item : goal.invariant-loop-item
-invariant-loop-item l = l.types ≡ map (λ item. raw_table (view item)) (take l.item-index l.item-items)

@@ -1,5 +1,0 @@
-use Rattle.rule_places.proofs.Rules.{least_where}
-use Rattle.ssdl_rules.proofs.keys.first_table_key_fault.Goals as goal
-
-pub returns : goal.returns
-returns c = least_where _ c.in_ok-found.found c.breaks_key_of.ensures c.in_ok-found.ensures

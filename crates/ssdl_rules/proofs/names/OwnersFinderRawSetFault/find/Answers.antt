@@ -1,5 +1,0 @@
-use Rattle.rule_places.proofs.Rules.{least_where}
-use Rattle.ssdl_rules.proofs.names.OwnersFinderRawSetFault.find.Goals as goal
-
-pub returns : goal.returns
-returns c = least_where _ c.in_ok-found.found c.has_type_of_other-is_broken.ensures c.in_ok-found.ensures

@@ -1,5 +1,0 @@
-use Rattle.ssdl_sound.proofs.SoundStores.{sound_store}
-use Rattle.ssdl_sound.proofs.a_store_that_breaks_no_rule_is_sound.Goals as goal
-
-pub returns : goal.returns
-returns c = record { sound = sound_store }

@@ -1,6 +1,0 @@
-use Rattle.std.proofs.Common.{refl}
-use Rattle.ssdl_sound.proofs.ShelvesKeep.{shelves_keep}
-use Rattle.ssdl_sound.proofs.shelves_are_meant.Goals as goal
-
-pub returns : goal.returns
-returns c = record { meant = refl; keeps = shelves_keep }

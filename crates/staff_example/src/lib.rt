@@ -1,6 +1,0 @@
-//! A small sound model and a store, for the tests of crates that look names up.
-#![tactic(auto)]
-
-mod firm;
-
-pub use firm::{staff, staff_store};

@@ -1,8 +1,0 @@
-use Rattle.state_demand.proofs.ByRows.{fragment_by_rows, link_fragment_by_rows}
-use Rattle.state_demand.proofs.agreement_is_by_rows.Goals as goal
-
-pub returns-clause-fragments : goal.returns-clause-fragments
-returns-clause-fragments c = fragment_by_rows
-
-pub returns-clause-links : goal.returns-clause-links
-returns-clause-links c = link_fragment_by_rows

@@ -1,9 +1,0 @@
-use Rattle.state_demand.proofs.NoClash.{Decides-no_clash}
-use Rattle.state_demand.proofs.ReadBack.{no_clash_from_none}
-use Rattle.state_demand.proofs.clash_is_decided.Goals as goal
-
-pub returns-clause-decided : goal.returns-clause-decided
-returns-clause-decided c = Decides-no_clash
-
-pub returns-clause-shown : goal.returns-clause-shown
-returns-clause-shown c = no_clash_from_none

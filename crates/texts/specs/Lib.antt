@@ -1,0 +1,2 @@
+pub mod case_texts
+pub mod command_texts

@@ -1,0 +1,77 @@
+-- Items at places of lists that are joined, and of lists of choices.
+use Rattle.std.proofs.Common.{◌≡◌, ◌+◌, ◌*◌, ℕ, zero, suc, List, [], ◌∷◌, ◌++◌, map, flat_map, length, option_map, refl, sym, ap, subst, ◌∙◌, suc-mul, zero-mul, zero-add, add_comm, arith}
+use Rattle.std.proofs.lemmas.List.{length-append, length-map}
+use Rattle.std.proofs.lemmas.List.Concat.{flat_map-append}
+use Rattle.std.proofs.lemmas.Option.{slice_get-map}
+use Rattle.emc_base.specs.Lists.{At}
+use Rattle.regions.specs.Lists.{choices}
+use Rattle.regions.specs.region_laws.Counting.{product_of}
+
+module _ {X : Type 0} where
+  -- with a list behind it, and with one before it
+  pub at_front : (xs ys : List X) (j : ℕ) (y : X) → At xs j y → At (xs ++ ys) j y
+  at_front [] ys j y here = cc
+  at_front (x ∷ xs) ys zero y here = here
+  at_front (x ∷ xs) ys (suc j) y here = at_front xs ys j y here
+
+  pub at_behind : (xs ys : List X) (j : ℕ) (y : X) → At ys j y → At (xs ++ ys) (length xs + j) y
+  at_behind [] ys j y here = let P : ℕ → Type 0 = λ k. At ys k y in subst P (sym (zero-add j)) here
+  at_behind (x ∷ xs) ys j y here =
+      let size : suc (length xs + j) ≡ length (x ∷ xs) + j = omega arith in
+      let P : ℕ → Type 0 = λ k. At (x ∷ (xs ++ ys)) k y in
+      subst P size (at_behind xs ys j y here)
+
+-- the image of an item
+pub at_image : {X Y : Type 0} (f : X → Y) (xs : List X) (i : ℕ) (x : X) → At xs i x → At (map f xs) i (f x)
+at_image f xs i x here = slice_get-map f xs i ∙ ap (option_map f) here
+
+module _ {X Y : Type 0} (f : X → List Y) where
+  -- what stands in the list of an item, behind the lists of those before
+  pub at_joined : (before after : List X) (x : X) (j : ℕ) (y : Y) → At (f x) j y → At (flat_map f (before ++ x ∷ after)) (length (flat_map f before) + j) y
+  at_joined before after x j y here =
+      let P : List Y → Type 0 = λ ys. At ys (length (flat_map f before) + j) y in
+      subst P (sym (flat_map-append f before (x ∷ after)))
+      (at_behind (flat_map f before) (f x ++ flat_map f after) j y (at_front (f x) (flat_map f after) j y here))
+
+  module _ (n : ℕ) (each : (x : X) → length (f x) ≡ n) where
+    -- the same where the lists have one length
+    pub at_even : (xs : List X) (i j : ℕ) (x : X) (y : Y) → At xs i x → At (f x) j y → At (flat_map f xs) (i * n + j) y
+    at_even [] i j x y at_i at_j = cc
+    at_even (z ∷ xs) zero j x y at_i at_j =
+        let same : z ≡ x = cc in
+        let P : X → Type 0 = λ one. At (f one) j y in
+        let Q : ℕ → Type 0 = λ k. At (f z ++ flat_map f xs) k y in
+        let none : j ≡ zero * n + j = sym (ap (λ m. m + j) (zero-mul n) ∙ zero-add j) in
+        subst Q none (at_front (f z) (flat_map f xs) j y (subst P (sym same) at_j))
+    at_even (z ∷ xs) (suc i) j x y at_i at_j =
+        let later = at_behind (f z) (flat_map f xs) (i * n + j) y (at_even xs i j x y at_i at_j) in
+        let Q : ℕ → Type 0 = λ k. At (f z ++ flat_map f xs) k y in
+        let more : suc i * n ≡ i * n + n = suc-mul i n in
+        let rest : ℕ = i * n in
+        let whole : ℕ = suc i * n in
+        let size : length (f z) ≡ n = each z in
+        let place : length (f z) + (rest + j) ≡ whole + j = omega (arith, more, size) in
+        subst Q place later
+
+    pub length_even : (xs : List X) → length (flat_map f xs) ≡ length xs * n
+    length_even [] = sym (zero-mul n)
+    length_even (x ∷ xs) =
+        let both : length (f x) + length (flat_map f xs) ≡ n + length xs * n = λ k. each x k + length_even xs k in
+        length-append (f x) (flat_map f xs) ∙ both ∙ add_comm n (length xs * n) ∙ sym (suc-mul (length xs) n)
+
+module _ {X : Type 0} (xs : List X) (rest : List (List X)) where
+  -- the number of choices, with one list more
+  pub length_choices : length (choices (xs ∷ rest)) ≡ length xs * length (choices rest)
+  length_choices = length_even (λ x. map (λ others. x ∷ others) (choices rest)) (length (choices rest)) (λ x. length-map (choices rest) (λ others. x ∷ others)) xs
+
+  -- a choice by the places of its first item and of the others
+  pub at_choice : (i j : ℕ) (x : X) (choice : List X) → At xs i x → At (choices rest) j choice
+      → At (choices (xs ∷ rest)) (i * length (choices rest) + j) (x ∷ choice)
+  at_choice i j x choice at_i at_j =
+      at_even (λ one. map (λ others. one ∷ others) (choices rest)) (length (choices rest)) (λ one. length-map (choices rest) (λ others. one ∷ others)) xs i j x
+      (x ∷ choice) at_i (at_image (λ (others : List X). x ∷ others) (choices rest) j choice at_j)
+
+-- the number of choices, by the lengths of the lists
+pub choices_counted : {K X : Type 0} (f : K → List X) (ks : List K) → length (choices (map f ks)) ≡ product_of (map (λ k. length (f k)) ks)
+choices_counted f [] = refl
+choices_counted f (k ∷ ks) = length_choices (f k) (map f ks) ∙ ap (λ n. length (f k) * n) (choices_counted f ks)

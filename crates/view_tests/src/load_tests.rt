@@ -1,0 +1,4 @@
+//! Tests of query views, on mappings whose documents are read, over tables that are read from documents.
+
+#[cfg(test)]
+mod tests;

@@ -1,0 +1,154 @@
+ghost use Rattle.std.specs.Prelude.{◌≡◌, IfOk};
+ghost use Rattle.std.specs.Option.{option_copied};
+ghost use Rattle.cells.specs.Parts.{AreParts};
+ghost use Rattle.regions.specs.Atoms.{atom_at};
+ghost use Rattle.region_states.specs.defaults.Defaults.{declared_value, default_part, default_value, one_value, other_value, some_value, value_by};
+ghost use Rattle.cells.specs.region_basis.BasisOf.{basis_of};
+
+use crate::region_values::declared::{
+    constants_of, end_at, is_among, is_dependent, key_props, place_in, props_of,
+};
+use crate::region_values::free::{first_free, next_free};
+use crate::region_values::fresh::{DEPENDENT, LOST, PARTNER_KEY, PARTNER_PARTS, fresh, fresh_at};
+use cells::Parts;
+use condition_logic::{Atom, AtomOf};
+use edm_types::Prop;
+use emc_base::{AssocId, Memory, PropId, TypeId, Value};
+use regions::Region;
+use std::alloc::Global;
+
+/// The usual value of a property in entities of a region; null where there is no such property. `Memory` comes where memory ran out.
+pub fn default_value(
+    alloc: Global,
+    parts: &Parts<'_>,
+    region: &Region,
+    property: PropId,
+) -> Result<Value, Memory>
+    requires { AreParts parts.now }
+    ensures { IfOk result (λ value. value ≡ default_value (basis_of parts.now) region.now property) }
+{
+    match parts.model.props.get(property.index as usize) {
+        Some(declared) => declared_value(alloc, parts, region, property, declared),
+        None => Ok(Value::Null),
+    }
+}
+
+// The same by its declaration: of a part of the key by its place there, else as its atom tells.
+fn declared_value(
+    alloc: Global,
+    parts: &Parts<'_>,
+    region: &Region,
+    property: PropId,
+    declared: &Prop,
+) -> Result<Value, Memory>
+    requires { AreParts parts.now }
+    ensures { IfOk result (λ value. value ≡ declared_value (basis_of parts.now) region.now property declared.now) }
+{
+    let key = key_props(parts.model, region.ty);
+    if is_among(property, key) {
+        return fresh(alloc, &declared.kind, place_in(property, key) as u64);
+    }
+    let told = told_atom(region.atoms.as_slice(), property);
+    value_by(alloc, parts, region.ty, property, declared, told)
+}
+
+/// The atom that is told of a property.
+pub fn told_atom(atoms: &[AtomOf], property: PropId) -> Option<&Atom>
+    ensures { option_copied result ≡ atom_at atoms.now property }
+{
+    match symbolic_rows::atom_at(atoms, property) {
+        Some(told) => Some(&told.atom),
+        None => None,
+    }
+}
+
+// The value that the atom tells; where none is told, null if it may be.
+fn value_by(
+    alloc: Global,
+    parts: &Parts<'_>,
+    ty: TypeId,
+    property: PropId,
+    declared: &Prop,
+    told: Option<&Atom>,
+) -> Result<Value, Memory>
+    requires { AreParts parts.now }
+    ensures { IfOk result (λ value. value ≡ value_by (basis_of parts.now) ty property declared.now (option_copied told.entry)) }
+{
+    match told {
+        Some(Atom::Null) => Ok(Value::Null),
+        Some(Atom::Is(one)) => one.copy(alloc),
+        Some(Atom::Other) => some_value(alloc, parts, ty, property, declared),
+        None if declared.nullable => Ok(Value::Null),
+        None => some_value(alloc, parts, ty, property, declared),
+    }
+}
+
+// A value that isn't null and no constant: of a dependent property by its place, else the first free one.
+fn some_value(
+    alloc: Global,
+    parts: &Parts<'_>,
+    ty: TypeId,
+    property: PropId,
+    declared: &Prop,
+) -> Result<Value, Memory>
+    requires { AreParts parts.now }
+    ensures { IfOk result (λ value. value ≡ some_value (basis_of parts.now) ty property declared.now) }
+{
+    if is_dependent(parts.model, property) {
+        let place = place_in(property, props_of(parts.model, ty));
+        return fresh(alloc, &declared.kind, DEPENDENT + place as u64);
+    }
+    first_free(alloc, &declared.kind, constants_of(parts, property))
+}
+
+/// A value that isn't null of a property that may have several. `Memory` comes where memory ran out.
+pub fn one_value(
+    alloc: Global,
+    parts: &Parts<'_>,
+    property: PropId,
+    declared: &Prop,
+) -> Result<Value, Memory>
+    requires { AreParts parts.now }
+    ensures { IfOk result (λ value. value ≡ one_value (basis_of parts.now) property declared.now) }
+{
+    if is_dependent(parts.model, property) {
+        return fresh(alloc, &declared.kind, LOST);
+    }
+    first_free(alloc, &declared.kind, constants_of(parts, property))
+}
+
+/// Another one.
+pub fn other_value(
+    alloc: Global,
+    parts: &Parts<'_>,
+    property: PropId,
+    declared: &Prop,
+) -> Result<Value, Memory>
+    requires { AreParts parts.now }
+    ensures { IfOk result (λ value. value ≡ other_value (basis_of parts.now) property declared.now) }
+{
+    if is_dependent(parts.model, property) {
+        return fresh(alloc, &declared.kind, LOST + 1);
+    }
+    next_free(alloc, &declared.kind, constants_of(parts, property))
+}
+
+/// The usual value of a part of the key of the partner by an association, at its first end or at its second; null where there is no
+/// such association or no such property. `Memory` comes where memory ran out.
+pub fn default_part(
+    alloc: Global,
+    parts: &Parts<'_>,
+    assoc: AssocId,
+    first: bool,
+    property: PropId,
+) -> Result<Value, Memory>
+    ensures { IfOk result (λ value. value ≡ default_part (basis_of parts.now) assoc first property) }
+{
+    let Some(declared) = parts.model.assocs.get(assoc.index as usize) else {
+        return Ok(Value::Null);
+    };
+    let key = key_props(parts.model, end_at(first, declared).ty);
+    let place = place_in(property, key) as u64;
+    let index = PARTNER_KEY + PARTNER_PARTS * u64::from(assoc.index) + place;
+    fresh_at(alloc, parts.model, property, index)
+}

@@ -1,0 +1,5 @@
+use Rattle.worked_examples.proofs.sound_examples.Lines.{sound}
+use Rattle.worked_examples.proofs.sound_examples.lines_are_sound.Goals as goal
+
+pub returns : goal.returns
+returns c = record { model = sound }

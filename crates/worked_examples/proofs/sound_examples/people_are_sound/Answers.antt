@@ -1,0 +1,7 @@
+use Rattle.worked_examples.proofs.sound_examples.PeopleMapped.{people_sound}
+use Rattle.worked_examples.proofs.sound_examples.SoundStores as stores
+use Rattle.worked_examples.proofs.sound_examples.People.{sound}
+use Rattle.worked_examples.proofs.sound_examples.people_are_sound.Goals as goal
+
+pub returns : goal.returns
+returns c = record { model = sound; store = stores.people; schema = people_sound }

@@ -1,0 +1,5 @@
+use Rattle.worked_examples.proofs.sound_examples.SeatsMapped.{sound}
+use Rattle.worked_examples.proofs.sound_examples.seats_are_sound.Goals as goal
+
+pub returns : goal.returns
+returns c = record { schema = sound }
