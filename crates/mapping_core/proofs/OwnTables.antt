@@ -11,7 +11,7 @@ use Rattle.schema_laws.proofs.same_states.Reordered.{all_in_any_order}
 use Rattle.keyed_rows.proofs.row_differences.OfState.{free_not_demanded}
 use Rattle.case_laws.specs.Reading.{HasStateTables}
 use Rattle.table_files.proofs.table_legality.Kept.{no_breach}
-use Rattle.mapping_core.specs.Accepted.{IsAccepted}
+use Rattle.mapping_core.specs.Accepted.{IsAccepted, IsDecided}
 use Rattle.mapping_core.specs.Loads.{Loads}
 use Rattle.mapping_core.specs.GivesBack.{GivesBack}
 use Rattle.mapping_core.specs.declared.loading.LoadFault.{LoadFault}
@@ -43,8 +43,8 @@ module _ (schema : Schema) (state : State) (tables : Tables) (are : TablesAre sc
   own_tables = record { erased = tables; are_erased = record { shape = are.shape; rows = kept }; are = are }
 
   -- and legal
-  pub legal_tables : IsAccepted schema → IsLegal schema.model state → AreLegalTables schema.store tables
-  legal_tables accepted legal =
+  pub legal_tables : IsDecided schema → IsAccepted schema → IsLegal schema.model state → AreLegalTables schema.store tables
+  legal_tables decided accepted legal =
       let good = accepted.keeps.every_state.stored state legal in
       let same : AreSameTables good.tables tables = same_tables schema state good.tables tables good.defined are in
       let Keep : List ForeignKey → Type 0 = λ keys. All (KeepsForeignKey tables) keys in
@@ -57,7 +57,7 @@ module _ (schema : Schema) (state : State) (tables : Tables) (are : TablesAre sc
               domains = all_in_any_order (HasCellsInDomain table) (HasCellsInDomain table) (λ row holds. holds) (rows_in good.tables t) (rows_in tables t) (same t) rows.domains;
               keys = (are.rows t table here).once;
             };
-        keys = subst Keep (sym accepted.decided.keyless) (All-nil (KeepsForeignKey tables));
+        keys = subst Keep (sym decided.keyless) (All-nil (KeepsForeignKey tables));
       }
 
 -- loading legal tables of a state's own gives the state back, unless memory ran out

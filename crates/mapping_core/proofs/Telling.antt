@@ -19,7 +19,7 @@ use Rattle.keyed_rows.specs.row_differences.Differences.{IsFirstDifference}
 use Rattle.keyed_rows.specs.row_differences.SameButFree.{AreSameButFree}
 use Rattle.keyed_rows.specs.declared.row_differences.differences.Difference.{Difference}
 use Rattle.state_legality.proofs.Joined.{no_first_breach}
-use Rattle.mapping_core.specs.Accepted.{IsAccepted}
+use Rattle.mapping_core.specs.Accepted.{IsAccepted, IsDecided}
 use Rattle.query_views.specs.Answers.{StateOf}
 use Rattle.query_views.specs.declared.fault.StateFault.{StateFault}
 use Rattle.query_views.specs.declared.fault.StateFault.TheVariants as query
@@ -32,7 +32,7 @@ use Rattle.mapping_core.proofs.Comparing.{same_but_free}
 pub cells_decide : (parts : Parts) → AreParts parts → DecidesFree (schema_in parts) (is_free_in parts.cells.now)
 cells_decide parts are = record { tells = cells_tell parts are }
 
-module _ (parts : Parts) (accepted : IsAccepted (schema_in parts)) (are : AreParts parts) where
+module _ (parts : Parts) (form : IsDecided (schema_in parts)) (accepted : IsAccepted (schema_in parts)) (are : AreParts parts) where
   abbrev basis : Basis
   basis = basis_of parts
 
@@ -55,7 +55,7 @@ module _ (parts : Parts) (accepted : IsAccepted (schema_in parts)) (are : ArePar
 
     pub no_case : (place : Place) → IsFirstLack basis is_free tables place → HasNoStateBy (schema_in parts) tables (λ b f. IsFirstLack b f tables place)
     no_case place lack = none_by (λ b f. IsFirstLack b f tables place)
-        (λ state legal has. case_met basis is are.limits accepted.decided.alone accepted.round_trips is_free decides state legal tables has lack.s lack.key lack.lacks) lack
+        (λ state legal has. case_met basis is are.limits form.alone accepted.round_trips is_free decides state legal tables has lack.s lack.key lack.lacks) lack
 
     -- what the query views tell, where they tell no state
     pub lacks : (fault : StateFault) (result : Result State LoadFault) → IsErrAnd result (TellsLack fault) → StateOf basis is_free tables (Err fault)
@@ -70,7 +70,7 @@ module _ (parts : Parts) (accepted : IsAccepted (schema_in parts)) (are : ArePar
       pub illegal : (breach : Breach) → IsBreachOf (schema_in parts).model candidate breach → HasNoStateBy (schema_in parts) tables (TellsIllegal tables breach)
       illegal breach breaks = none_by (TellsIllegal tables breach)
           (λ state legal has. no_first_breach (schema_in parts).model candidate breach
-          (legal_too basis is are.limits accepted.decided.alone accepted.round_trips is_free decides tables candidate of_tables state legal has) breaks)
+          (legal_too basis is are.limits form.alone accepted.round_trips is_free decides tables candidate of_tables state legal has) breaks)
           (record { candidate = candidate; is = of_tables; breaks = breaks })
 
       module _ (legal : IsLegal (schema_in parts).model candidate) where
@@ -78,14 +78,14 @@ module _ (parts : Parts) (accepted : IsAccepted (schema_in parts)) (are : ArePar
             → ¬ AreSameButFree (schema_in parts).store is_free tables fresh → HasNoStateBy (schema_in parts) tables (TellsDifferent tables found)
         differs found fresh are_fresh first apart = none_by (TellsDifferent tables found)
             (λ state legal has. apart (same_but_free (schema_in parts) is_free decides tables state has fresh
-            (rows_same basis is are.limits accepted.decided.alone accepted.round_trips is_free decides tables candidate of_tables state legal has fresh are_fresh)))
+            (rows_same basis is are.limits form.alone accepted.round_trips is_free decides tables candidate of_tables state legal has fresh are_fresh)))
             (record { candidate = candidate; is = of_tables; legal = legal; fresh = fresh; are = are_fresh; first = first })
 
         pub loaded : HasStateTables (schema_in parts) candidate tables → IsLoaded (schema_in parts) tables candidate
         loaded has = record {
           legal = legal;
           has = has;
-          only = λ other other_legal other_has. same basis is are.limits accepted.decided.alone accepted.round_trips is_free decides tables candidate of_tables other other_legal other_has;
+          only = λ other other_legal other_has. same basis is are.limits form.alone accepted.round_trips is_free decides tables candidate of_tables other other_legal other_has;
           basis = basis;
           is_free = is_free;
           read_by = read_by;

@@ -30,9 +30,9 @@ use Rattle.msl_fragments.specs.ReadsMapping.{IsMappingOf}
 use Rattle.mapping_core.specs.Accepted.{IsDecided}
 use Rattle.layouts.specs.told_rules.Reads.{Answers}
 use Rattle.layouts.specs.told_rules.Told.{IsToldOrMemory, told_as}
-use Rattle.mapping_core.specs.Compiles.{IsReadSchema, ReadsSchema}
+use Rattle.mapping_core.specs.Compiles.{ReadsSchema}
 use Rattle.mapping_core.specs.Reading.{IsReadOf, ReadsFile, ReadsTree}
-use Rattle.mapping_core.specs.Rules.{Breaks, IsFaultBy, IsFileFault, IsToldRule, file_number, model_in, schema_of_files, store_in, tree_in}
+use Rattle.mapping_core.specs.Rules.{Breaks, IsFaultBy, IsFileFault, IsReadSchema, IsToldRule, file_number, model_in, schema_of_files, store_in, tree_in}
 
 -- files of one number are one file
 pub same_file : (one two : VocabFile) → file_number one ≡ file_number two → one ≡ two

@@ -2,7 +2,6 @@
 -- Source: this project's; CSDL, SSDL and MSL version 3, and the regions of entity states of Melnik, Adya and Bernstein, SIGMOD 2007.
 use Rattle.std.specs.Prelude.{◌≡◌, List, [], None}
 use Rattle.round_trip.specs.Words.{Keeps, RoundTrips, Schema}
-use Rattle.round_trip.specs.soundness.Mappings.{IsSoundSchema}
 use Rattle.cells.specs.declared.cells.Cells.{Cells}
 use Rattle.cells.specs.declared.parts.Parts.{Parts}
 use Rattle.cells.specs.Cells.{is_free_in}
@@ -26,10 +25,9 @@ pub record IsDecided (schema : Schema) : Type 0 where
 abbrev pub PassesNoLimit : Schema → Type 0
 PassesNoLimit schema = IsFirstLimit schema None
 
--- the schema is sound and within the limits, and every legal state of it has tables of its own
+-- What makes documents that break no rule accepted, by the schema that they mean: no limit is passed, no legal state fails, and every one has tables of its
+-- own.
 pub record IsAccepted (schema : Schema) : Type 0 where
-  pub sound : IsSoundSchema schema
-  pub decided : IsDecided schema
   pub within : PassesNoLimit schema
   pub round_trips : RoundTrips schema
   pub keeps : Keeps schema

@@ -9,4 +9,5 @@ pub mod Documents
 pub mod Loads
 pub mod ViewsText
 pub mod GivesBack
+pub mod Former
 pub mod mapping_verdict

@@ -14,6 +14,7 @@ use Rattle.update_views.specs.Views.{AreViewsOf}
 use Rattle.query_views.specs.Views.{AreQueryViewsOf}
 use Rattle.mapping_core.specs.declared.compiled.CompiledParts.{CompiledParts}
 use Rattle.mapping_core.specs.Accepted.{IsAccepted}
+use Rattle.mapping_core.specs.Rules.{IsRead}
 use Rattle.regions.specs.Basis.{Basis}
 use Rattle.regions.specs.region_laws.IsBasis.{IsBasis}
 use Rattle.case_laws.specs.Reading.{DecidesFree, HasStateTables}
@@ -87,6 +88,7 @@ Loads schema tables result = AreLegalTables schema.store tables × LoadsLegal sc
 
 -- what an accepted mapping is made of
 pub record AreAcceptedParts (made : CompiledParts) : Type 0 where
+  pub read : IsRead (schema_in made.parts)
   pub accepted : IsAccepted (schema_in made.parts)
   pub parts : AreParts made.parts
   pub update_views : AreViewsOf (basis_of made.parts) made.update_views.now

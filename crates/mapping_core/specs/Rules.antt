@@ -19,6 +19,7 @@ use Rattle.msl_rules.specs.msl_lists.Raw.{raw_mapping}
 use Rattle.msl_rules.specs.MappingFaults.{IsMappingFault}
 use Rattle.msl_rules.specs.MappingMeaning.{schema_in}
 use Rattle.round_trip.specs.Words.{EntityModel, StoreModel, RuleFault, Schema, VocabFile}
+use Rattle.round_trip.specs.soundness.Mappings.{IsSoundSchema}
 use Rattle.edm_types.specs.declared.faults.VocabFile.TheVariants.{Csdl, Ssdl, Msl}
 use Rattle.mapping_core.specs.Accepted.{IsDecided}
 
@@ -95,9 +96,15 @@ module _ (csdl ssdl msl : List ℕ) where
     pub unbroken : BreaksNoRule
     pub meaning : schema ≡ schema_of_files
 
--- some three documents that break no rule mean this
-pub record IsMeant (schema : Schema) : Type 0 where
+  -- what the documents mean, where they break no rule: it is sound, and of the form that is decided so far
+  pub record IsReadSchema (schema : Schema) : Type 0 where
+    pub means : Means schema
+    pub sound : IsSoundSchema schema
+    pub form : IsDecided schema
+
+-- the same of some three documents
+pub record IsRead (schema : Schema) : Type 0 where
   pub csdl : List ℕ
   pub ssdl : List ℕ
   pub msl : List ℕ
-  pub means : Means csdl ssdl msl schema
+  pub read : IsReadSchema csdl ssdl msl schema

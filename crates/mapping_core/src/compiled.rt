@@ -3,7 +3,7 @@ ghost use Rattle.cells.specs.Parts.{AreParts, schema_in};
 ghost use Rattle.cells.specs.region_basis.BasisOf.{basis_of};
 ghost use Rattle.region_partition.specs.set_regions.Regions.{AreRegions};
 ghost use Rattle.mapping_core.specs.Accepted.{AreMadeOf, HasQueryViews, IsAccepted};
-ghost use Rattle.mapping_core.specs.Rules.{IsMeant};
+ghost use Rattle.mapping_core.specs.Rules.{IsRead};
 ghost use Rattle.cells.specs.Cells.{is_free_in};
 ghost use Rattle.query_views.specs.Views.{AreQueryViewsOf};
 ghost use Rattle.update_views.specs.Views.{AreViewsOf};
@@ -16,8 +16,8 @@ use regions::Region;
 use std::marker::Model;
 use update_views::UpdateViews;
 
-/// An accepted mapping, which contracts see as what its documents mean. They break no rule, what they mean is sound and passes no limit, no legal state of
-/// it fails, and every one has tables of its own.
+/// An accepted mapping, which contracts see as what its documents mean. They break no rule, and what they mean is sound, of the form that is decided, and
+/// accepted.
 #[derive(Drop)]
 pub struct Compiled {
     schema: Schema,
@@ -46,7 +46,7 @@ pub struct CompiledParts<'a> {
 impl Model for Compiled {
     ghost use Rattle.round_trip.specs.Words.{Schema};
     ghost use Rattle.mapping_core.specs.Accepted.{AreMadeOf, IsAccepted};
-    ghost use Rattle.mapping_core.specs.Rules.{IsMeant};
+    ghost use Rattle.mapping_core.specs.Rules.{IsRead};
     ghost use Rattle.std.specs.Coded.{codes};
     ghost use Rattle.edm_types.specs.contracts.model.TypeNode as node;
 
@@ -56,7 +56,7 @@ impl Model for Compiled {
 
     ghost view = { λ c. c.schema };
 
-    ghost invariant = { λ c. IsMeant c.schema × IsAccepted c.schema × AreMadeOf c.schema c.cells c.regions c.views };
+    ghost invariant = { λ c. IsRead c.schema × IsAccepted c.schema × AreMadeOf c.schema c.cells c.regions c.views };
 }
 
 impl Compiled {
@@ -67,7 +67,7 @@ impl Compiled {
         regions: Seq<Seq<Region>>,
         views: MappingViews,
     ) -> Compiled
-        requires meant { IsMeant schema }
+        requires read { IsRead schema }
         requires accepted { IsAccepted schema }
         requires made { AreMadeOf schema cells regions views }
         ensures { result ≡ schema }
@@ -80,11 +80,11 @@ impl Compiled {
         }
     }
 
-    /// Lends the model, the store and the mapping: documents that break no rule mean them, they are sound and within the limits, and the round trip holds
-    /// of them.
+    /// Lends the model, the store and the mapping: documents that break no rule mean them, they are sound and of the form that is decided, and they are
+    /// accepted.
     pub fn schema(&self) -> &Schema
         ensures lends { result.now ≡ self.now }
-        ensures meant { IsMeant self.now }
+        ensures read { IsRead self.now }
         ensures accepted { IsAccepted self.now }
     {
         &self.schema
@@ -93,6 +93,7 @@ impl Compiled {
     /// Lends the same with their cells, the regions of each entity set, and the views.
     pub fn parts(&self) -> CompiledParts<'_>
         ensures lends { schema_in result.parts ≡ self.now }
+        ensures read { IsRead self.now }
         ensures accepted { IsAccepted self.now }
         ensures parts { AreParts result.parts }
         ensures regions { AreRegions (basis_of result.parts) result.regions.now }

@@ -4,7 +4,7 @@ ghost use Rattle.round_trip.specs.soundness.Mappings.{IsSoundSchema};
 ghost use Rattle.cells.specs.Cells.{TellsCells};
 ghost use Rattle.mapping_core.specs.Accepted.{IsDecided};
 ghost use Rattle.mapping_core.specs.Compiles.{Decides, Judges};
-ghost use Rattle.mapping_core.specs.Rules.{IsMeant};
+ghost use Rattle.mapping_core.specs.Rules.{IsRead};
 
 use crate::compiled::{Compiled, MappingViews};
 use crate::mapping_verdict::{Failure, first_failure};
@@ -21,7 +21,7 @@ use update_views::UpdateViews;
 /// What is found of a schema.
 #[derive(Drop)]
 pub(crate) enum Judgement {
-    /// No limit is passed and no legal state fails; these are the regions of each entity set, and the views.
+    /// It is accepted; these are the regions of each entity set, and the views.
     Keeps(Seq<Seq<Region>>, MappingViews),
     /// A limit is passed.
     Limit(LimitFault),
@@ -29,12 +29,10 @@ pub(crate) enum Judgement {
     Fails(Failure),
 }
 
-/// Decides whether every legal entity state of a schema has tables of its own: `Limit` with the first limit that the schema passes; where it passes none,
-/// `Fails` with a legal state that fails, where one does, else `Ok`; and `Memory` where memory ran out. A refusal gives the schema back.
+/// Decides whether a schema is accepted: `Limit` with the first limit that it passes; where it passes none, `Fails` with a legal state that fails, where one
+/// does, else `Ok`, and then every one has tables of its own; and `Memory` where memory ran out. A refusal gives the schema back.
 pub fn decide(alloc: Global, schema: Schema) -> Result<Compiled, Refusal>
-    requires meant { IsMeant schema }
-    requires sound { IsSoundSchema schema }
-    requires form { IsDecided schema }
+    requires { IsRead schema }
     ensures { Decides schema result }
 {
     let cells = Cells::of(alloc, &schema.model, &schema.store, &schema.mapping)?;

@@ -13,6 +13,7 @@ mod reading;
 mod storing;
 mod verdict;
 mod viewing;
+mod wording;
 
 pub use crate::mapping_verdict::Failure;
 pub use compiled::{Compiled, CompiledParts, MappingViews};
@@ -34,3 +35,4 @@ pub use storing::{StoreFault, store_all};
 pub use table_files::Tables;
 pub use verdict::{Refusal, Verdict};
 pub use viewing::views_all;
+pub use wording::accepted_is_told_as_before;

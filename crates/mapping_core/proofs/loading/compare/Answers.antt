@@ -7,9 +7,12 @@ use Rattle.keyed_rows.specs.row_differences.Differences.{IsFirstDifference, Tell
 use Rattle.keyed_rows.specs.declared.row_differences.differences.Difference.{Difference}
 use Rattle.keyed_rows.proofs.row_differences.OfState.{null_free_cells, rows_apart}
 use Rattle.mapping_core.proofs.Comparing.{has_tables, kept_keys, legal_apart}
-use Rattle.mapping_core.proofs.Stored.{clear}
+use Rattle.mapping_core.proofs.Stored.{clear, few_partners}
 use Rattle.mapping_core.proofs.Telling.{cells_decide}
 use Rattle.mapping_core.proofs.loading.compare.Goals as goal
+
+pub tables_of-requires-clause-few : goal.tables_of-requires-clause-few
+tables_of-requires-clause-few c = few_partners (basis_of c.args.made.now.parts) c.requires.made.read.read.form.alone
 
 pub tables_of-requires-clause-clear : goal.tables_of-requires-clause-clear
 tables_of-requires-clause-clear c = clear (schema_in c.args.made.now.parts) c.requires.made.accepted c.args.state.now c.requires.legal

@@ -1,3 +1,0 @@
-pub mod FilesRead
-pub mod Answered
-pub mod Endings

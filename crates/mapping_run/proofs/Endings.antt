@@ -1,0 +1,141 @@
+-- What was answered and what was written make a run.
+use Rattle.std.proofs.Common.{◌≡◌, ◌⊎◌, ℕ, List, [], ◌∷◌, ◌++◌, Option, Some, None, MatchOption, option_map, inl, inr, refl, sym, ap, ◌∙◌, subst, ◌==◌, length, true, arith}
+use Rattle.std.proofs.lemmas.Bool.Decides.{nat_tests}
+use Rattle.std.specs.Bool.{⊤}
+use Rattle.std.proofs.lemmas.List.{append-nil}
+use Rattle.emc_files.specs.Files.{FileMap}
+use Rattle.mapping_core.specs.Words.{IsAccepted, Means, Schema, State, Tables}
+use Rattle.mapping_run.specs.declared.answers.answer.Answer.{Answer}
+use Rattle.mapping_run.specs.declared.answers.status.Status.{Status}
+use Rattle.mapping_run.specs.declared.answers.status.Status.TheVariants.{Done, MappingRefused, DocumentRefused, Usage, FileFault, SinkFault, Memory}
+use Rattle.mapping_run.specs.declared.answers.command.Command.{Command}
+use Rattle.mapping_run.specs.declared.answers.command.Command.TheVariants.{Check, Views, Store, Load}
+use Rattle.mapping_run.specs.Commands.{command_of, inputs_of}
+use Rattle.mapping_run.specs.answers.Gives.{GivesBy, GivesLoaded, GivesOn, GivesState, GivesStored, GivesTables, RefusesMapping, RefusesSchema, Says, SaysSome}
+use Rattle.mapping_run.specs.Gives.{GivesInputs}
+use Rattle.mapping_run.specs.Inputs.{FailsToRead}
+use Rattle.mapping_run.specs.Runs.{Ends, Finishes, Runs}
+use Rattle.texts.specs.command_texts.Texts.{usage_text}
+use Rattle.mapping_run.specs.World.{World}
+
+-- a status of a whole text
+abbrev IsOfText : Status → Type 0
+IsOfText Done = ⊤
+IsOfText MappingRefused = ⊤
+IsOfText DocumentRefused = ⊤
+IsOfText Usage = ⊤
+IsOfText FileFault = ⊤
+IsOfText SinkFault = ⊥
+IsOfText Memory = ⊥
+
+module _ (answer : Answer) where
+  of_schema : (schema : Schema) → RefusesSchema schema answer → IsOfText answer.status
+  of_schema schema (inl limit) = subst IsOfText (sym limit.2.1) cc
+  of_schema schema (inr fails) = subst IsOfText (sym fails.1.2.1) cc
+
+  of_mapping : (csdl ssdl msl : List ℕ) → RefusesMapping csdl ssdl msl answer → IsOfText answer.status
+  of_mapping csdl ssdl msl (inl told) = subst IsOfText (sym told.2.1) cc
+  of_mapping csdl ssdl msl (inr meant) = of_schema meant.0 meant.2
+
+  of_tables : (schema : Schema) (state : State) → GivesTables schema state answer → IsOfText answer.status
+  of_tables schema state (inl breach) = subst IsOfText (sym breach.2.1) cc
+  of_tables schema state (inr stored) = subst IsOfText (sym stored.1.1) cc
+
+  of_stored : (entities : List ℕ) (schema : Schema) → GivesStored entities schema answer → IsOfText answer.status
+  of_stored entities schema (inl shape) = subst IsOfText (sym shape.2.1) cc
+  of_stored entities schema (inr told) = of_tables schema told.0 told.2
+
+  of_state : (schema : Schema) (tables : Tables) → GivesState schema tables answer → IsOfText answer.status
+  of_state schema tables (inl breach) = subst IsOfText (sym breach.2.1) cc
+  of_state schema tables (inr (legal, inl refused)) = subst IsOfText (sym refused.2.1) cc
+  of_state schema tables (inr (legal, inr told)) = subst IsOfText (sym told.2.1) cc
+
+  of_loaded : (document : List ℕ) (schema : Schema) → GivesLoaded document schema answer → IsOfText answer.status
+  of_loaded document schema (inl shape) = subst IsOfText (sym shape.2.1) cc
+  of_loaded document schema (inr told) = of_state schema told.0 told.2
+
+  of_accepted : (command : Command) (contents : List (List ℕ)) (schema : Schema) → GivesBy command contents schema answer → IsOfText answer.status
+  of_accepted Check contents schema gives = subst IsOfText (sym gives.1) cc
+  of_accepted Views contents schema gives = subst IsOfText (sym gives.1) cc
+  of_accepted Store contents schema gives = of_stored gives.0 schema gives.2
+  of_accepted Load contents schema gives = of_loaded gives.0 schema gives.2
+
+  of_documents : (command : Command) (contents : List (List ℕ)) (csdl ssdl msl : List ℕ)
+      → RefusesMapping csdl ssdl msl answer ⊎ ((schema : Schema) × Means csdl ssdl msl schema × IsAccepted schema × GivesBy command contents schema answer)
+      → IsOfText answer.status
+  of_documents command contents csdl ssdl msl (inl refuses) = of_mapping csdl ssdl msl refuses
+  of_documents command contents csdl ssdl msl (inr accepted) = of_accepted command contents accepted.0 accepted.3
+
+  of_command : (command : Command) (contents : List (List ℕ)) → GivesOn command contents answer → IsOfText answer.status
+  of_command command contents gives = of_documents command contents gives.csdl gives.ssdl gives.msl gives.holds
+
+  of_inputs : (held : Option FileMap) (command : Command) (names : List (List ℕ)) → GivesInputs held command names answer → IsOfText answer.status
+  of_inputs held command names (inl lacking) = subst IsOfText (sym lacking.1) cc
+  of_inputs held command names (inr read) = of_command command read.0 read.2
+
+  of_words : (words : List (List ℕ)) (held : Option FileMap) (command : Option Command)
+      → MatchOption command (Says usage_text Usage answer) (λ one. GivesInputs held one (inputs_of one words) answer) → IsOfText answer.status
+  of_words words held None says = subst IsOfText (sym says.1) cc
+  of_words words held (Some command) gives = of_inputs held command (inputs_of command words) gives
+
+  of_break : (may_fail : List ℕ → Type 0) (words : List (List ℕ)) (held : Option FileMap) (command : Option Command)
+      → MatchOption command ⊥ (λ one. SaysSome (FailsToRead may_fail held (inputs_of one words)) FileFault answer) → IsOfText answer.status
+  of_break may_fail words held None breaks = absurd breaks
+  of_break may_fail words held (Some command) breaks = subst IsOfText (sym breaks.1) cc
+
+  -- what ends, ends with a text
+  of_ends : (may_fail : List ℕ → Type 0) (words : List (List ℕ)) (held : Option FileMap) (before now : ℕ) → Ends may_fail words held before now answer → IsOfText answer.status
+  of_ends may_fail words held before now (inl gives) = of_words words held (command_of words) gives.1
+  of_ends may_fail words held before now (inr breaks) = of_break may_fail words held (command_of words) breaks.1
+
+module _ (may_fail : List ℕ → Type 0) (words : List (List ℕ)) (before after : World) where
+  -- what finishes, finishes with a text
+  of_finish : (status : Status) → Finishes may_fail words before after status → IsOfText status
+  of_finish status finishes =
+      subst IsOfText finishes.status_is (of_ends finishes.answer may_fail words before.held before.file_faults after.file_faults finishes.ends)
+
+  -- a whole text was written
+  runs_whole : (status : Status) → Finishes may_fail words before after status → Runs may_fail words before after status
+  runs_whole Done finishes = finishes
+  runs_whole MappingRefused finishes = finishes
+  runs_whole DocumentRefused finishes = finishes
+  runs_whole Usage finishes = finishes
+  runs_whole FileFault finishes = finishes
+  runs_whole SinkFault finishes = absurd (of_finish SinkFault finishes)
+  runs_whole Memory finishes = absurd (of_finish Memory finishes)
+
+-- nothing more is nothing new
+pub nothing_more : (written : Option (List ℕ)) (text : List ℕ) → text ≡ [] → written ≡ option_map (λ bytes. bytes ++ text) written
+nothing_more None text empty = refl
+nothing_more (Some bytes) text empty = ap Some (sym (append-nil bytes) ∙ ap (λ more. bytes ++ more) (sym empty))
+
+-- a text of no bytes is empty
+is_nothing : (text : List ℕ) → true ≡ (length text == 0) → text ≡ []
+is_nothing [] empty = refl
+is_nothing (byte ∷ rest) empty = let no : ⊥ = grind (arith, nat_tests) in absurd no
+
+module _ (may_fail : List ℕ → Type 0) (words : List (List ℕ)) (before after : World) (answer : Answer) (printed : List ℕ)
+    (ends : Ends may_fail words before.held before.file_faults after.file_faults answer)
+    (printed_is : printed ≡ answer.text) (leaves : after.held ≡ before.held) where
+  -- the text that was printed is the answer's
+  pub all_written : after.sink_faults ≡ before.sink_faults → after.written ≡ option_map (λ bytes. bytes ++ printed) before.written
+      → Runs may_fail words before after answer.status
+  all_written quiet written = runs_whole may_fail words before after answer.status (record {
+    answer = answer;
+    status_is = refl;
+    ends = ends;
+    leaves = leaves;
+    written = written ∙ ap (λ more. option_map (λ bytes. bytes ++ more) before.written) printed_is;
+    quiet = quiet;
+  })
+
+  -- an empty text needs no writing
+  pub none_written : true ≡ (length printed == 0) → after.sink_faults ≡ before.sink_faults → after.written ≡ before.written → Runs may_fail words before after answer.status
+  none_written empty quiet same = runs_whole may_fail words before after answer.status (record {
+    answer = answer;
+    status_is = refl;
+    ends = ends;
+    leaves = leaves;
+    written = same ∙ nothing_more before.written answer.text (sym printed_is ∙ is_nothing printed empty);
+    quiet = quiet;
+  })

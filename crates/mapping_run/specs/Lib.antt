@@ -1,0 +1,9 @@
+pub mod answers
+pub mod Commands
+pub mod Inputs
+pub mod Gives
+pub mod World
+pub mod Runs
+pub mod RunSteps
+pub mod Arguments
+pub mod Former

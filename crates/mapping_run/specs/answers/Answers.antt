@@ -1,0 +1,35 @@
+-- What the steps of answering a command give: whether the mapping is accepted, and why tables are refused.
+use Rattle.std.specs.Prelude.{◌≡◌, ℕ, List, Any, Result, Ok, Err, ⊤}
+use Rattle.mapping_core.specs.Words.{IsAccepted, Means, Schema}
+use Rattle.mapping_core.specs.declared.loading.LoadFault.{LoadFault}
+use Rattle.mapping_core.specs.declared.loading.LoadFault.TheVariants as load
+use Rattle.texts.specs.command_texts.Texts.{table_breach_text}
+use Rattle.mapping_core.specs.declared.compiled.Compiled.{Compiled}
+use Rattle.mapping_run.specs.declared.answers.answer.Answer.{Answer}
+use Rattle.mapping_run.specs.declared.answers.answer.Halt.{Halt}
+use Rattle.mapping_run.specs.declared.answers.answer.Halt.TheVariants.{Tells, Memory}
+use Rattle.mapping_run.specs.declared.answers.status.Status.TheVariants.{DocumentRefused}
+use Rattle.mapping_run.specs.answers.Gives.{HasDocuments, RefusesMapping, RefusesSchema, Says, SaysSome, TellsNoState}
+
+-- the accepted mapping of the documents that are the first three of these contents; or what is told where they aren't accepted
+abbrev pub Accepts : List (List ℕ) → Result Compiled Halt → Type 0
+Accepts contents (Ok compiled) = HasDocuments contents (λ csdl ssdl msl. Means csdl ssdl msl compiled × IsAccepted compiled)
+Accepts contents (Err (Tells answer)) = HasDocuments contents (λ csdl ssdl msl. RefusesMapping csdl ssdl msl answer)
+Accepts contents (Err Memory) = ⊤
+
+-- the same of what documents mean that break no rule
+abbrev pub AcceptsSchema : Schema → Result Compiled Halt → Type 0
+AcceptsSchema schema (Ok compiled) = (compiled ≡ schema) × IsAccepted schema
+AcceptsSchema schema (Err (Tells answer)) = RefusesSchema schema answer
+AcceptsSchema schema (Err Memory) = ⊤
+
+-- a row in which tables differ is told by the name of a table of the store
+abbrev pub NamesTable : Schema → LoadFault → Type 0
+NamesTable schema (load.Differs place held demanded) = Any (λ table. table.name ≡ place.name) schema.store.tables
+NamesTable schema fault = ⊤
+
+-- the tables are refused, for this reason
+abbrev pub RefusesTables : Schema → LoadFault → Answer → Type 0
+RefusesTables schema (load.Breach breach) answer = Says (table_breach_text breach) DocumentRefused answer
+RefusesTables schema load.Memory answer = ⊥
+RefusesTables schema fault answer = SaysSome (TellsNoState schema fault) DocumentRefused answer

@@ -1,0 +1,50 @@
+ghost use Rattle.std.specs.Prelude.{◌≤◌, length};
+ghost use Rattle.mapping_core.specs.Words.{IsRead};
+ghost use Rattle.mapping_run.specs.answers.Answers.{Accepts, AcceptsSchema};
+ghost use Rattle.mapping_run.specs.answers.Gives.{Says};
+ghost use Rattle.mapping_run.specs.declared.answers.status.Status.TheVariants.{MappingRefused};
+
+use crate::answers::answer::{Answer, Halt};
+use crate::answers::status::Status;
+use emc_base::{Bin, Seq, Txt};
+use mapping_core::{Compiled, Refusal, Schema, VocabFault, decide, read};
+use std::alloc::Global;
+use texts::{fail_text, limit_text, rule_text};
+
+/// The accepted mapping of the documents that are the first three of these contents; or what is told where they aren't accepted.
+pub(crate) fn accepted(alloc: Global, contents: &Seq<Bin>) -> Result<Compiled, Halt>
+    requires { 3 ≤ length contents.now }
+    ensures { Accepts contents.now result }
+{
+    match read(alloc, contents.at(0), contents.at(1), contents.at(2)) {
+        Ok(schema) => accepted_schema(alloc, schema),
+        Err(VocabFault::Rule(fault)) => Err(Halt::Tells(refused(rule_text(alloc, &fault)?))),
+        Err(VocabFault::Memory) => Err(Halt::Memory),
+    }
+}
+
+// The same of what documents mean that break no rule.
+fn accepted_schema(alloc: Global, schema: Schema) -> Result<Compiled, Halt>
+    requires { IsRead schema }
+    ensures { AcceptsSchema schema result }
+{
+    match decide(alloc, schema) {
+        Ok(compiled) => Ok(compiled),
+        Err(Refusal::Limit(_schema, fault)) => {
+            Err(Halt::Tells(refused(limit_text(alloc, &fault)?)))
+        }
+        Err(Refusal::Fails(schema, failure)) => {
+            let text = fail_text(alloc, &schema, &failure)?;
+            let status = Status::MappingRefused;
+            Err(Halt::Tells(Answer { text, status }))
+        }
+        Err(Refusal::Memory) => Err(Halt::Memory),
+    }
+}
+
+// A mapping that isn't accepted, for the reason that the text tells.
+fn refused(text: Txt) -> Answer
+    ensures { Says text MappingRefused result }
+{
+    Answer::of_text(text, Status::MappingRefused)
+}

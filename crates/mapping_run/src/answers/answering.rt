@@ -1,0 +1,46 @@
+ghost use Rattle.std.specs.Prelude.{◌≡◌, IfOk, length};
+ghost use Rattle.mapping_run.specs.answers.Commands.{input_count};
+ghost use Rattle.mapping_run.specs.answers.Gives.{GivesBy, GivesOn};
+
+use crate::answers::accepting::accepted;
+use crate::answers::answer::{Answer, Halt};
+use crate::answers::command::Command;
+use crate::answers::load::loaded;
+use crate::answers::status::Status;
+use crate::answers::store::stored;
+use crate::answers::views::viewed;
+use emc_base::{Bin, Memory, Seq};
+use mapping_core::Compiled;
+use std::alloc::Global;
+use texts::accepted_text;
+
+/// What a command answers on the contents of its input files: what is told of the documents of the mapping where they aren't accepted; else what the command gives
+/// by the mapping. `Memory` comes where memory ran out.
+pub fn answer_on(alloc: Global, command: Command, contents: &Seq<Bin>) -> Result<Answer, Memory>
+    requires { length contents.now ≡ input_count command }
+    ensures { IfOk result (GivesOn command contents.now) }
+{
+    match accepted(alloc, contents) {
+        Ok(compiled) => answer_by(alloc, command, &compiled, contents),
+        Err(Halt::Tells(answer)) => Ok(answer),
+        Err(Halt::Memory) => Err(Memory),
+    }
+}
+
+// What a command gives by an accepted mapping.
+fn answer_by(
+    alloc: Global,
+    command: Command,
+    compiled: &Compiled,
+    contents: &Seq<Bin>,
+) -> Result<Answer, Memory>
+    requires { length contents.now ≡ input_count command }
+    ensures { IfOk result (GivesBy command contents.now compiled.now) }
+{
+    match command {
+        Command::Check => Ok(Answer::of_text(accepted_text(alloc)?, Status::Done)),
+        Command::Views => viewed(alloc, compiled),
+        Command::Store => stored(alloc, compiled, contents.at(3)),
+        Command::Load => loaded(alloc, compiled, contents.at(3)),
+    }
+}

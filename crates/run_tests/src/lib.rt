@@ -1,0 +1,5 @@
+//! Tests of a whole run over files and an output in memory.
+#![tactic(auto)]
+
+#[cfg(test)]
+mod faults;
