@@ -1,4 +1,5 @@
 -- Base types: those of a model are those of the document that it is meant by. V8.
+use Rattle.emc_base.proofs.FoundItems.{and_then_some}
 use Rattle.std.proofs.Common.{◌≡◌, ◌⊎◌, ⊎_elim, inl, inr, ℕ, ◌<◌, List, [], ◌∷◌, ◌++◌, append-nil, length, slice_get, Option, Some, None, option_map, refl, sym, ap, subst, ◌∙◌, zero-add}
 use Rattle.std.specs.List.{flat_map}
 use Rattle.std.specs.Option.{option_and_then, option_map_or}
@@ -19,12 +20,7 @@ use Rattle.csdl_names.specs.declared.csdl_lists.raw.RawModel.{RawModel}
 use Rattle.csdl_names.specs.declared.csdl_lists.raw.RawType.{RawType}
 use Rattle.csdl_names.specs.csdl_lists.References.{local_name, names_in}
 use Rattle.csdl_meaning.specs.Meaning.{IsMeant, base_in, chain_in, type_of}
-use Rattle.csdl_meaning.proofs.Lists.{at_numbered, numbered_at}
-
--- what a look-up behind another found
-pub and_then_some : {X Y : Type 0} (f : X → Option Y) (found : Option X) (y : Y) → option_and_then f found ≡ Some y → (x : X) × (found ≡ Some x) × (f x ≡ Some y)
-and_then_some f None y is = absurd cc
-and_then_some f (Some x) y is = (x, refl, is)
+use Rattle.emc_base.proofs.Joined.{at_numbered, numbered_at}
 
 module _ (raw : RawModel) where
   -- a base type is one of the document's, and only a type of the document has one

@@ -14,7 +14,7 @@ use Rattle.csdl_names.specs.declared.csdl_lists.raw.RawModel.{RawModel}
 use Rattle.csdl_names.specs.declared.csdl_lists.raw.RawProp.{RawProp}
 use Rattle.csdl_names.specs.declared.csdl_lists.raw.RawType.{RawType}
 use Rattle.csdl_meaning.specs.Meaning.{prop_of}
-use Rattle.csdl_meaning.proofs.Lists.{at_left, at_map, at_right, enumerate-append, filter-drops, filter-keeps}
+use Rattle.emc_base.proofs.Joined.{at_left, at_map, at_right, enumerate-append, filter-drops, filter-keeps}
 
 module _ (raw : RawModel) where
   -- the properties of these types, the first of which has this number

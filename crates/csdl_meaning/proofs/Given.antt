@@ -9,9 +9,9 @@ use Rattle.csdl_names.specs.declared.csdl_lists.raw.RawAssociation.{RawAssociati
 use Rattle.csdl_names.specs.declared.csdl_lists.raw.RawModel.{RawModel}
 use Rattle.csdl_names.specs.declared.csdl_lists.raw.RawSet.{RawSet}
 use Rattle.csdl_names.specs.declared.csdl_lists.raw.RawType.{RawType}
-use Rattle.csdl_names.specs.Repeated.{IsGivenAgain, IsRepeated, IsRepeatedInAssociation, IsRepeatedInContainer}
-use Rattle.csdl_meaning.proofs.FaultPlaces.{fault_at, in_list}
-use Rattle.csdl_meaning.proofs.KeptNames.{repeated_in}
+use Rattle.csdl_names.specs.Repeated.{IsRepeated, IsRepeatedInAssociation, IsRepeatedInContainer}
+use Rattle.layouts.specs.rule_places.Names.{IsGivenAgain}
+use Rattle.layouts.proofs.rule_places.FaultPlaces.{fault_at, in_list, repeated_in}
 
 module _ (raw : RawModel) (never : (fault : Fault) → ¬ IsRepeated raw fault) where
   -- associations have different names

@@ -11,13 +11,13 @@ use Rattle.round_trip.specs.Words.{EntityModel, EntityType, PropId}
 use Rattle.edm_types.specs.Forest.{type_numbered}
 use Rattle.round_trip.specs.soundness.Inheritance.{prop_numbered}
 use Rattle.round_trip.specs.soundness.ModelIds.{IsPropId, IsTypeId}
-use Rattle.graphs.proofs.base_chains.Members.{in_map}
+use Rattle.emc_base.proofs.Members.{in_map}
 use Rattle.csdl_names.specs.declared.csdl_lists.raw.RawModel.{RawModel}
 use Rattle.csdl_names.specs.declared.csdl_lists.raw.RawType.{RawType}
 use Rattle.csdl_meaning.specs.Meaning.{IsMeant, base_in, chain_in, declared_before, declared_by, own_key, own_props, prop_of, props_in, type_of}
 use Rattle.csdl_meaning.proofs.Bases.{base_inside, raw_at, type_at}
 use Rattle.csdl_meaning.proofs.Keys.{key_named, named_own}
-use Rattle.csdl_meaning.proofs.Lists.{all_from_places, in_flat_map}
+use Rattle.emc_base.proofs.Joined.{all_from_places, in_flat_map}
 use Rattle.csdl_meaning.proofs.Props.{of_each_prop, prop_at}
 
 -- a number of a range

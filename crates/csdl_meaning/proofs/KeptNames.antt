@@ -1,4 +1,5 @@
 -- What V6 and V7 give of types, where they are kept.
+use Rattle.layouts.proofs.rule_places.FaultPlaces.{repeated_in, fault_at, in_list}
 use Rattle.std.proofs.Common.{◌≡◌, inl, inr, ℕ, List, [], ◌∷◌, map, Contains, Option, Some, None, codes, refl, sym, ap, subst, ◌∙◌}
 use Rattle.std.specs.Option.{MatchOption, option_and_then}
 use Rattle.emc_base.specs.Lists.{At, AreApart}
@@ -14,19 +15,11 @@ use Rattle.csdl_names.specs.declared.csdl_lists.raw.RawModel.{RawModel}
 use Rattle.csdl_names.specs.declared.csdl_lists.raw.RawProp.{RawProp}
 use Rattle.csdl_names.specs.declared.csdl_lists.raw.RawType.{RawType}
 use Rattle.csdl_names.specs.csdl_lists.References.{names_in}
-use Rattle.csdl_names.specs.Repeated.{IsGivenAgain, IsRepeated, IsRepeatedIn, IsRepeatedInType}
-use Rattle.csdl_names.specs.Unresolved.{IsUnresolved, IsUnresolvedInKey, IsUnresolvedInType, IsUnresolvedProp, LacksProp, NamesNothing, root}
+use Rattle.csdl_names.specs.Repeated.{IsRepeated, IsRepeatedInType}
+use Rattle.layouts.specs.rule_places.Names.{IsGivenAgain, IsRepeatedIn, NamesNothing}
+use Rattle.csdl_names.specs.Unresolved.{IsUnresolved, IsUnresolvedInKey, IsUnresolvedInType, IsUnresolvedProp, LacksProp, root}
 use Rattle.csdl_meaning.specs.Meaning.{base_in}
-use Rattle.csdl_meaning.proofs.FaultPlaces.{fault_at, in_list}
 use Rattle.csdl_meaning.proofs.Names.{member_names, members_apart}
-
--- a name is given again
-pub repeated_in : {X : Type 0} (name_in : X → List ℕ) (others : List (List ℕ)) (member last : List ℕ) (items : List X) (i : ℕ) (item : X)
-    → At items i item → IsGivenAgain name_in others items i item
-    → IsRepeatedIn name_in others member last items (fault_at NamedOnce (Member member ∷ Item i ∷ Member last ∷ []))
-repeated_in name_in others member last items i item here given =
-    in_list (λ i item fault. IsGivenAgain name_in others items i item × IsAt NamedOnce (Member last ∷ []) fault) member items i item NamedOnce (Member last ∷ []) here
-    (given, (refl, refl))
 
 module _ (raw : RawModel) where
   -- V6

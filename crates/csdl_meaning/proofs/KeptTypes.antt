@@ -12,7 +12,7 @@ use Rattle.layouts.specs.declared.rule.Rule.TheVariants.{Ancestors, Bound, Inher
 use Rattle.layouts.specs.rule_places.Places.{InList}
 use Rattle.round_trip.specs.soundness.Kinds.{IsKeyKind, IsSoundKind}
 use Rattle.graphs.specs.base_chains.Chains.{IsAncestor}
-use Rattle.graphs.proofs.base_chains.Members.{contains_nil, in_map}
+use Rattle.emc_base.proofs.Members.{contains_nil, in_map}
 use Rattle.graphs.proofs.base_chains.Orders.{place_of_member}
 use Rattle.csdl_names.specs.declared.csdl_lists.raw.RawEnum.{RawEnum}
 use Rattle.csdl_names.specs.declared.csdl_lists.raw.RawModel.{RawModel}
@@ -28,9 +28,9 @@ use Rattle.csdl_types.specs.TypeRules.{BreaksTypeRules, IsLaterFault}
 use Rattle.csdl_meaning.specs.Kinds.{enum_kind, kind_of}
 use Rattle.csdl_meaning.specs.Meaning.{base_in}
 use Rattle.csdl_meaning.proofs.Bases.{above_inside}
-use Rattle.csdl_meaning.proofs.FaultPlaces.{fault_at, in_list}
+use Rattle.layouts.proofs.rule_places.FaultPlaces.{fault_at, in_list}
 use Rattle.csdl_meaning.proofs.Keys.{key_names}
-use Rattle.csdl_meaning.proofs.Lists.{all_from_places}
+use Rattle.emc_base.proofs.Joined.{all_from_places}
 use Rattle.csdl_meaning.proofs.Names.{member_names}
 use Rattle.csdl_meaning.proofs.SoundKinds.{key_kind, sound_enum}
 use Rattle.csdl_meaning.proofs.Stable.{for_keys, some_key}

@@ -1,4 +1,5 @@
 -- Keys: which properties are in a key, and what base types give. V7, V9, V10.
+use Rattle.emc_base.proofs.FoundItems.{map_some}
 use Rattle.std.proofs.Common.{◌≡◌, ◌≢◌, ℕ, ◌+◌, ◌<◌, ◌≤◌, List, [], ◌++◌, append-nil, length, slice_get, All, Contains, Option, Some, None, option_map, false, refl, sym, ap, subst, ◌∙◌, arith}
 use Rattle.std.specs.List.{filter_map, flat_map}
 use Rattle.std.specs.Option.{MatchOption, option_and_then, option_map_or, unwrap_or}
@@ -12,7 +13,7 @@ use Rattle.round_trip.specs.soundness.Kinds.{IsKeyKind}
 use Rattle.edm_types.specs.Forest.{type_numbered}
 use Rattle.round_trip.specs.soundness.Inheritance.{HasInheritedKey, IsKeyProp, IsRootKey, declared_props, prop_numbered}
 use Rattle.graphs.specs.base_chains.Chains.{IsAncestor}
-use Rattle.graphs.proofs.base_chains.Members.{contains_nil}
+use Rattle.emc_base.proofs.Members.{contains_nil}
 use Rattle.graphs.proofs.base_chains.Orders.{place_of_member}
 use Rattle.groupings.specs.name_places.GivenNames.{first_place}
 use Rattle.groupings.proofs.name_places.FirstPlaces.{first_has, first_upto}
@@ -22,13 +23,8 @@ use Rattle.csdl_names.specs.declared.csdl_lists.raw.RawType.{RawType}
 use Rattle.csdl_meaning.specs.Kinds.{kind_of}
 use Rattle.csdl_meaning.specs.Meaning.{IsMeant, base_in, chain_in, declared_before, declared_by, own_key, own_props, prop_named, prop_of}
 use Rattle.csdl_meaning.proofs.Bases.{along_chain, base_inside, raw_at}
-use Rattle.csdl_meaning.proofs.Lists.{found_apart, found_length, in_flat_map, in_found, none_long}
+use Rattle.emc_base.proofs.Joined.{found_apart, found_length, in_flat_map, in_found, none_long}
 use Rattle.csdl_meaning.proofs.Props.{declared_in, has_at, prop_at}
-
--- what is mapped of something found
-pub map_some : {X Y : Type 0} (f : X → Y) (found : Option X) (y : Y) → option_map f found ≡ Some y → (x : X) × (found ≡ Some x) × (f x ≡ y)
-map_some f None y is = absurd cc
-map_some f (Some x) y is = (x, refl, same_Some (f x) y is)
 
 -- the names of a type's key; none where it has no key
 abbrev pub key_names : RawType → List (List ℕ)

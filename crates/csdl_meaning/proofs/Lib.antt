@@ -1,4 +1,3 @@
-pub mod Lists
 pub mod Rising
 pub mod SoundKinds
 pub mod Declared
@@ -7,17 +6,12 @@ pub mod Props
 pub mod Names
 pub mod Keys
 pub mod Ids
-pub mod FaultPlaces
 pub mod KeptNames
 pub mod KeptTypes
 pub mod Stable
 pub mod PropKinds
-pub mod Finds
-pub mod FoundItems
 pub mod Given
 pub mod Resolved
 pub mod Sound
-pub mod NoFaults
 pub mod NoTypeFaults
-pub mod ByTests
 pub mod SchoolKeeps

@@ -18,7 +18,7 @@ use Rattle.csdl_names.specs.declared.csdl_lists.raw.RawProp.{RawProp}
 use Rattle.csdl_names.specs.declared.csdl_lists.raw.RawType.{RawType}
 use Rattle.csdl_meaning.specs.Meaning.{IsMeant, base_in, nav_of, type_of}
 use Rattle.csdl_meaning.proofs.Bases.{above, raw_at}
-use Rattle.csdl_meaning.proofs.Lists.{all_from_places, apart-append, apart-map}
+use Rattle.emc_base.proofs.Joined.{all_from_places, apart-append, apart-map}
 use Rattle.csdl_meaning.proofs.Props.{own_prop_names}
 
 -- the names of a type's properties and navigation properties

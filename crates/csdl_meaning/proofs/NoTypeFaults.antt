@@ -28,7 +28,9 @@ use Rattle.csdl_types.specs.Inherited.{HasName, IsInherited, IsInheritedNameFaul
 use Rattle.csdl_types.specs.Keys.{CanBeKey, IsFailingKeyProp, IsKey, IsNoKeyPropFault}
 use Rattle.csdl_types.specs.PropTypes.{BreaksBound, HasLength, IsPropBoundFault, IsPropTypeFault}
 use Rattle.csdl_types.specs.Simple.{simple_of}
-use Rattle.csdl_meaning.proofs.NoFaults.{EachFrom, differ, differ_tells, is_new, none_above_root, none_again, not_among, root_above}
+use Rattle.layouts.proofs.rule_places.NoFaults.{EachFrom, none_again}
+use Rattle.graphs.proofs.base_chains.Settled.{none_above_root, root_above}
+use Rattle.groupings.proofs.name_places.ByTests.{differ, differ_tells, is_new, not_among}
 
 -- something is found
 pub not_none : {X : Type 0} (found : Option X) → is_some found ≡ true → found ≢ None

@@ -16,7 +16,7 @@ use Rattle.csdl_types.specs.declared.simple.Simple.{Simple}
 use Rattle.csdl_types.specs.declared.simple.Simple.TheVariants.{Byte, Int16, Int32, Int64, Boolean, Text, Binary}
 use Rattle.csdl_types.specs.Simple.{prop_type, simple_of}
 use Rattle.csdl_meaning.specs.Kinds.{enum_kind, kind_of, simple_kind}
-use Rattle.csdl_meaning.proofs.Stable.{same_names}
+use Rattle.emc_base.proofs.Stable.{same_names}
 
 -- the kind that a Type names, without a bound
 abbrev pub kind_named : RawModel → Option PropType → Kind

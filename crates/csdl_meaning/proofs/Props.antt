@@ -12,14 +12,14 @@ use Rattle.round_trip.specs.Words.{EntityModel, EntityType, Prop, TypeId, props_
 use Rattle.edm_types.specs.Forest.{type_numbered}
 use Rattle.round_trip.specs.soundness.Inheritance.{HasInheritedProps, declared_props, prop_numbered}
 use Rattle.graphs.specs.base_chains.Chains.{IsAncestor}
-use Rattle.graphs.proofs.base_chains.Members.{in_map}
+use Rattle.emc_base.proofs.Members.{in_map}
 use Rattle.csdl_names.specs.declared.csdl_lists.raw.RawModel.{RawModel}
 use Rattle.csdl_names.specs.declared.csdl_lists.raw.RawProp.{RawProp}
 use Rattle.csdl_names.specs.declared.csdl_lists.raw.RawType.{RawType}
 use Rattle.csdl_meaning.specs.Meaning.{IsMeant, base_in, chain_in, declared_before, declared_by, own_props, prop_of, props_in, type_of}
 use Rattle.csdl_meaning.proofs.Bases.{along_chain, base_inside, raw_at, type_at}
 use Rattle.csdl_meaning.proofs.Declared.{declared_place, is_owned, owned}
-use Rattle.csdl_meaning.proofs.Lists.{in_enumerated, in_flat_map}
+use Rattle.emc_base.proofs.Joined.{in_enumerated, in_flat_map}
 
 -- the numbers of numbered items
 numbers-enumerated : {X : Type 0} (n : ℕ) (xs : List X) → map (λ (entry : ℕ × X). entry.0) (enumerate_from n xs) ≡ range_with_len n (length xs)

@@ -8,7 +8,7 @@ use Rattle.std.specs.Ordering.{MatchOrdering, int_cmp, is_eq, is_lt}
 use Rattle.std.proofs.lemmas.List.Elements.{All-cons, All-head, All-nil, All-tail, All-weaker}
 use Rattle.std.proofs.lemmas.List.Kept.{AllPairs-cons}
 use Rattle.csdl_meaning.specs.Rising.{rising, with_number}
-use Rattle.csdl_meaning.proofs.Lists.{pairs_head, pairs_tail}
+use Rattle.emc_base.proofs.Joined.{pairs_head, pairs_tail}
 
 -- what holds of a number and of the others holds of all
 with_number_all : (P : ℤ → Type 0) (number : ℤ) (numbers : List ℤ) → P number → All P numbers → All P (with_number number numbers)

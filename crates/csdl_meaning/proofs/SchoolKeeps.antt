@@ -21,7 +21,9 @@ use Rattle.csdl_meaning.specs.Meaning.{base_in}
 use Rattle.csdl_meaning.specs.School.{giving, lessons, levels, parts, persons, school, teachers}
 use Rattle.csdl_meaning.specs.SoundTypes.{KeepsTypeRules}
 use Rattle.csdl_meaning.proofs.NoTypeFaults.{all_typed, declares, fits, in_key, key_by, none_inherited, not_inherited, not_lacked, not_none, once_in_type, others_not_in_key, unbounded}
-use Rattle.csdl_meaning.proofs.NoFaults.{none_above_root, none_again, none_in, none_under, not_among, root_above}
+use Rattle.layouts.proofs.rule_places.NoFaults.{none_again, none_in, none_under}
+use Rattle.graphs.proofs.base_chains.Settled.{none_above_root, root_above}
+use Rattle.groupings.proofs.name_places.ByTests.{not_among}
 
 -- what names stand for
 abbrev names : Names

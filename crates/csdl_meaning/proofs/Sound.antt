@@ -11,7 +11,8 @@ use Rattle.csdl_names.specs.declared.csdl_lists.raw.RawType.{RawType}
 use Rattle.csdl_names.specs.csdl_lists.References.{names_in}
 use Rattle.csdl_meaning.specs.Meaning.{IsMeant, base_in, own_key, prop_named}
 use Rattle.csdl_meaning.specs.SoundTypes.{HasSoundTypes, KeepsTypeRules}
-use Rattle.csdl_meaning.proofs.Bases.{and_then_some, no_circle}
+use Rattle.csdl_meaning.proofs.Bases.{no_circle}
+use Rattle.emc_base.proofs.FoundItems.{and_then_some}
 use Rattle.csdl_meaning.proofs.Ids.{bases_inside, keys_inside, owners_inside, props_inside}
 use Rattle.csdl_meaning.proofs.Keys.{inherited_key, key_props_sound, own_key_is, root_key}
 use Rattle.csdl_meaning.proofs.KeptNames.{key_declared, members_once, no_reference, types_once}

@@ -6,12 +6,11 @@ ghost use Rattle.groupings.specs.name_places.PlacesIn.{place_in};
 ghost use Rattle.csdl_names.specs.csdl_lists.Scopes.{IsScopeOf};
 ghost use Rattle.csdl_names.specs.Repeated.{IsRepeated, IsRepeatedInBoth, IsRepeatedInContainer, IsRepeatedInSchema};
 
-use crate::again::{Again, first_twice};
 use crate::csdl_lists::{RawAssociation, RawContainer, RawEnum, RawModel, RawType, Scope};
 use crate::lookups::Lookups;
 use emc_base::{Memory, Seq};
 use groupings::{Finder, Named, Places, earlier, places_of};
-use layouts::{Fault, behind_member, first_at};
+use layouts::{Again, Fault, behind_member, first_at, first_twice};
 use std::alloc::Global;
 
 /// Searches the types of a model for names that are given twice in one.
@@ -22,7 +21,7 @@ struct InTypes<'a> {
 
 impl<'a> Finder<RawType, Fault> for InTypes<'a> {
     ghost use Rattle.std.specs.Prelude.{slice_get, MatchOption};
-    ghost use Rattle.csdl_names.specs.Repeated.{IsRepeatedInType};
+    ghost use Rattle.csdl_names.specs.Repeated.{IsRepeatedInType, IsRepeatedInEnum, IsRepeatedInAssociation};
 
     ghost wrong = { λ s i _ fault. MatchOption (slice_get s.lookups.now.model.now.types i) ⊥ (λ type. IsRepeatedInType i type fault) };
 
@@ -45,8 +44,6 @@ impl<'a> Finder<RawType, Fault> for InTypes<'a> {
 struct Inside {}
 
 impl Finder<RawEnum, Fault> for Inside {
-    ghost use Rattle.csdl_names.specs.Repeated.{IsRepeatedInEnum};
-
     ghost wrong = { λ _. IsRepeatedInEnum };
 
     fn find(&self, alloc: Global, _: usize, item: &RawEnum) -> Result<Option<Fault>, Memory> {
@@ -57,8 +54,6 @@ impl Finder<RawEnum, Fault> for Inside {
 }
 
 impl Finder<RawAssociation, Fault> for Inside {
-    ghost use Rattle.csdl_names.specs.Repeated.{IsRepeatedInAssociation};
-
     ghost wrong = { λ _. IsRepeatedInAssociation };
 
     fn find(

@@ -2,7 +2,8 @@ ghost use Rattle.std.specs.Prelude.{◌≡◌, IfOk};
 ghost use Rattle.layouts.specs.Faults.{fault_cmp};
 ghost use Rattle.groupings.specs.least_fault.Least.{IsLeast};
 ghost use Rattle.csdl_names.specs.csdl_lists.References.{names_in};
-ghost use Rattle.csdl_names.specs.Unresolved.{IsUnresolved, IsUnresolvedBase, IsUnresolvedInConstraint, IsUnresolvedInContainer, IsUnresolvedInKey, IsUnresolvedInRole, LacksRoleAt, NamesNothing};
+ghost use Rattle.csdl_names.specs.Unresolved.{IsUnresolved, IsUnresolvedBase, IsUnresolvedInConstraint, IsUnresolvedInContainer, IsUnresolvedInKey, IsUnresolvedInRole, LacksRoleAt};
+ghost use Rattle.layouts.specs.rule_places.Names.{NamesNothing};
 
 use crate::climbs::allow_climbs;
 use crate::csdl_lists::{
@@ -17,7 +18,7 @@ use std::alloc::Global;
 
 /// An entity set: its element type.
 impl<'a> Finder<RawSet, Fault> for Lookups<'a> {
-    ghost use Rattle.csdl_names.specs.Unresolved.{IsUnresolvedInSet};
+    ghost use Rattle.csdl_names.specs.Unresolved.{IsUnresolvedInSet, IsUnresolvedInSetEnd, IsUnresolvedInAssociationSet, IsUnresolvedInNav, IsUnresolvedProp, IsUnresolvedInType, IsUnresolvedInEnd, IsUnresolvedInAssociation};
 
     ghost wrong = { λ s. IsUnresolvedInSet (names_in s.model.now) s.model.now };
 
@@ -37,8 +38,6 @@ struct SetEnds<'a> {
 
 /// Its role and its entity set.
 impl<'a> Finder<RawSetEnd, Fault> for SetEnds<'a> {
-    ghost use Rattle.csdl_names.specs.Unresolved.{IsUnresolvedInSetEnd};
-
     ghost wrong = { λ s. IsUnresolvedInSetEnd (names_in s.lookups.now.model.now) s.lookups.now.model.now s.set.now };
 
     fn find(&self, alloc: Global, _: usize, item: &RawSetEnd) -> Result<Option<Fault>, Memory> {
@@ -52,8 +51,6 @@ impl<'a> Finder<RawSetEnd, Fault> for SetEnds<'a> {
 
 /// An association set: its association, and its ends.
 impl<'a> Finder<RawAssociationSet, Fault> for Lookups<'a> {
-    ghost use Rattle.csdl_names.specs.Unresolved.{IsUnresolvedInAssociationSet};
-
     ghost wrong = { λ s. IsUnresolvedInAssociationSet (names_in s.model.now) s.model.now };
 
     fn find(
@@ -75,8 +72,6 @@ impl<'a> Finder<RawAssociationSet, Fault> for Lookups<'a> {
 
 /// A navigation property: its association, and its two roles.
 impl<'a> Finder<RawNav, Fault> for Lookups<'a> {
-    ghost use Rattle.csdl_names.specs.Unresolved.{IsUnresolvedInNav};
-
     ghost wrong = { λ s. IsUnresolvedInNav (names_in s.model.now) s.model.now };
 
     fn find(&self, alloc: Global, _: usize, item: &RawNav) -> Result<Option<Fault>, Memory> {
@@ -96,8 +91,6 @@ struct PropNames<'a> {
 }
 
 impl<'a> Finder<Txt, Fault> for PropNames<'a> {
-    ghost use Rattle.csdl_names.specs.Unresolved.{IsUnresolvedProp};
-
     ghost wrong = { λ s. IsUnresolvedProp (names_in s.lookups.now.model.now) s.lookups.now.model.now s.ty };
 
     fn find(&self, alloc: Global, _: usize, item: &Txt) -> Result<Option<Fault>, Memory> {
@@ -110,8 +103,6 @@ impl<'a> Finder<Txt, Fault> for PropNames<'a> {
 
 /// A type: its base type, its key, and its navigation properties.
 impl<'a> Finder<RawType, Fault> for Lookups<'a> {
-    ghost use Rattle.csdl_names.specs.Unresolved.{IsUnresolvedInType};
-
     ghost wrong = { λ s. IsUnresolvedInType (names_in s.model.now) s.model.now };
 
     fn find(&self, alloc: Global, place: usize, item: &RawType) -> Result<Option<Fault>, Memory> {
@@ -124,8 +115,6 @@ impl<'a> Finder<RawType, Fault> for Lookups<'a> {
 
 /// An end of an association: its type.
 impl<'a> Finder<RawEnd, Fault> for Lookups<'a> {
-    ghost use Rattle.csdl_names.specs.Unresolved.{IsUnresolvedInEnd};
-
     ghost wrong = { λ s. IsUnresolvedInEnd (names_in s.model.now) s.model.now };
 
     fn find(&self, alloc: Global, _: usize, item: &RawEnd) -> Result<Option<Fault>, Memory> {
@@ -137,8 +126,6 @@ impl<'a> Finder<RawEnd, Fault> for Lookups<'a> {
 
 /// An association: the types of its ends, and its constraint.
 impl<'a> Finder<RawAssociation, Fault> for Lookups<'a> {
-    ghost use Rattle.csdl_names.specs.Unresolved.{IsUnresolvedInAssociation};
-
     ghost wrong = { λ s. IsUnresolvedInAssociation (names_in s.model.now) s.model.now };
 
     fn find(

@@ -4,10 +4,10 @@ pub mod Climbs
 pub mod Depths
 pub mod Filled
 pub mod Levels
-pub mod Members
 pub mod Orders
 pub mod Passing
 pub mod Paths
 pub mod Sums
 pub mod Tops
 pub mod Turns
+pub mod Settled

@@ -7,8 +7,7 @@ pub use Rattle.round_trip.specs.Words.{State, Tables, AreLegalTables, AreTables,
 pub use Rattle.round_trip.specs.TableBreaches.{IsBreachOfTables}
 pub use Rattle.round_trip.specs.soundness.Mappings.{IsSoundSchema}
 pub use Rattle.region_partition.specs.mapping_limits.FirstLimit.{IsFirstLimit}
-pub use Rattle.mapping_core.specs.mapping_verdict.Words.{Failure}
-pub use Rattle.mapping_core.specs.mapping_verdict.Words.{IsFailureOf}
+pub use Rattle.mapping_core.specs.mapping_verdict.Words.{Failure, IsFailureOf}
 pub use Rattle.mapping_core.specs.declared.loading.LoadFault.{LoadFault}
 pub use Rattle.mapping_core.specs.Accepted.{IsDecided, PassesNoLimit}
 pub use Rattle.mapping_core.specs.Rules.{IsMeant, IsToldRule, Means}

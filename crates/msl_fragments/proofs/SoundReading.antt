@@ -7,7 +7,7 @@ use Rattle.round_trip.specs.Words.{EntityModel, StoreModel, Mapping}
 use Rattle.round_trip.specs.soundness.Mappings.{IsSoundSchema}
 use Rattle.round_trip.specs.soundness.Models.{IsSoundModel}
 use Rattle.round_trip.specs.soundness.Stores.{IsSoundStore}
-use Rattle.table_owners.specs.link_places.Between.{schema_of}
+use Rattle.round_trip.specs.Between.{schema_of}
 use Rattle.msl_rules.specs.declared.msl_lists.raw.RawMapping.{RawMapping}
 use Rattle.msl_rules.specs.msl_lists.Raw.{raw_mapping}
 use Rattle.msl_rules.specs.KeepsMapping.{HasFewItems, KeepsMappingRules}

@@ -40,7 +40,6 @@ pub enum StateFault {
 }
 
 impl From<Memory> for StateFault {
-    ghost use Rattle.std.specs.Prelude.{◌≡◌};
     ghost use Rattle.query_views.specs.declared.fault.StateFault.TheVariants as fault;
 
     ghost from_gives = { λ _ given. given ≡ fault.Memory };
@@ -51,7 +50,6 @@ impl From<Memory> for StateFault {
 }
 
 impl<T: Drop> From<AllocFailed<T>> for StateFault {
-    ghost use Rattle.std.specs.Prelude.{◌≡◌};
     ghost use Rattle.query_views.specs.declared.fault.StateFault.TheVariants as fault;
 
     ghost from_gives = { λ _ given. given ≡ fault.Memory };

@@ -11,3 +11,4 @@ pub mod FailsAt
 pub mod RoundTrips
 pub mod Words
 pub mod soundness
+pub mod Between

@@ -8,7 +8,7 @@ use Rattle.round_trip.specs.Words.{EntityModel, Assoc, StoreModel, Column, Table
 use Rattle.edm_types.specs.Forest.{type_numbered}
 use Rattle.round_trip.specs.soundness.Inheritance.{declared_props}
 use Rattle.groupings.specs.name_places.GivenNames.{first_place}
-use Rattle.csdl_names.specs.csdl_lists.References.{rest_of}
+use Rattle.groupings.specs.name_places.Fronts.{rest_of}
 use Rattle.schema_names.specs.declared.ends.WhichEnd.{WhichEnd}
 use Rattle.schema_names.specs.declared.ends.WhichEnd.TheVariants.{First, Second}
 

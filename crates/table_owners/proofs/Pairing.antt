@@ -9,8 +9,7 @@ use Rattle.emc_base.proofs.Lists.{item_at}
 use Rattle.emc_base.proofs.Mapped.{contains_at, contains_map}
 use Rattle.emc_base.proofs.Numbered.{map_contains}
 use Rattle.edm_types.specs.IsA as is_a
-use Rattle.round_trip.specs.Words.{AssocId, ColId, End, EntityModel, EntitySet, EntityType, Fragment, IsA, IsWritten, Pair, PropId, Schema}
-use Rattle.round_trip.specs.Words.{SetId, Table, TableId, TypeId, key_columns, key_props}
+use Rattle.round_trip.specs.Words.{AssocId, ColId, End, EntityModel, EntitySet, EntityType, Fragment, IsA, IsWritten, Pair, PropId, Schema, SetId, Table, TableId, TypeId, key_columns, key_props}
 use Rattle.round_trip.specs.FailsAt.{IsHostedAt}
 use Rattle.round_trip.specs.soundness.Constraints.{IsSoundAssoc, IsSoundEnd}
 use Rattle.round_trip.specs.soundness.Fragments.{WritesEndKey}

@@ -7,8 +7,7 @@ use Rattle.edm_types.specs.declared.model.Mult.TheVariants.{Many}
 use Rattle.worked_examples.specs.Ids.{type_id, table_id, just, row_of}
 use Rattle.worked_examples.specs.People.{people_table, person_row}
 use Rattle.worked_examples.specs.Bosses.{bosses, bossed_model, boss_of, all_people}
-use Rattle.worked_examples.specs.JoinedBosses.{joined, joined_store, joined_table, joined_links, joined_state, joined_tables, staff_key, manager_key, link_row}
-use Rattle.worked_examples.specs.JoinedBosses.{JoinedIsLegal, JoinedIsStored, JoinedTablesAreLegal, JoinedTablesSatisfy}
+use Rattle.worked_examples.specs.JoinedBosses.{joined, joined_store, joined_table, joined_links, joined_state, joined_tables, staff_key, manager_key, link_row, JoinedIsLegal, JoinedIsStored, JoinedTablesAreLegal, JoinedTablesSatisfy}
 use Rattle.worked_examples.proofs.Small.{PairsByRecursion, each_of}
 use Rattle.worked_examples.proofs.Values.{whole_fits}
 use Rattle.worked_examples.proofs.Writings.{OfFragment, OfLinkFragment, entity_writing, link_writing, each_writing, each_given, of_links}

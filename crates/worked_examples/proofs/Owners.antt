@@ -6,8 +6,7 @@ use Rattle.round_trip.specs.Words.{TypeId, TableId, ColId, Value, Null, Whole, E
 use Rattle.edm_types.specs.IsA.{same}
 use Rattle.worked_examples.specs.Ids.{type_id, prop_id, table_id, just, with_below, row_of}
 use Rattle.worked_examples.specs.People.{people_set, people_table, person, person_row}
-use Rattle.worked_examples.specs.Owners.{employee_type, employees_table, order_id_prop, owner_id_prop, order_type, orders_set, owner, owner_constraint, owner_key}
-use Rattle.worked_examples.specs.Owners.{shop_model, orders_table, all_people, all_employees, orders, shop, order, owned_by_a_person, OwnerDangles}
+use Rattle.worked_examples.specs.Owners.{employee_type, employees_table, order_id_prop, owner_id_prop, order_type, orders_set, owner, owner_constraint, owner_key, shop_model, orders_table, all_people, all_employees, orders, shop, order, owned_by_a_person, OwnerDangles}
 use Rattle.worked_examples.proofs.Small.{each_at, any_one}
 use Rattle.worked_examples.proofs.Entities.{IsA-after, MayStand, two_values_stand, shaped_set, legal_set}
 use Rattle.worked_examples.proofs.Values.{whole_fits}

@@ -5,8 +5,7 @@ use Rattle.std.specs.List.{AllByRecursion}
 use Rattle.std.proofs.lemmas.List.Elements.{All-nil}
 use Rattle.round_trip.specs.Words.{Value, Text, Fragment, Pair, Cond, Entity, Row, cell_of, MetByEntity, MetByRow}
 use Rattle.worked_examples.specs.Ids.{pair_of}
-use Rattle.worked_examples.specs.People.{people, people_by, people_fragment, people_store, people_table, people_model}
-use Rattle.worked_examples.specs.People.{one_person, one_row, person, person_row, OneRowIsDemanded, OneRowIsLegal, OneRowSatisfies}
+use Rattle.worked_examples.specs.People.{people, people_by, people_fragment, people_store, people_table, people_model, one_person, one_row, person, person_row, OneRowIsDemanded, OneRowIsLegal, OneRowSatisfies}
 use Rattle.worked_examples.proofs.Values.{whole_fits, text_a}
 use Rattle.worked_examples.proofs.Writings.{IsRowOf, OfCond, row_made}
 use Rattle.worked_examples.proofs.LegalRows.{FitsTable, legal_rows, legal_tables}

@@ -3,9 +3,8 @@ use Rattle.std.proofs.Common.{◌≡◌, ◌↔◌, List, [], false, option_and_
 use Rattle.std.specs.Option.{option_map_or}
 use Rattle.round_trip.specs.Words.{GroupId, Value, Schema}
 use Rattle.round_trip.specs.soundness.Joined.{Member}
-use Rattle.member_groups.specs.MemberGroups.{ListsJust}
+use Rattle.member_groups.specs.MemberGroups.{ListsJust, TellsMemberGroups, constants_in, group_in, is_tested_in}
 use Rattle.member_groups.specs.declared.groups.MemberGroups.{MemberGroups}
-use Rattle.member_groups.specs.MemberGroups.{TellsMemberGroups, constants_in, group_in, is_tested_in}
 use Rattle.member_groups.specs.Tested.{IsConstant, IsMember, IsTested}
 
 module _ (schema : Schema) (groups : MemberGroups) (tells : TellsMemberGroups schema groups) (member : Member) (is : IsMember schema member) where

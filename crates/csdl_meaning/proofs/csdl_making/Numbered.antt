@@ -11,7 +11,7 @@ use Rattle.emc_base.proofs.Loops.{take_item}
 use Rattle.round_trip.specs.Words.{PropId}
 use Rattle.graphs.specs.base_chains.Chains.{IsAncestor, base_at}
 use Rattle.graphs.proofs.base_chains.Chains.{closed_ancestors, in_chain}
-use Rattle.graphs.proofs.base_chains.Members.{contains_head, contains_tail}
+use Rattle.emc_base.proofs.Members.{contains_head, contains_tail}
 use Rattle.groupings.specs.name_places.GivenNames.{first_place}
 use Rattle.csdl_names.specs.declared.csdl_lists.raw.RawModel.{RawModel}
 use Rattle.csdl_names.specs.declared.csdl_lists.raw.RawType.{RawType}

@@ -5,7 +5,7 @@ use Rattle.layouts.specs.declared.fault.Fault.{Fault}
 use Rattle.csdl_names.specs.csdl_lists.References.{Names, names_in}
 use Rattle.csdl_names.specs.Repeated.{IsRepeated, IsRepeatedInAssociation, IsRepeatedInContainer, IsRepeatedInEnum, IsRepeatedInSchema, IsRepeatedInType}
 use Rattle.csdl_names.specs.Unresolved.{IsUnresolved, IsUnresolvedInAssociation, IsUnresolvedInAssociationSet, IsUnresolvedInConstraint, IsUnresolvedInContainer, IsUnresolvedInEnd, IsUnresolvedInNav, IsUnresolvedInRole, IsUnresolvedInSet, IsUnresolvedInSetEnd, IsUnresolvedInType, IsUnresolvedProp, LacksProp, end_of_role}
-use Rattle.csdl_meaning.proofs.NoFaults.{none_again, none_in, none_under}
+use Rattle.layouts.proofs.rule_places.NoFaults.{none_again, none_in, none_under}
 use Rattle.csdl_meaning.proofs.NoTypeFaults.{declares, not_lacked, not_lacked_above, not_none, once_in_type}
 use Rattle.csdl_model.specs.csdl_sound.Classes.{classes, gives, giving, helping, helps, lessons, persons, teacher_of_lesson, teachers}
 

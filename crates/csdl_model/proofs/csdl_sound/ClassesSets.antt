@@ -18,9 +18,9 @@ use Rattle.csdl_associations.specs.csdl_association_sets.Concrete.{HasConcrete, 
 use Rattle.csdl_associations.specs.csdl_association_sets.SetArrows.{IsArrow, IsArrowOf, IsOnCircle}
 use Rattle.csdl_associations.specs.csdl_association_sets.SetEnds.{HasOtherType}
 use Rattle.csdl_associations.specs.csdl_association_sets.SetRules.{BreaksSetRules, IsContainerFault, IsSetFault}
-use Rattle.csdl_meaning.proofs.NoFaults.{differ_tells, none_in, none_under}
+use Rattle.layouts.proofs.rule_places.NoFaults.{none_in, none_under}
+use Rattle.groupings.proofs.name_places.ByTests.{differ_tells, each_once, none_of_two}
 use Rattle.csdl_model.specs.csdl_sound.Classes.{classes, gives, giving, helping, helps, lessons, teacher_of_lesson, teachers}
-use Rattle.csdl_meaning.proofs.ByTests.{each_once, none_of_two}
 
 -- what names stand for
 abbrev names : Names

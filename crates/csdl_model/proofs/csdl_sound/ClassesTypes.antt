@@ -13,7 +13,8 @@ use Rattle.csdl_types.specs.Keys.{IsNoKeyPropFault}
 use Rattle.csdl_types.specs.PropTypes.{HasLength, IsEnumFault, IsPropBoundFault}
 use Rattle.csdl_types.specs.TypeRules.{BreaksTypeRules, IsLaterFault}
 use Rattle.csdl_meaning.specs.Meaning.{base_in}
-use Rattle.csdl_meaning.proofs.NoFaults.{none_above_root, none_in, root_above}
+use Rattle.layouts.proofs.rule_places.NoFaults.{none_in}
+use Rattle.graphs.proofs.base_chains.Settled.{none_above_root, root_above}
 use Rattle.csdl_meaning.proofs.NoTypeFaults.{all_typed, fits, in_key, key_by, none_inherited, not_inherited, others_not_in_key, unbounded}
 use Rattle.csdl_model.specs.csdl_sound.Classes.{classes, lessons, persons, teachers}
 

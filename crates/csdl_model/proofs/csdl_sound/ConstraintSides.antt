@@ -7,7 +7,7 @@ use Rattle.std.proofs.lemmas.Bool.{false_from_ne_true}
 use Rattle.std.proofs.lemmas.Slice.Eq.{bytes_eq-Decides}
 use Rattle.std.proofs.lemmas.List.Elements.{All-contains}
 use Rattle.emc_base.specs.Lists.{At, HoldsEachOnce}
-use Rattle.graphs.proofs.base_chains.Members.{apart_head, contains_cons_cases, contains_head, contains_nil, contains_tail}
+use Rattle.emc_base.proofs.Members.{apart_head, contains_cons_cases, contains_head, contains_nil, contains_tail}
 use Rattle.round_trip.specs.Words.{Assoc, Constraint, End, PropId, dependent_end, principal_end}
 use Rattle.csdl_names.specs.declared.csdl_lists.raw.RawAssociation.{RawAssociation}
 use Rattle.csdl_names.specs.declared.csdl_lists.raw.RawAssociationSet.{RawAssociationSet}
@@ -18,7 +18,7 @@ use Rattle.csdl_names.specs.declared.csdl_lists.raw.RawRole.{RawRole}
 use Rattle.csdl_names.specs.csdl_lists.References.{names_in}
 use Rattle.csdl_names.specs.Unresolved.{type_of_role}
 use Rattle.csdl_meaning.specs.ModelMeaning.{constraint_of, end_of, prop_id, props_of_side}
-use Rattle.csdl_meaning.proofs.Keys.{map_some}
+use Rattle.emc_base.proofs.FoundItems.{map_some}
 use Rattle.csdl_model.specs.csdl_sound.SoundMeaning.{KeepsRules}
 use Rattle.csdl_model.proofs.csdl_sound.KeptConstraints.{two_roles}
 use Rattle.csdl_model.proofs.csdl_sound.MeantAssocs.{IsMeantBy, first_at, is_named, second_at}

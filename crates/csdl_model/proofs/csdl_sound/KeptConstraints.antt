@@ -13,8 +13,8 @@ use Rattle.csdl_types.specs.Simple.{types_by}
 use Rattle.csdl_associations.specs.csdl_constraints.Constraints.{BreaksConstraintRules, BreaksLists, HasOtherElement, IsAssociationFault}
 use Rattle.csdl_associations.specs.csdl_constraints.Multiplicities.{BreaksConstraintMults, BreaksFreeMults}
 use Rattle.csdl_associations.specs.csdl_constraints.Sides.{IsNamed, IsWholeKey, types_of_side}
-use Rattle.csdl_meaning.proofs.FaultPlaces.{fault_at, in_list}
-use Rattle.csdl_meaning.proofs.Stable.{has_each}
+use Rattle.layouts.proofs.rule_places.FaultPlaces.{fault_at, in_list}
+use Rattle.emc_base.proofs.Stable.{has_each}
 
 module _ (raw : RawModel) (never : (fault : Fault) → ¬ BreaksConstraintRules raw fault) (i : ℕ) (association : RawAssociation) (here : At raw.associations i association) (named : IsNamed (names_in raw) raw i) where
   -- seen from the association, none is broken

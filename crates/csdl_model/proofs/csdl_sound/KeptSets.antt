@@ -19,8 +19,8 @@ use Rattle.csdl_associations.specs.csdl_association_sets.Concrete.{HasConcrete, 
 use Rattle.csdl_associations.specs.csdl_association_sets.SetArrows.{IsOnCircle}
 use Rattle.csdl_associations.specs.csdl_association_sets.SetEnds.{HasOtherDependent, HasOtherType}
 use Rattle.csdl_associations.specs.csdl_association_sets.SetRules.{BreaksSetRules, IsContainerFault, IsSetFault}
-use Rattle.csdl_meaning.proofs.FaultPlaces.{fault_at, in_list}
-use Rattle.csdl_meaning.proofs.Stable.{has_each, same_places}
+use Rattle.layouts.proofs.rule_places.FaultPlaces.{fault_at, in_list}
+use Rattle.emc_base.proofs.Stable.{has_each, same_places}
 
 module _ (raw : RawModel) (never : (fault : Fault) → ¬ BreaksSetRules raw fault) where
   -- seen from the container, no rule is broken

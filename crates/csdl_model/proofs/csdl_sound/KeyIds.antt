@@ -26,10 +26,10 @@ use Rattle.csdl_meaning.proofs.Bases.{along_chain, type_at}
 use Rattle.csdl_meaning.proofs.Keys.{declared_is, named}
 use Rattle.csdl_meaning.proofs.KeptNames.{key_declared, no_reference}
 use Rattle.csdl_meaning.proofs.KeptTypes.{none_above_itself, none_inherited, root_has_key}
-use Rattle.csdl_meaning.proofs.Lists.{found_apart, in_found}
+use Rattle.emc_base.proofs.Joined.{found_apart, in_found}
 use Rattle.csdl_meaning.proofs.Props.{has_at}
 use Rattle.csdl_meaning.proofs.Sound.{sound}
-use Rattle.csdl_meaning.proofs.FoundItems.{contains_found, member_of, some_member}
+use Rattle.emc_base.proofs.FoundItems.{contains_found, member_of, some_member}
 use Rattle.csdl_model.proofs.csdl_sound.MeantTypes.{meant}
 use Rattle.csdl_model.proofs.csdl_sound.PropIds.{of_id, one_name}
 use Rattle.csdl_model.proofs.csdl_sound.Roots.{from_top, top_found, top_here, top_inside, top_is_root, top_of, top_step}

@@ -14,9 +14,8 @@ use Rattle.csdl_names.specs.csdl_lists.References.{names_in}
 use Rattle.csdl_names.specs.Unresolved.{association_of}
 use Rattle.csdl_associations.specs.csdl_constraints.Sides.{IsNamed}
 use Rattle.csdl_meaning.specs.ModelMeaning.{assoc_between, assoc_of, constraint_of, end_of, meaning}
-use Rattle.csdl_meaning.proofs.Bases.{and_then_some}
-use Rattle.csdl_meaning.proofs.Lists.{in_found}
-use Rattle.csdl_meaning.proofs.FoundItems.{some_member}
+use Rattle.emc_base.proofs.FoundItems.{and_then_some, some_member}
+use Rattle.emc_base.proofs.Joined.{in_found}
 
 -- what an association set of an association with two ends means
 abbrev pub two_ended : RawModel → RawAssociationSet → RawAssociation → RawEnd → RawEnd → Assoc

@@ -26,11 +26,11 @@ use Rattle.csdl_names.specs.Unresolved.{end_of_role, type_of_role}
 use Rattle.csdl_associations.specs.csdl_association_sets.SetEnds.{HasOtherType}
 use Rattle.csdl_meaning.specs.Meaning.{base_in, type_of}
 use Rattle.csdl_meaning.specs.ModelMeaning.{end_of, meaning, set_numbered, set_of}
-use Rattle.csdl_meaning.proofs.Bases.{and_then_some, type_at}
-use Rattle.csdl_meaning.proofs.Lists.{at_map}
+use Rattle.csdl_meaning.proofs.Bases.{type_at}
+use Rattle.emc_base.proofs.FoundItems.{and_then_some, some_member}
+use Rattle.emc_base.proofs.Joined.{at_map}
 use Rattle.csdl_model.specs.csdl_sound.SoundMeaning.{KeepsRules}
-use Rattle.csdl_meaning.proofs.Finds.{found_named, itself_found, named_found}
-use Rattle.csdl_meaning.proofs.FoundItems.{some_member}
+use Rattle.groupings.proofs.name_places.Finds.{found_named, itself_found, named_found}
 use Rattle.csdl_meaning.proofs.Given.{roles_apart}
 use Rattle.csdl_model.proofs.csdl_sound.KeptSets.{end_concrete, no_other_type, roles_once}
 use Rattle.csdl_model.proofs.csdl_sound.KeyIds.{never}

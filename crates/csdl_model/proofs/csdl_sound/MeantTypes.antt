@@ -16,7 +16,8 @@ use Rattle.csdl_associations.specs.csdl_association_sets.Concrete.{IsConcrete as
 use Rattle.csdl_meaning.specs.Meaning.{IsMeant, base_in, type_of}
 use Rattle.csdl_meaning.specs.ModelMeaning.{meaning}
 use Rattle.csdl_meaning.proofs.Bases.{base_inside, has_type, type_at}
-use Rattle.csdl_meaning.proofs.Stable.{below, settled, up_or_not}
+use Rattle.graphs.proofs.base_chains.Settled.{up_or_not}
+use Rattle.emc_base.proofs.Stable.{below, settled}
 
 module _ (raw : RawModel) where
   -- a document means its model

@@ -6,7 +6,7 @@ use Rattle.edm_types.specs.declared.model.Mult.TheVariants.{Many, One, ZeroOrOne
 use Rattle.csdl_names.specs.declared.csdl_lists.raw.RawEnd.{RawEnd}
 use Rattle.csdl_associations.specs.csdl_constraints.Multiplicities.{BreaksFreeMults}
 use Rattle.csdl_meaning.specs.ModelMeaning.{mult_of}
-use Rattle.csdl_meaning.proofs.Stable.{same_names}
+use Rattle.emc_base.proofs.Stable.{same_names}
 
 -- exactly one is a 1
 pub one_text : (text : List ℕ) → mult_of text ≡ One → text ≡ codes "1"

@@ -20,10 +20,11 @@ use Rattle.csdl_names.specs.PropPlaces.{own_prop, place_of_prop, prop_at, prop_o
 use Rattle.csdl_names.specs.Unresolved.{Declares, LacksProp, derived, root}
 use Rattle.csdl_meaning.specs.Meaning.{base_in, declared_before, prop_named, prop_of, props_in}
 use Rattle.csdl_meaning.specs.ModelMeaning.{prop_id}
-use Rattle.csdl_meaning.proofs.Bases.{and_then_some, base_inside}
-use Rattle.csdl_meaning.proofs.Keys.{declared_is, map_some}
+use Rattle.csdl_meaning.proofs.Bases.{base_inside}
+use Rattle.emc_base.proofs.FoundItems.{and_then_some, map_some}
+use Rattle.csdl_meaning.proofs.Keys.{declared_is}
 use Rattle.csdl_meaning.proofs.Props.{prop_at as meant_at}
-use Rattle.csdl_meaning.proofs.Finds.{there_is}
+use Rattle.groupings.proofs.name_places.Finds.{there_is}
 
 -- a property of this name that a type declares: it is one of those that the type at the first place has
 pub record IsPropHere (raw : RawModel) (i : ℕ) (name : List ℕ) (place : PropPlace) : Type 0 where

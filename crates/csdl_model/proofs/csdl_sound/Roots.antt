@@ -18,8 +18,9 @@ use Rattle.csdl_names.specs.csdl_lists.References.{names_in}
 use Rattle.csdl_names.specs.declared.lookups.PropPlace.{PropPlace}
 use Rattle.csdl_names.specs.PropPlaces.{own_prop, place_of_prop, prop_of_type, prop_upto}
 use Rattle.csdl_meaning.specs.Meaning.{base_in, declared_by}
-use Rattle.csdl_meaning.proofs.Bases.{and_then_some, base_inside}
-use Rattle.csdl_meaning.proofs.Keys.{declared_is, map_some}
+use Rattle.csdl_meaning.proofs.Bases.{base_inside}
+use Rattle.emc_base.proofs.FoundItems.{and_then_some, map_some}
+use Rattle.csdl_meaning.proofs.Keys.{declared_is}
 use Rattle.csdl_meaning.proofs.Names.{member_names}
 use Rattle.csdl_model.proofs.csdl_sound.PropIds.{own_is}
 

@@ -5,7 +5,7 @@ use Rattle.std.proofs.lemmas.Simd.{map-map}
 use Rattle.emc_base.specs.Lists.{At, AreApart}
 use Rattle.emc_base.proofs.Lists.{all_from_members, at_once, same_place}
 use Rattle.emc_base.proofs.Mapped.{contains_at, contains_map}
-use Rattle.graphs.proofs.base_chains.Members.{in_map}
+use Rattle.emc_base.proofs.Members.{in_map}
 use Rattle.graphs.proofs.base_chains.Orders.{place_of_member}
 use Rattle.round_trip.specs.Words.{Assoc, EntitySet, EntityType}
 use Rattle.round_trip.specs.soundness.ModelNames.{HasDistinctNames, IsOneAssociation}
@@ -16,10 +16,10 @@ use Rattle.csdl_names.specs.declared.csdl_lists.raw.RawModel.{RawModel}
 use Rattle.csdl_names.specs.declared.csdl_lists.raw.RawSet.{RawSet}
 use Rattle.csdl_meaning.specs.ModelMeaning.{assoc_of, constraint_of, end_of, meaning, set_of}
 use Rattle.csdl_meaning.proofs.Bases.{raw_at}
-use Rattle.csdl_meaning.proofs.Lists.{all_from_places, apart-append, apart-map}
+use Rattle.emc_base.proofs.Joined.{all_from_places, apart-append, apart-map}
 use Rattle.csdl_meaning.proofs.Sound.{sound}
 use Rattle.csdl_model.specs.csdl_sound.SoundMeaning.{KeepsRules}
-use Rattle.csdl_meaning.proofs.FoundItems.{pairs_found}
+use Rattle.emc_base.proofs.FoundItems.{pairs_found}
 use Rattle.csdl_meaning.proofs.Given.{association_sets_apart, associations_apart, roles_apart, set_is_other, sets_apart, type_is_other}
 use Rattle.csdl_model.proofs.csdl_sound.MeantAssocs.{IsMeantBy, first_at, meant_by, second_at, set_name_is}
 use Rattle.csdl_model.proofs.csdl_sound.MeantTypes.{meant}

@@ -25,9 +25,9 @@ use Rattle.csdl_meaning.specs.Meaning.{base_in, chain_in, declared_before, own_p
 use Rattle.csdl_meaning.specs.ModelMeaning.{meaning, prop_id}
 use Rattle.csdl_meaning.proofs.Bases.{base_inside}
 use Rattle.csdl_meaning.proofs.Keys.{named_own}
-use Rattle.csdl_meaning.proofs.Lists.{in_found}
+use Rattle.emc_base.proofs.Joined.{in_found}
 use Rattle.csdl_meaning.proofs.Props.{has_at}
-use Rattle.csdl_meaning.proofs.FoundItems.{contains_flat_map, contains_found, map_found, member_of, some_member}
+use Rattle.emc_base.proofs.FoundItems.{contains_flat_map, contains_found, map_found, member_of, some_member}
 use Rattle.csdl_model.proofs.csdl_sound.MeantTypes.{meant}
 use Rattle.csdl_model.proofs.csdl_sound.PropIds.{IsIdOf, named_there, of_id, raw_prop_is, stands}
 use Rattle.csdl_meaning.proofs.PropKinds.{kind_by_type, kind_named}

@@ -19,7 +19,7 @@ use Rattle.csdl_associations.specs.csdl_association_sets.SetArrows.{IsArrow, IsA
 use Rattle.csdl_meaning.specs.ModelMeaning.{meaning}
 use Rattle.csdl_model.specs.csdl_sound.SoundMeaning.{KeepsRules}
 use Rattle.csdl_model.proofs.csdl_sound.ConstraintSides.{IsConstrained, IsSideAt, constrained}
-use Rattle.csdl_meaning.proofs.FoundItems.{some_member}
+use Rattle.emc_base.proofs.FoundItems.{some_member}
 use Rattle.csdl_model.proofs.csdl_sound.KeptSets.{not_on_circle}
 use Rattle.csdl_model.proofs.csdl_sound.MeantAssocs.{IsMeantBy, association_is, meant_by}
 use Rattle.csdl_model.proofs.csdl_sound.SideFacts.{of_type, side_set}

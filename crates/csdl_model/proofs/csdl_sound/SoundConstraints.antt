@@ -21,7 +21,7 @@ use Rattle.csdl_meaning.specs.ModelMeaning.{meaning, mult_of, prop_id}
 use Rattle.csdl_meaning.proofs.KeptNames.{no_reference}
 use Rattle.csdl_model.specs.csdl_sound.SoundMeaning.{KeepsRules}
 use Rattle.csdl_model.proofs.csdl_sound.ConstraintSides.{IsConstrained, IsSideAt}
-use Rattle.csdl_meaning.proofs.FoundItems.{some_member}
+use Rattle.emc_base.proofs.FoundItems.{some_member}
 use Rattle.csdl_model.proofs.csdl_sound.KeptConstraints.{constraint_mults, dependents_apart, no_other_element, principal_key, types_match}
 use Rattle.csdl_model.proofs.csdl_sound.KeptSets.{dependent_element}
 use Rattle.csdl_model.proofs.csdl_sound.KeyIds.{by_key, ids_apart, never, whole_key}
@@ -33,7 +33,7 @@ use Rattle.csdl_meaning.proofs.PropKinds.{kind_named, same_types}
 use Rattle.csdl_meaning.proofs.Resolved.{dependent_has, principal_has}
 use Rattle.csdl_model.proofs.csdl_sound.SideFacts.{has_mult, mult_has, of_side, of_type, side_element, side_kinds, side_mult, side_type, to_type}
 use Rattle.csdl_model.proofs.csdl_sound.SideProps.{all_needed, ids_of_type}
-use Rattle.csdl_meaning.proofs.Stable.{has_each, same_places}
+use Rattle.emc_base.proofs.Stable.{has_each, same_places}
 
 module _ (raw : RawModel) (keeps : KeepsRules raw) (assoc : Assoc) (by : IsMeantBy raw assoc) (constraint : Constraint) (it : IsConstrained raw assoc by constraint) where
   -- the principal side, and the dependent one

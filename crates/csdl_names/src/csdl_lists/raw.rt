@@ -19,7 +19,7 @@ pub struct RawSetEnd {
 }
 
 impl FromNode for RawSetEnd {
-    ghost use Rattle.csdl_names.specs.csdl_lists.Raw.{raw_set_end};
+    ghost use Rattle.csdl_names.specs.csdl_lists.Raw.{raw_set_end, raw_association_set, raw_set, raw_end, raw_role, raw_member, raw_enum, raw_nav, raw_prop, raw_type, raw_constraint, raw_association, raw_container, raw_model};
 
     ghost of = { raw_set_end };
 
@@ -42,8 +42,6 @@ pub struct RawAssociationSet {
 }
 
 impl FromNode for RawAssociationSet {
-    ghost use Rattle.csdl_names.specs.csdl_lists.Raw.{raw_association_set};
-
     ghost of = { raw_association_set };
 
     fn read(alloc: Global, node: Node<'_>) -> Result<RawAssociationSet, Memory> {
@@ -68,8 +66,6 @@ pub struct RawSet {
 }
 
 impl FromNode for RawSet {
-    ghost use Rattle.csdl_names.specs.csdl_lists.Raw.{raw_set};
-
     ghost of = { raw_set };
 
     fn read(alloc: Global, node: Node<'_>) -> Result<RawSet, Memory> {
@@ -91,8 +87,6 @@ pub struct RawEnd {
 }
 
 impl FromNode for RawEnd {
-    ghost use Rattle.csdl_names.specs.csdl_lists.Raw.{raw_end};
-
     ghost of = { raw_end };
 
     fn read(alloc: Global, node: Node<'_>) -> Result<RawEnd, Memory> {
@@ -117,8 +111,6 @@ pub struct RawRole {
 }
 
 impl FromNode for RawRole {
-    ghost use Rattle.csdl_names.specs.csdl_lists.Raw.{raw_role};
-
     ghost of = { raw_role };
 
     fn read(alloc: Global, node: Node<'_>) -> Result<RawRole, Memory> {
@@ -138,8 +130,6 @@ pub struct RawMember {
 }
 
 impl FromNode for RawMember {
-    ghost use Rattle.csdl_names.specs.csdl_lists.Raw.{raw_member};
-
     ghost of = { raw_member };
 
     fn read(alloc: Global, node: Node<'_>) -> Result<RawMember, Memory> {
@@ -161,8 +151,6 @@ pub struct RawEnum {
 }
 
 impl FromNode for RawEnum {
-    ghost use Rattle.csdl_names.specs.csdl_lists.Raw.{raw_enum};
-
     ghost of = { raw_enum };
 
     fn read(alloc: Global, node: Node<'_>) -> Result<RawEnum, Memory> {
@@ -191,8 +179,6 @@ pub struct RawNav {
 }
 
 impl FromNode for RawNav {
-    ghost use Rattle.csdl_names.specs.csdl_lists.Raw.{raw_nav};
-
     ghost of = { raw_nav };
 
     fn read(alloc: Global, node: Node<'_>) -> Result<RawNav, Memory> {
@@ -223,8 +209,6 @@ pub struct RawProp {
 }
 
 impl FromNode for RawProp {
-    ghost use Rattle.csdl_names.specs.csdl_lists.Raw.{raw_prop};
-
     ghost of = { raw_prop };
 
     fn read(alloc: Global, node: Node<'_>) -> Result<RawProp, Memory> {
@@ -259,8 +243,6 @@ pub struct RawType {
 }
 
 impl FromNode for RawType {
-    ghost use Rattle.csdl_names.specs.csdl_lists.Raw.{raw_type};
-
     ghost of = { raw_type };
 
     fn read(alloc: Global, node: Node<'_>) -> Result<RawType, Memory> {
@@ -291,8 +273,6 @@ pub struct RawConstraint {
 }
 
 impl FromNode for RawConstraint {
-    ghost use Rattle.csdl_names.specs.csdl_lists.Raw.{raw_constraint};
-
     ghost of = { raw_constraint };
 
     fn read(alloc: Global, node: Node<'_>) -> Result<RawConstraint, Memory> {
@@ -317,8 +297,6 @@ pub struct RawAssociation {
 }
 
 impl FromNode for RawAssociation {
-    ghost use Rattle.csdl_names.specs.csdl_lists.Raw.{raw_association};
-
     ghost of = { raw_association };
 
     fn read(alloc: Global, node: Node<'_>) -> Result<RawAssociation, Memory> {
@@ -345,8 +323,6 @@ pub struct RawContainer {
 }
 
 impl FromNode for RawContainer {
-    ghost use Rattle.csdl_names.specs.csdl_lists.Raw.{raw_container};
-
     ghost of = { raw_container };
 
     fn read(alloc: Global, node: Node<'_>) -> Result<RawContainer, Memory> {
@@ -379,8 +355,6 @@ pub struct RawModel {
 }
 
 impl FromNode for RawModel {
-    ghost use Rattle.csdl_names.specs.csdl_lists.Raw.{raw_model};
-
     ghost of = { raw_model };
 
     fn read(alloc: Global, node: Node<'_>) -> Result<RawModel, Memory> {

@@ -7,7 +7,7 @@ use Rattle.std.proofs.lemmas.Option.{get_or_from_slice_get, slice_get-get_or}
 use Rattle.emc_base.specs.Lists.{At}
 use Rattle.graphs.specs.base_chains.Chains.{IsAncestor}
 use Rattle.graphs.specs.base_chains.Climbs.{IsClimb, IsPath, IsSeen, IsWayUp, cycle_of}
-use Rattle.graphs.proofs.base_chains.Members.{contains_dropped, contains_nil, none_passes}
+use Rattle.emc_base.proofs.Members.{contains_dropped, contains_nil, none_passes}
 use Rattle.graphs.proofs.base_chains.Paths.{no_cycle, on_cycle, only_cycle, path_more}
 
 -- what is read as not seen is not seen

@@ -9,7 +9,7 @@ use Rattle.graphs.specs.base_chains.Chains.{IsAncestor, direct}
 use Rattle.graphs.specs.base_chains.MarksBelow.{HasMarkBelow, IsCarried, TellsMarksBelow}
 use Rattle.graphs.specs.base_chains.Walks.{IsBasesFirst}
 use Rattle.graphs.proofs.base_chains.Chains.{above_above, closed_ancestors}
-use Rattle.graphs.proofs.base_chains.Members.{at_push_last, at_push_old}
+use Rattle.emc_base.proofs.Members.{at_push_last, at_push_old}
 use Rattle.graphs.proofs.base_chains.Orders.{earlier_place, place_of_member}
 
 module _ (base : ℕ → Option ℕ) (count : ℕ) (order : List ℕ) (marks : List Bool) where

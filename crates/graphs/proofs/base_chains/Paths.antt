@@ -6,7 +6,7 @@ use Rattle.emc_base.proofs.Mapped.{contains_at}
 use Rattle.graphs.specs.base_chains.Chains.{IsAncestor, direct, further}
 use Rattle.graphs.specs.base_chains.Climbs.{IsPath}
 use Rattle.graphs.proofs.base_chains.Chains.{above_above, closed_ancestors}
-use Rattle.graphs.proofs.base_chains.Members.{apart_head, apart_tail, contains_cons_cases, contains_head, contains_nil, contains_tail}
+use Rattle.emc_base.proofs.Members.{apart_head, apart_tail, contains_cons_cases, contains_head, contains_nil, contains_tail}
 
 module _ (base : ℕ → Option ℕ) where
   -- a path goes on over its exit

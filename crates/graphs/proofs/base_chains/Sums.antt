@@ -12,7 +12,7 @@ use Rattle.graphs.specs.base_chains.Chains.{IsAncestor, StaysWithin, chain, chai
 use Rattle.graphs.specs.base_chains.Walks.{IsBasesFirst}
 use Rattle.graphs.proofs.base_chains.Chains.{Ends, chain_root, chain_step, closed_ancestors, in_chain}
 use Rattle.graphs.proofs.base_chains.Filled.{Is, IsFilled, filled_all, filled_more, made_base, map_of_each}
-use Rattle.graphs.proofs.base_chains.Members.{contains_head, contains_tail}
+use Rattle.emc_base.proofs.Members.{contains_head, contains_tail}
 use Rattle.graphs.proofs.base_chains.Orders.{ends_by_order}
 
 -- where each counts as one, a sum is a length

@@ -11,7 +11,7 @@ use Rattle.graphs.specs.base_chains.Climbs.{IsClimb, IsPath, IsSeen, cycle_of}
 use Rattle.graphs.specs.base_chains.Walks.{IsBasesFirst, IsFirst, earlier}
 use Rattle.graphs.proofs.base_chains.Climbs.{cycle_in_path, on_its_cycle}
 use Rattle.graphs.proofs.base_chains.Chains.{closed_ancestors}
-use Rattle.graphs.proofs.base_chains.Members.{apart_reversed, at_push_cases, behind_reversed, contains_reverse, contains_reversed}
+use Rattle.emc_base.proofs.Members.{apart_reversed, at_push_cases, behind_reversed, contains_reverse, contains_reversed}
 use Rattle.graphs.proofs.base_chains.Paths.{exit_above_each, next_of, path_closed}
 
 -- the first of which one or the other holds

@@ -14,9 +14,8 @@ use crate::msl_written::kinds::{column_kind, corresponds, is_enum, prop_kind};
 use crate::msl_written::repeats::first_twice_written;
 use crate::msl_written::rising::is_rising;
 use crate::msl_written::writing::Writing;
-use csdl_meaning::put_found;
 use edm_types::{CondOn, Pair};
-use emc_base::{Memory, Seq};
+use emc_base::{Memory, Seq, put_found};
 use groupings::Finder;
 use layouts::{Fault, Rule, fault_here_if, first_at};
 use msl_rules::RawPair;
@@ -143,7 +142,7 @@ struct Unfit<'a> {
 
 impl<'a> Finder<RawPair, Fault> for Unfit<'a> {
     ghost use Rattle.std.specs.Prelude.{[], MatchOption};
-    ghost use Rattle.layouts.specs.declared.rule.Rule.TheVariants.{Corresponds};
+    ghost use Rattle.layouts.specs.declared.rule.Rule.TheVariants.{Corresponds, ForeignValue};
     ghost use Rattle.layouts.specs.rule_places.Places.{IsAt};
     ghost use Rattle.round_trip.specs.soundness.Fragments.{WritesToFitting};
     ghost use Rattle.msl_checks.specs.msl_written.Within.{schema_in, table_in};
@@ -179,12 +178,7 @@ struct ForeignEnums<'a> {
 }
 
 impl<'a> Finder<RawPair, Fault> for ForeignEnums<'a> {
-    ghost use Rattle.std.specs.Prelude.{[], MatchOption};
-    ghost use Rattle.layouts.specs.declared.rule.Rule.TheVariants.{ForeignValue};
-    ghost use Rattle.layouts.specs.rule_places.Places.{IsAt};
     ghost use Rattle.round_trip.specs.soundness.Joined.{WritesNoBarredEnum};
-    ghost use Rattle.msl_checks.specs.msl_written.Within.{schema_in};
-    ghost use Rattle.msl_checks.specs.msl_written.MeantAt.{meant_at};
 
     ghost wrong = { λ s k _ fault. MatchOption (meant_at s.meant.now.each k) ⊥ (λ found. ¬ WritesNoBarredEnum (schema_in s.meant.now.writing.now.between) found) × IsAt ForeignValue [] fault };
 

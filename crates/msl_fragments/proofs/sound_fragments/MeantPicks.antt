@@ -14,10 +14,9 @@ use Rattle.round_trip.specs.Words.{EntityModel, EntitySet, IsA, Pick, PropId, St
 use Rattle.round_trip.specs.soundness.Lookups.{IsUnderElement}
 use Rattle.round_trip.specs.soundness.ModelIds.{IsTypeId}
 use Rattle.groupings.proofs.name_places.FirstPlaces.{first_has}
-use Rattle.csdl_meaning.proofs.FaultPlaces.{fault_at, in_list}
-use Rattle.csdl_meaning.proofs.FoundItems.{some_member}
-use Rattle.csdl_meaning.proofs.Keys.{map_some}
-use Rattle.csdl_meaning.proofs.Lists.{in_found}
+use Rattle.layouts.proofs.rule_places.FaultPlaces.{fault_at, in_list}
+use Rattle.emc_base.proofs.FoundItems.{some_member, map_some}
+use Rattle.emc_base.proofs.Joined.{in_found}
 use Rattle.schema_names.specs.SchemaNames.{prop_named, type_named}
 use Rattle.msl_rules.specs.declared.msl_lists.raw.RawCond.{RawCond}
 use Rattle.msl_rules.specs.declared.msl_lists.raw.RawMapping.{RawMapping}

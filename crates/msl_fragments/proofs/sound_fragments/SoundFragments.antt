@@ -8,7 +8,7 @@ use Rattle.round_trip.specs.Words.{Cond, EntityModel, Pair, PropId, StoreModel, 
 use Rattle.round_trip.specs.soundness.Fragments.{NamesSharedProps, WritesKey}
 use Rattle.round_trip.specs.soundness.Lookups.{set_key}
 use Rattle.round_trip.specs.soundness.Mappings.{HasFragmentIds, IsSoundFragment}
-use Rattle.csdl_meaning.proofs.FoundItems.{member_of}
+use Rattle.emc_base.proofs.FoundItems.{member_of}
 use Rattle.msl_rules.specs.declared.msl_lists.raw.RawMapping.{RawMapping}
 use Rattle.msl_rules.specs.Found.{prop_of_picks}
 use Rattle.msl_rules.specs.KeepsMapping.{KeepsMappingRules}

@@ -12,10 +12,9 @@ use Rattle.round_trip.specs.soundness.Conditions.{AskOfNoKeyColumn, AskOfNoProp,
 use Rattle.round_trip.specs.soundness.Joined.{ComparesNoBarred}
 use Rattle.round_trip.specs.soundness.Mappings.{IsCondId}
 use Rattle.schema_names.specs.SchemaNames.{column_named}
-use Rattle.csdl_meaning.proofs.FaultPlaces.{fault_at}
-use Rattle.csdl_meaning.proofs.FoundItems.{member_of}
-use Rattle.csdl_meaning.proofs.Keys.{map_some}
-use Rattle.csdl_meaning.proofs.Lists.{in_found}
+use Rattle.layouts.proofs.rule_places.FaultPlaces.{fault_at}
+use Rattle.emc_base.proofs.FoundItems.{member_of, map_some}
+use Rattle.emc_base.proofs.Joined.{in_found}
 use Rattle.msl_rules.specs.declared.msl_lists.raw.RawCond.{RawCond}
 use Rattle.msl_rules.specs.declared.msl_lists.raw.RawMapping.{RawMapping}
 use Rattle.msl_rules.specs.Found.{col_numbered, cond_in, conds_in, named_on, on_in, table_numbered}

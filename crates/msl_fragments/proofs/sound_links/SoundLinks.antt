@@ -12,8 +12,8 @@ use Rattle.round_trip.specs.Words.{Assoc, AssocId, EntityModel, LinkFragment, St
 use Rattle.round_trip.specs.soundness.Mappings.{HasLinkFragmentIds, IsSoundLinkFragment}
 use Rattle.groupings.proofs.name_places.FirstPlaces.{first_has}
 use Rattle.schema_names.specs.SchemaNames.{association_set_named}
-use Rattle.csdl_meaning.proofs.FoundItems.{pairs_found}
-use Rattle.csdl_meaning.proofs.Lists.{in_enumerated, pairs_head, pairs_tail}
+use Rattle.emc_base.proofs.FoundItems.{pairs_found}
+use Rattle.emc_base.proofs.Joined.{in_enumerated, pairs_head, pairs_tail}
 use Rattle.msl_rules.specs.declared.msl_lists.raw.RawLinkMapping.{RawLinkMapping}
 use Rattle.msl_rules.specs.declared.msl_lists.raw.RawMapping.{RawMapping}
 use Rattle.msl_rules.specs.KeepsMapping.{KeepsMappingRules}

@@ -8,11 +8,11 @@ use Rattle.emc_base.specs.Lists.{At, AreApart}
 use Rattle.emc_base.proofs.Lists.{all_from_members, only_member}
 use Rattle.emc_base.proofs.Mapped.{contains_at}
 use Rattle.emc_base.proofs.Numbered.{enumerated_at}
-use Rattle.graphs.proofs.base_chains.Members.{in_map}
+use Rattle.emc_base.proofs.Members.{in_map}
 use Rattle.json_form.specs.Pointers.{pointer_of}
 use Rattle.round_trip.specs.Words.{EntityModel, Fragment, LinkFragment, StoreModel}
-use Rattle.csdl_meaning.proofs.FoundItems.{pairs_found}
-use Rattle.csdl_meaning.proofs.Lists.{apart-append, apart-map, in_flat_map}
+use Rattle.emc_base.proofs.FoundItems.{pairs_found}
+use Rattle.emc_base.proofs.Joined.{apart-append, apart-map, in_flat_map}
 use Rattle.msl_rules.specs.declared.msl_lists.raw.RawFragment.{RawFragment}
 use Rattle.msl_rules.specs.declared.msl_lists.raw.RawLinkMapping.{RawLinkMapping}
 use Rattle.msl_rules.specs.declared.msl_lists.raw.RawMapping.{RawMapping}

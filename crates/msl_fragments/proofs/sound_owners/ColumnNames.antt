@@ -8,9 +8,8 @@ use Rattle.groupings.specs.name_places.GivenNames.{IsGivenBefore, first_place}
 use Rattle.groupings.proofs.name_places.FirstPlaces.{first_has, names_apart}
 use Rattle.round_trip.specs.Words.{ColId, EntityModel, Pair, PropId, StoreModel, Table}
 use Rattle.schema_names.specs.SchemaNames.{column_named}
-use Rattle.csdl_meaning.proofs.Bases.{and_then_some}
-use Rattle.csdl_meaning.proofs.Keys.{map_some}
-use Rattle.csdl_meaning.proofs.Lists.{in_found}
+use Rattle.emc_base.proofs.FoundItems.{and_then_some, map_some}
+use Rattle.emc_base.proofs.Joined.{in_found}
 use Rattle.msl_rules.specs.declared.msl_lists.raw.RawPair.{RawPair}
 use Rattle.msl_rules.specs.Found.{col_numbered, pair_in, pairs_in}
 

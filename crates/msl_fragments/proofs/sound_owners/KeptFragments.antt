@@ -3,7 +3,7 @@ use Rattle.std.proofs.Common.{◌≡◌, inl, inr, ℕ, List, [], ◌∷◌, map
 use Rattle.std.proofs.lemmas.List.Elements.{All-contains}
 use Rattle.emc_base.specs.Lists.{At}
 use Rattle.emc_base.proofs.Mapped.{contains_map}
-use Rattle.graphs.proofs.base_chains.Members.{in_map}
+use Rattle.emc_base.proofs.Members.{in_map}
 use Rattle.json_form.specs.declared.pointer.Step.{Step}
 use Rattle.json_form.specs.declared.pointer.Step.TheVariants.{Item, Member}
 use Rattle.layouts.specs.declared.fault.Fault.{Fault}
@@ -14,8 +14,8 @@ use Rattle.round_trip.specs.Words.{ColId, EntityModel, Fragment, Pair, PropId, S
 use Rattle.round_trip.specs.soundness.Lookups.{set_key}
 use Rattle.schema_names.specs.SchemaNames.{set_named, table_named}
 use Rattle.table_owners.specs.key_matching.Matchings.{Matches}
-use Rattle.csdl_meaning.proofs.FaultPlaces.{fault_at, in_list}
-use Rattle.csdl_meaning.proofs.Stable.{stable}
+use Rattle.layouts.proofs.rule_places.FaultPlaces.{fault_at, in_list}
+use Rattle.emc_base.proofs.Stable.{stable}
 use Rattle.msl_rules.specs.declared.msl_lists.raw.RawMapping.{RawMapping}
 use Rattle.msl_rules.specs.declared.msl_lists.raw.RawPair.{RawPair}
 use Rattle.msl_rules.specs.Found.{prop_of_picks}

@@ -6,7 +6,7 @@ use Rattle.std.specs.Str.{bytes_eq}
 use Rattle.std.proofs.lemmas.List.Elements.{All-contains}
 use Rattle.emc_base.specs.Lists.{At}
 use Rattle.emc_base.proofs.Mapped.{contains_map}
-use Rattle.graphs.proofs.base_chains.Members.{contains_nil}
+use Rattle.emc_base.proofs.Members.{contains_nil}
 use Rattle.json_form.specs.declared.pointer.Step.{Step}
 use Rattle.json_form.specs.declared.pointer.Step.TheVariants.{Item, Member}
 use Rattle.layouts.specs.declared.fault.Fault.{Fault}
@@ -14,9 +14,9 @@ use Rattle.layouts.specs.declared.rule.Rule.TheVariants.{WritesKey, WrittenOnce}
 use Rattle.layouts.specs.rule_places.Places.{IsAt}
 use Rattle.round_trip.specs.Words.{Assoc, End, EntityModel, LinkFragment, Pair, PropId, Schema, StoreModel, key_props}
 use Rattle.schema_names.specs.SchemaNames.{association_set_named, prop_named, table_named}
-use Rattle.csdl_meaning.proofs.FaultPlaces.{fault_at, in_list}
-use Rattle.csdl_meaning.proofs.Finds.{found_named}
-use Rattle.csdl_meaning.proofs.Stable.{stable}
+use Rattle.layouts.proofs.rule_places.FaultPlaces.{fault_at, in_list}
+use Rattle.groupings.proofs.name_places.Finds.{found_named}
+use Rattle.emc_base.proofs.Stable.{stable}
 use Rattle.msl_rules.specs.declared.msl_lists.raw.RawEndMapping.{RawEndMapping}
 use Rattle.msl_rules.specs.declared.msl_lists.raw.RawMapping.{RawMapping}
 use Rattle.msl_rules.specs.Found.{end_pairs, pairs_in, role_end}

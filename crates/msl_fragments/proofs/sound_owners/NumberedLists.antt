@@ -3,7 +3,7 @@ use Rattle.std.proofs.Common.{◌≡◌, ℕ, suc, ◌+◌, ◌<◌, ◌≤◌, 
 use Rattle.std.specs.List.{enumerate_from, flat_map}
 use Rattle.emc_base.specs.Lists.{At}
 use Rattle.emc_base.proofs.Lists.{all_from_members}
-use Rattle.csdl_meaning.proofs.Lists.{apart-append, in_enumerated, in_flat_map}
+use Rattle.emc_base.proofs.Joined.{apart-append, in_enumerated, in_flat_map}
 
 module _ {X Y : Type 0} (R : Y → Y → Type 0) (f : ℕ × X → List Y) (Here : ℕ → X → Type 0) (Comes : ℕ → Y → Type 0)
     (each : (i : ℕ) (x : X) → Here i x → AllPairs R (f (i, x))) (comes : (i : ℕ) (x : X) → Here i x → (y : Y) → Contains (f (i, x)) y → Comes i y)

@@ -13,7 +13,7 @@ use Rattle.table_owners.specs.declared.table_writers.writer.Owner.{Owner}
 use Rattle.table_owners.specs.declared.table_writers.writer.Owner.TheVariants.{Set, Assoc}
 use Rattle.table_owners.specs.declared.table_writers.writer.Writer.{Writer}
 use Rattle.table_owners.proofs.table_writers.Agreeing.{one_owner}
-use Rattle.csdl_meaning.proofs.FaultPlaces.{fault_at}
+use Rattle.layouts.proofs.rule_places.FaultPlaces.{fault_at}
 use Rattle.msl_rules.specs.declared.msl_lists.raw.RawMapping.{RawMapping}
 use Rattle.msl_rules.specs.KeepsMapping.{KeepsMappingRules}
 use Rattle.msl_rules.specs.MappingMeaning.{schema_in}

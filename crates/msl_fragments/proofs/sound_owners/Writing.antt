@@ -5,7 +5,7 @@ use Rattle.std.specs.Option.{option_map_or}
 use Rattle.std.proofs.lemmas.List.Elements.{Contains-append_left, Contains-append_right}
 use Rattle.emc_base.specs.Lists.{At}
 use Rattle.emc_base.proofs.Mapped.{contains_map}
-use Rattle.graphs.proofs.base_chains.Members.{contains_head}
+use Rattle.emc_base.proofs.Members.{contains_head}
 use Rattle.round_trip.specs.Words.{Assoc, End, EntityModel, Fragment, LinkFragment, Mult, Pair, SetId, StoreModel, TableId, key_columns}
 use Rattle.round_trip.specs.FailsAt.{IsHostedAt}
 use Rattle.edm_types.specs.declared.model.Mult.TheVariants.{One, ZeroOrOne, Many}
@@ -13,7 +13,7 @@ use Rattle.round_trip.specs.soundness.Lookups.{set_key}
 use Rattle.round_trip.specs.soundness.Owners.{IsJoined, LinkMaps, Owns, SetHosts, SetWrites}
 use Rattle.table_owners.specs.declared.table_writers.writer.Owner.TheVariants as owner
 use Rattle.table_owners.specs.declared.table_writers.writer.Writer.{Writer}
-use Rattle.csdl_meaning.proofs.FoundItems.{contains_flat_map}
+use Rattle.emc_base.proofs.FoundItems.{contains_flat_map}
 use Rattle.msl_rules.specs.declared.msl_lists.raw.RawMapping.{RawMapping}
 use Rattle.msl_rules.specs.MappingMeaning.{schema_in}
 use Rattle.msl_rules.specs.OwnerRules.{PlacedWriter, are_exactly, is_one, key_pairs, placed, with_assoc, writer_of_fragment, writers_at_link, writers_at_site, writers_in, writers_of_both, writers_of_end, writers_of_link}

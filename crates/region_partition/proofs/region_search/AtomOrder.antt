@@ -1,6 +1,5 @@
 -- The atoms of a property rise towards that of an entity's value.
-use Rattle.std.proofs.Common.{◌≡◌, ⊎_elim, ℤ, ◌<ℤ◌, List, [], ◌∷◌, ◌++◌, map, filter, slice_get, All, AllPairs}
-use Rattle.std.proofs.Common.{Contains, Option, Some, None, Bool, true, false, if◌then◌else◌, refl, sym, ap, subst, ◌∙◌}
+use Rattle.std.proofs.Common.{◌≡◌, ⊎_elim, ℤ, ◌<ℤ◌, List, [], ◌∷◌, ◌++◌, map, filter, slice_get, All, AllPairs, Contains, Option, Some, None, Bool, true, false, if◌then◌else◌, refl, sym, ap, subst, ◌∙◌}
 use Rattle.std.specs.Cmp.{int_cmp_is}
 use Rattle.std.specs.List.Sorted.{IsStrictlySortedBy}
 use Rattle.std.specs.Option.{option_map_or}

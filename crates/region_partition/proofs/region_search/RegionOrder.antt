@@ -1,6 +1,5 @@
 -- The regions of a set rise towards an entity with its links, and one that holds the entity stands equal.
-use Rattle.std.proofs.Common.{◌≡◌, ◌<◌, ℕ, List, [], ◌∷◌, map, filter, flat_map, slice_get, AllPairs, Contains}
-use Rattle.std.proofs.Common.{Option, Some, None, Bool, not, ◌&&◌, refl, sym, ap, subst, ◌∙◌, arith}
+use Rattle.std.proofs.Common.{◌≡◌, ◌<◌, ℕ, List, [], ◌∷◌, map, filter, flat_map, slice_get, AllPairs, Contains, Option, Some, None, Bool, not, ◌&&◌, refl, sym, ap, subst, ◌∙◌, arith}
 use Rattle.std.specs.Cmp.{Equal-is, nat_cmp_is}
 use Rattle.std.specs.FinMap.{nat_cmp-IsAntisymmetric}
 use Rattle.std.specs.List.{AllZip, enumerate_from}

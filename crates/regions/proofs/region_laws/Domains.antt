@@ -3,11 +3,10 @@ use Rattle.std.proofs.Common.{◌≡◌, ℕ, ◌<◌, ℤ, pos, negsuc, ◌≤�
 use Rattle.std.specs.Int.Signed.{≤ℤ_refl}
 use Rattle.std.proofs.lemmas.Int.{ints}
 use Rattle.std.specs.List.{list_all, list_any}
-use Rattle.std.specs.Str.{is_utf8}
+use Rattle.std.specs.Str.{is_utf8, IsUtf8}
 use Rattle.std.proofs.lemmas.Bool.{le-leb, leb-true}
 use Rattle.std.proofs.lemmas.Bool.Decides.{Decides-and, Decides-like, Decides-ltb}
 use Rattle.std.proofs.lemmas.Str.{IsUtf8-from_is_utf8, chars-encodes, is_utf8-from_IsUtf8}
-use Rattle.std.specs.Str.{IsUtf8}
 use Rattle.emc_base.specs.Domain.{IsByteList, IsText, IsWithin, IsBetween}
 use Rattle.round_trip.specs.Words.{Value, Kind, InDomain}
 use Rattle.emc_base.specs.declared.value.Value.TheVariants as value

@@ -18,7 +18,7 @@ use Rattle.round_trip.specs.soundness.ModelIds.{IsTypeId}
 use Rattle.round_trip.specs.soundness.Models.{IsSoundModel}
 use Rattle.graphs.specs.base_chains.Chains.{IsAncestor, direct, further, StaysWithin}
 use Rattle.graphs.proofs.base_chains.Chains.{Ends, ends}
-use Rattle.graphs.proofs.base_chains.Members.{in_map}
+use Rattle.emc_base.proofs.Members.{in_map}
 
 -- what stands in a list of images is the image of a member
 in_images : {X Y : Type 0} (f : X → Y) (xs : List X) (ys : List Y) (y : Y) → map f xs ≡ ys → Contains ys y → (x : X) × Contains xs x × (f x ≡ y)

@@ -20,7 +20,7 @@ use Rattle.round_trip.specs.soundness.ModelNames.{own_names}
 use Rattle.round_trip.specs.soundness.Models.{IsSoundModel}
 use Rattle.graphs.specs.base_chains.Chains.{IsAncestor, IsUpFrom, direct, further}
 use Rattle.graphs.proofs.base_chains.Chains.{Ends}
-use Rattle.graphs.proofs.base_chains.Members.{contains_nil}
+use Rattle.emc_base.proofs.Members.{contains_nil}
 use Rattle.schema_laws.proofs.sound_forests.Whole.{base_place}
 use Rattle.schema_laws.specs.sound_types.PropNames.{HaveOtherNames}
 use Rattle.schema_laws.proofs.sound_types.BasePlaces.{above as is_above, ancestor_within, base_ends, base_here, none_above_itself}

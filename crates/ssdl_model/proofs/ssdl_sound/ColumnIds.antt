@@ -15,8 +15,8 @@ use Rattle.csdl_names.specs.csdl_lists.References.{names_in}
 use Rattle.csdl_names.specs.declared.lookups.PropPlace.{PropPlace}
 use Rattle.csdl_names.specs.PropPlaces.{own_prop, place_of_prop, prop_at, prop_of_type}
 use Rattle.csdl_names.specs.Unresolved.{LacksProp, root}
-use Rattle.csdl_meaning.proofs.Keys.{map_some}
-use Rattle.csdl_meaning.proofs.Lists.{found_apart, in_found}
+use Rattle.emc_base.proofs.FoundItems.{map_some}
+use Rattle.emc_base.proofs.Joined.{found_apart, in_found}
 use Rattle.ssdl_model.specs.ssdl_lists.RawStore.{IsUnbased}
 use Rattle.ssdl_model.specs.ssdl_making.StoreMeaning.{col_named, col_numbered}
 use Rattle.ssdl_model.proofs.ssdl_sound.Unbased.{has_own, no_base}

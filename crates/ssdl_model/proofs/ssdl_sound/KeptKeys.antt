@@ -11,9 +11,9 @@ use Rattle.csdl_names.specs.declared.csdl_lists.raw.RawModel.{RawModel}
 use Rattle.csdl_names.specs.csdl_lists.References.{names_in}
 use Rattle.csdl_names.specs.Unresolved.{type_of_role}
 use Rattle.csdl_associations.specs.csdl_constraints.Sides.{key_names, types_of_side}
-use Rattle.csdl_meaning.proofs.FaultPlaces.{fault_at, in_list}
+use Rattle.layouts.proofs.rule_places.FaultPlaces.{fault_at, in_list}
 use Rattle.csdl_meaning.proofs.PropKinds.{same_types}
-use Rattle.csdl_meaning.proofs.Stable.{has_each}
+use Rattle.emc_base.proofs.Stable.{has_each}
 use Rattle.ssdl_model.specs.ssdl_lists.Columns.{column_type}
 use Rattle.ssdl_model.specs.ssdl_rules.ForeignKeys.{BreaksForeignKey, IsForeignKeyFault, PointsToItself}
 use Rattle.ssdl_model.specs.ssdl_rules.StoreRules.{BreaksStoreRules}

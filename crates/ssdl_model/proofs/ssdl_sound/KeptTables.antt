@@ -13,8 +13,8 @@ use Rattle.csdl_names.specs.declared.csdl_lists.raw.RawProp.{RawProp}
 use Rattle.csdl_names.specs.declared.csdl_lists.raw.RawType.{RawType}
 use Rattle.csdl_types.specs.Keys.{IsFailingKeyProp, IsKey, IsKeySimple}
 use Rattle.csdl_types.specs.PropTypes.{BreaksBound}
-use Rattle.csdl_meaning.proofs.FaultPlaces.{fault_at, in_list}
-use Rattle.csdl_meaning.proofs.FoundItems.{some_member}
+use Rattle.layouts.proofs.rule_places.FaultPlaces.{fault_at, in_list}
+use Rattle.emc_base.proofs.FoundItems.{some_member}
 use Rattle.csdl_meaning.proofs.Stable.{for_keys, some_key}
 use Rattle.ssdl_model.specs.ssdl_lists.Columns.{HasColumnLength, column_simple}
 use Rattle.ssdl_model.specs.ssdl_rules.StoreRules.{BreaksStoreRules}

@@ -21,8 +21,8 @@ use Rattle.csdl_names.specs.csdl_lists.References.{names_in}
 use Rattle.csdl_names.specs.Unresolved.{type_of_role}
 use Rattle.csdl_types.specs.declared.simple.PropType.{PropType}
 use Rattle.csdl_associations.specs.csdl_constraints.Sides.{type_of_prop, types_of_side}
-use Rattle.csdl_meaning.proofs.FoundItems.{map_found}
-use Rattle.csdl_meaning.proofs.Lists.{at_map}
+use Rattle.emc_base.proofs.FoundItems.{map_found}
+use Rattle.emc_base.proofs.Joined.{at_map}
 use Rattle.csdl_meaning.proofs.PropKinds.{kind_named}
 use Rattle.ssdl_model.specs.ssdl_lists.Columns.{column_type}
 use Rattle.ssdl_model.specs.ssdl_lists.RawStore.{IsUnbased}

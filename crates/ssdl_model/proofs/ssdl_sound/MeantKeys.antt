@@ -15,9 +15,9 @@ use Rattle.csdl_names.specs.declared.csdl_lists.raw.RawModel.{RawModel}
 use Rattle.csdl_names.specs.declared.csdl_lists.raw.RawRole.{RawRole}
 use Rattle.csdl_names.specs.csdl_lists.References.{names_in}
 use Rattle.csdl_names.specs.Unresolved.{LacksProp, end_of_role, type_of_role}
-use Rattle.csdl_meaning.proofs.Finds.{found_named}
-use Rattle.csdl_meaning.proofs.Keys.{map_some}
-use Rattle.csdl_meaning.proofs.Lists.{in_found}
+use Rattle.groupings.proofs.name_places.Finds.{found_named}
+use Rattle.emc_base.proofs.FoundItems.{map_some}
+use Rattle.emc_base.proofs.Joined.{in_found}
 use Rattle.csdl_meaning.proofs.Resolved.{dependent_end_found, dependent_has, principal_end_found, principal_has, type_found}
 use Rattle.ssdl_model.specs.ssdl_lists.Tables.{table_of}
 use Rattle.ssdl_model.specs.ssdl_making.StoreMeaning.{key_meant, key_of_association, store_meaning, table_numbered}

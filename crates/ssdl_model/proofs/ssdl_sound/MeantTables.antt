@@ -13,7 +13,7 @@ use Rattle.csdl_names.specs.declared.csdl_lists.raw.RawType.{RawType}
 use Rattle.csdl_names.specs.csdl_lists.References.{names_in}
 use Rattle.csdl_names.proofs.csdl_lists.Within.{type_within}
 use Rattle.csdl_types.specs.Keys.{IsKey}
-use Rattle.csdl_meaning.proofs.Lists.{all_from_places}
+use Rattle.emc_base.proofs.Joined.{all_from_places}
 use Rattle.csdl_meaning.proofs.Resolved.{element_found}
 use Rattle.ssdl_model.specs.ssdl_making.StoreMeaning.{col_named, column_of, store_meaning, table_meant, table_with}
 use Rattle.ssdl_model.specs.ssdl_sound.SoundStore.{KeepsStoreRules}

@@ -1,7 +1,7 @@
 -- The shelves break no rule.
 use Rattle.std.proofs.Common.{◌≡◌, None, refl, zero-add}
-use Rattle.csdl_meaning.proofs.Lists.{all_from_places}
-use Rattle.csdl_meaning.proofs.NoFaults.{each_at}
+use Rattle.emc_base.proofs.Joined.{all_from_places}
+use Rattle.layouts.proofs.rule_places.NoFaults.{each_at}
 use Rattle.ssdl_model.specs.ssdl_lists.RawStore.{IsUnbased}
 use Rattle.ssdl_model.specs.ssdl_sound.Shelves.{shelves}
 use Rattle.ssdl_model.specs.ssdl_sound.SoundStore.{KeepsStoreRules}

@@ -7,7 +7,7 @@ use Rattle.csdl_names.specs.declared.csdl_lists.raw.RawConstraint.{RawConstraint
 use Rattle.csdl_names.specs.csdl_lists.References.{Names, names_in}
 use Rattle.csdl_names.specs.Repeated.{IsRepeated, IsRepeatedInAssociation, IsRepeatedInContainer, IsRepeatedInEnum, IsRepeatedInSchema, IsRepeatedInType}
 use Rattle.csdl_names.specs.Unresolved.{IsUnresolved, IsUnresolvedInAssociation, IsUnresolvedInAssociationSet, IsUnresolvedInConstraint, IsUnresolvedInContainer, IsUnresolvedInEnd, IsUnresolvedInNav, IsUnresolvedInRole, IsUnresolvedInSet, IsUnresolvedInType, IsUnresolvedProp, LacksProp, end_of_role}
-use Rattle.csdl_meaning.proofs.NoFaults.{none_again, none_in, none_under}
+use Rattle.layouts.proofs.rule_places.NoFaults.{none_again, none_in, none_under}
 use Rattle.csdl_meaning.proofs.NoTypeFaults.{declares, not_lacked, not_none, once_in_type}
 use Rattle.ssdl_model.specs.ssdl_lists.Tables.{table_of}
 use Rattle.ssdl_model.specs.ssdl_rules.Owned.{HasEndlessFault, IsEndless, IsEndlessFault, IsShared, IsSharedFault}

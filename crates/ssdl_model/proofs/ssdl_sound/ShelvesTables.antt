@@ -18,9 +18,9 @@ use Rattle.csdl_names.specs.declared.csdl_lists.raw.RawProp.{RawProp}
 use Rattle.csdl_types.specs.Keys.{IsFailingKeyProp, IsKeySimple}
 use Rattle.csdl_types.specs.PropTypes.{BreaksBound}
 use Rattle.csdl_meaning.specs.School.{needed, optional}
-use Rattle.csdl_meaning.proofs.ByTests.{each_once}
-use Rattle.csdl_meaning.proofs.FoundItems.{member_of}
-use Rattle.csdl_meaning.proofs.NoFaults.{differ_tells, is_new, none_in, not_among}
+use Rattle.groupings.proofs.name_places.ByTests.{each_once, differ_tells, is_new, not_among}
+use Rattle.emc_base.proofs.FoundItems.{member_of}
+use Rattle.layouts.proofs.rule_places.NoFaults.{none_in}
 use Rattle.csdl_meaning.proofs.NoTypeFaults.{fits, key_by, not_none, others_pass}
 use Rattle.ssdl_model.specs.ssdl_lists.Columns.{HasColumnLength, column_simple}
 use Rattle.ssdl_model.specs.ssdl_rules.ForeignKeys.{BreaksForeignKey, IsForeignKeyFault, PointsToItself}

@@ -15,10 +15,9 @@ use Rattle.csdl_names.specs.declared.csdl_lists.raw.RawSet.{RawSet}
 use Rattle.csdl_names.specs.declared.csdl_lists.raw.RawType.{RawType}
 use Rattle.csdl_names.specs.csdl_lists.References.{names_in}
 use Rattle.csdl_types.specs.declared.simple.PropType.{PropType}
-use Rattle.csdl_meaning.proofs.FoundItems.{found_each_once, pairs_found, same_found}
+use Rattle.emc_base.proofs.FoundItems.{found_each_once, pairs_found, same_found, map_some}
 use Rattle.csdl_meaning.proofs.Given.{associations_apart}
-use Rattle.csdl_meaning.proofs.Keys.{map_some}
-use Rattle.csdl_meaning.proofs.Lists.{apart-map}
+use Rattle.emc_base.proofs.Joined.{apart-map}
 use Rattle.csdl_meaning.proofs.PropKinds.{kind_named}
 use Rattle.ssdl_model.specs.ssdl_making.StoreMeaning.{col_named, key_meant, key_of_association, store_meaning, table_numbered}
 use Rattle.ssdl_model.specs.ssdl_sound.SoundStore.{KeepsStoreRules}

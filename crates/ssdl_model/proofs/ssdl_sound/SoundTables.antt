@@ -15,7 +15,7 @@ use Rattle.csdl_names.specs.declared.csdl_lists.raw.RawModel.{RawModel}
 use Rattle.csdl_names.specs.declared.csdl_lists.raw.RawSet.{RawSet}
 use Rattle.csdl_meaning.proofs.Given.{sets_apart}
 use Rattle.csdl_meaning.proofs.KeptNames.{key_declared, members_once}
-use Rattle.csdl_meaning.proofs.Lists.{apart-left, apart-map, at_map, found_length, in_found, none_long}
+use Rattle.emc_base.proofs.Joined.{apart-left, apart-map, at_map, found_length, in_found, none_long}
 use Rattle.ssdl_model.specs.ssdl_making.StoreMeaning.{col_named, column_of, store_meaning, table_meant}
 use Rattle.ssdl_model.specs.ssdl_sound.SoundStore.{KeepsStoreRules}
 use Rattle.ssdl_model.proofs.ssdl_sound.ColumnIds.{column_found, has_id, ids_apart, ids_inside}

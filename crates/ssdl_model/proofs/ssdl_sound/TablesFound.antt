@@ -12,8 +12,8 @@ use Rattle.csdl_names.specs.declared.csdl_lists.raw.RawEnd.{RawEnd}
 use Rattle.csdl_names.specs.declared.csdl_lists.raw.RawModel.{RawModel}
 use Rattle.csdl_names.specs.declared.csdl_lists.raw.RawSet.{RawSet}
 use Rattle.csdl_names.specs.csdl_lists.References.{names_in}
-use Rattle.csdl_meaning.proofs.FaultPlaces.{fault_at, in_list}
-use Rattle.csdl_meaning.proofs.Finds.{there_is}
+use Rattle.layouts.proofs.rule_places.FaultPlaces.{fault_at, in_list}
+use Rattle.groupings.proofs.name_places.Finds.{there_is}
 use Rattle.ssdl_model.specs.ssdl_lists.Tables.{is_of_type, table_of}
 use Rattle.ssdl_model.specs.ssdl_rules.Owned.{HasEndlessFault, IsEndless, IsEndlessFault}
 

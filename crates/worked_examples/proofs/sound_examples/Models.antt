@@ -21,8 +21,7 @@ use Rattle.round_trip.specs.soundness.ModelIds.{IsTypeId, IsPropId, HasEndIds, H
 use Rattle.round_trip.specs.soundness.ModelNames.{HasDistinctNames}
 use Rattle.edm_types.specs.Forest.{node_type, nodes_below, types_based_on, root_types, IsForest}
 use Rattle.round_trip.specs.soundness.Inheritance.{HasInheritedProps, declared_props, IsRootKey, IsKeyProp}
-use Rattle.round_trip.specs.soundness.Constraints.{IsSoundEnd, IsSoundAssoc, DependsByKey, HasElementByKey, IsSoundConstraint, HasArrow, Leads, HasNoCircleOfArrows}
-use Rattle.round_trip.specs.soundness.Constraints.{arrow, further}
+use Rattle.round_trip.specs.soundness.Constraints.{IsSoundEnd, IsSoundAssoc, DependsByKey, HasElementByKey, IsSoundConstraint, HasArrow, Leads, HasNoCircleOfArrows, arrow, further}
 use Rattle.round_trip.specs.soundness.Models.{IsSoundType, IsSoundModel}
 use Rattle.worked_examples.proofs.sound_examples.Lists.{all, all_all, all_from, apart, one_held}
 use Rattle.worked_examples.proofs.sound_examples.Names.{names_apart, pairs_named, each_two_named, same_prop, props_decide}

@@ -1,7 +1,7 @@
 use Rattle.std.proofs.Common.{List, sym, subst}
 use Rattle.std.proofs.lemmas.Result.{IfOk-weaker}
 use Rattle.round_trip.specs.Words.{Fragment, LinkFragment}
-use Rattle.table_owners.specs.link_places.Between.{schema_of}
+use Rattle.round_trip.specs.Between.{schema_of}
 use Rattle.table_owners.specs.Clearing.{Clears, Each, IsNamedByEntities, IsNamedByLinks}
 use Rattle.table_owners.specs.FreeColumns.{TellFree}
 use Rattle.table_owners.proofs.Free.{tell_free}

@@ -10,7 +10,7 @@ use Rattle.groupings.specs.declared.name_places.places.Places.{Places}
 use Rattle.groupings.specs.name_places.GivenNames.{IsGivenBefore}
 use Rattle.groupings.specs.name_places.PlacesIn.{place_in}
 use Rattle.layouts.specs.rule_places.Places.{IsAt}
-use Rattle.csdl_names.specs.Repeated.{IsRepeatedIn}
+use Rattle.layouts.specs.rule_places.Names.{IsRepeatedIn}
 
 -- one of the lists has the name
 abbrev pub IsKnown : List (Bor Places) → List ℕ → Type 0

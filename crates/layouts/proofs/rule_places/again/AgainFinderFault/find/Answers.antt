@@ -3,7 +3,7 @@ use Rattle.json_form.specs.declared.pointer.Step.TheVariants.{Member}
 use Rattle.layouts.specs.declared.rule.Rule.TheVariants.{NamedOnce}
 use Rattle.layouts.specs.rule_places.Places.{IsAt}
 use Rattle.layouts.proofs.rule_places.Rules.{least_where}
-use Rattle.csdl_names.proofs.again.AgainFinderFault.find.Goals as goal
+use Rattle.layouts.proofs.rule_places.again.AgainFinderFault.find.Goals as goal
 
 pub returns : goal.returns
 returns g c =

@@ -1,5 +1,5 @@
-use Rattle.csdl_names.proofs.Known.{again_by_names}
-use Rattle.csdl_names.proofs.again.Again.first_again.Goals as goal
+use Rattle.layouts.proofs.rule_places.Known.{again_by_names}
+use Rattle.layouts.proofs.rule_places.again.Again.first_again.Goals as goal
 
 pub returns : goal.returns
 returns g c =

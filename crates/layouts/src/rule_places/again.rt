@@ -3,12 +3,15 @@ ghost use Rattle.groupings.specs.least_fault.Least.{IsLeast};
 ghost use Rattle.layouts.specs.Faults.{fault_cmp};
 ghost use Rattle.groupings.specs.name_places.GivenNames.{first_place};
 ghost use Rattle.groupings.specs.name_places.PlacesIn.{place_in};
-ghost use Rattle.csdl_names.specs.KnownNames.{IsKnown, IsKnownAgain, IsKnownAgainAt, IsLeastAgain};
-ghost use Rattle.csdl_names.specs.Repeated.{IsRepeatedIn};
+ghost use Rattle.layouts.specs.rule_places.KnownNames.{IsKnown, IsKnownAgain, IsKnownAgainAt, IsLeastAgain};
+ghost use Rattle.layouts.specs.rule_places.Names.{IsRepeatedIn};
 
+use crate::fault::Fault;
+use crate::rule::Rule;
+use crate::rule_places::lists::first_at;
+use crate::rule_places::sites::fault_if;
 use emc_base::{Memory, Seq, Txt};
 use groupings::{Finder, Named, Places};
-use layouts::{Fault, Rule, fault_if, first_at};
 use std::alloc::Global;
 
 /// A list in a scope, some of whose names may be given before.

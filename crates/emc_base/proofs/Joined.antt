@@ -7,7 +7,7 @@ use Rattle.std.proofs.lemmas.Option.{slice_get-get_or, slice_get-map}
 use Rattle.std.proofs.lemmas.List.Concat.{flat_map-cons}
 use Rattle.emc_base.specs.Lists.{At}
 use Rattle.emc_base.proofs.Lists.{all_from_members}
-use Rattle.graphs.proofs.base_chains.Members.{apart_head, apart_tail, contains_nil, contains_cons_cases, contains_head, contains_tail}
+use Rattle.emc_base.proofs.Members.{apart_head, apart_tail, contains_nil, contains_cons_cases, contains_head, contains_tail}
 
 module _ {X : Type 0} where
   -- an item of the first of two lists

@@ -6,7 +6,7 @@ use Rattle.std.proofs.lemmas.Option.{same_Some}
 use Rattle.std.proofs.lemmas.Slice.Eq.{bytes_eq-Decides}
 use Rattle.emc_base.specs.Lists.{At}
 use Rattle.emc_base.proofs.Lists.{at_once, same_place}
-use Rattle.graphs.proofs.base_chains.Members.{contains_nil, contains_cons_cases}
+use Rattle.emc_base.proofs.Members.{contains_nil, contains_cons_cases}
 
 -- what isn't missing is there
 pub there_is : {X : Type 0} (found : Option X) → found ≢ None → (x : X) × (found ≡ Some x)

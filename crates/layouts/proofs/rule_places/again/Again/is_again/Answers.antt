@@ -1,8 +1,8 @@
 use Rattle.std.proofs.Common.{⊎_elim, inr, sym, subst}
 use Rattle.std.proofs.lemmas.Bool.{both_ways}
 use Rattle.groupings.specs.name_places.GivenNames.{IsGivenBefore}
-use Rattle.csdl_names.specs.KnownNames.{IsKnown}
-use Rattle.csdl_names.proofs.again.Again.is_again.Goals as goal
+use Rattle.layouts.specs.rule_places.KnownNames.{IsKnown}
+use Rattle.layouts.proofs.rule_places.again.Again.is_again.Goals as goal
 
 pub returns-else-is_known : goal.returns-else-is_known
 returns-else-is_known g c =

@@ -4,7 +4,7 @@ use Rattle.std.specs.Option.{MatchOption, option_map}
 use Rattle.std.specs.Str.Pattern.{FindsTextPrefix, StripsPrefix}
 use Rattle.std.proofs.lemmas.Str.Pattern.{starts_text}
 use Rattle.std.specs.Str.{IsCharBoundary}
-use Rattle.csdl_names.specs.csdl_lists.References.{rest_after}
+use Rattle.groupings.specs.name_places.Fronts.{rest_after}
 
 pub rest_is : (front text : List ℕ) (rest : Option (Bor (List ℕ)))
     → MatchOption rest (FindsTextPrefix front text None) (λ found. StripsPrefix (FindsTextPrefix front) text found.now)

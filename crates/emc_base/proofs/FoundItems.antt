@@ -1,13 +1,25 @@
 -- What is found of items: where it stands, and how lists of it are mapped.
-use Rattle.std.proofs.Common.{◌≡◌, ⊎_elim, List, [], ◌∷◌, map, AllPairs, Any, Contains, Option, Some, None, refl, sym, ap, subst, ◌∙◌, arith}
+use Rattle.std.proofs.Common.{◌≡◌, ⊎_elim, List, [], ◌∷◌, map, AllPairs, Any, Contains, Option, Some, None, option_map, refl, sym, ap, subst, ◌∙◌, arith}
 use Rattle.std.specs.List.{cons_option, filter_map, flat_map}
+use Rattle.std.specs.Option.{option_and_then}
 use Rattle.std.proofs.lemmas.List.Concat.{flat_map-cons}
 use Rattle.std.proofs.lemmas.List.Elements.{All-contains, Contains-append_left, Contains-append_right}
 use Rattle.std.proofs.lemmas.List.Kept.{AllPairs-cons}
+use Rattle.std.proofs.lemmas.Option.{same_Some}
 use Rattle.emc_base.specs.Lists.{HoldsEachOnce}
 use Rattle.emc_base.proofs.Lists.{all_from_members}
-use Rattle.graphs.proofs.base_chains.Members.{contains_nil, contains_cons_cases, contains_head, contains_tail}
-use Rattle.csdl_meaning.proofs.Lists.{found_apart, in_found, pairs_head, pairs_tail}
+use Rattle.emc_base.proofs.Members.{contains_nil, contains_cons_cases, contains_head, contains_tail}
+use Rattle.emc_base.proofs.Joined.{found_apart, in_found, pairs_head, pairs_tail}
+
+-- what is mapped of something found
+pub map_some : {X Y : Type 0} (f : X → Y) (found : Option X) (y : Y) → option_map f found ≡ Some y → (x : X) × (found ≡ Some x) × (f x ≡ y)
+map_some f None y is = absurd cc
+map_some f (Some x) y is = (x, refl, same_Some (f x) y is)
+
+-- what a look-up behind another found
+pub and_then_some : {X Y : Type 0} (f : X → Option Y) (found : Option X) (y : Y) → option_and_then f found ≡ Some y → (x : X) × (found ≡ Some x) × (f x ≡ Some y)
+and_then_some f None y is = absurd cc
+and_then_some f (Some x) y is = (x, refl, is)
 
 -- a member of which something holds
 pub some_member : {X : Type 0} (P : X → Type 0) (xs : List X) (x : X) → Contains xs x → P x → Any P xs

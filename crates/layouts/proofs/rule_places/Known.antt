@@ -12,8 +12,8 @@ use Rattle.groupings.specs.name_places.GivenNames.{first_place, IsGivenBefore}
 use Rattle.groupings.specs.name_places.PlacesIn.{place_in}
 use Rattle.groupings.proofs.name_places.KnownNames.{name_of_item, place_of_name}
 use Rattle.layouts.specs.rule_places.Places.{IsAt, InList}
-use Rattle.csdl_names.specs.KnownNames.{AreNames, IsKnown, IsKnownAgainAt, IsLeastAgain}
-use Rattle.csdl_names.specs.Repeated.{IsGivenAgain}
+use Rattle.layouts.specs.rule_places.KnownNames.{AreNames, IsKnown, IsKnownAgainAt, IsLeastAgain}
+use Rattle.layouts.specs.rule_places.Names.{IsGivenAgain}
 use Rattle.layouts.proofs.rule_places.LeastFound.{least_in_list}
 
 -- some item of a list: none of the empty one, the first or a later one
