@@ -1,4 +1,4 @@
-use Rattle.groupings.proofs.name_places.Fronts.{rest_is}
+use Rattle.groupings.proofs.name_places.Prefixes.{rest_is}
 use Rattle.groupings.proofs.name_places.fronts.rest_after.Goals as goal
 
 pub returns : goal.returns
