@@ -1,103 +1,15 @@
-ghost use Rattle.std.specs.Prelude.{◌≡◌, ◌∷◌, [], All, IfOk, map};
+ghost use Rattle.std.specs.Prelude.{◌≡◌, All, IfOk};
 ghost use Rattle.edm_types.specs.Forest.{HoldsEachType, IsForest};
-ghost use Rattle.edm_types.specs.Staff.{descent, node_of, person, product, staff_descent};
 ghost use Rattle.edm_types.specs.declared.mapping.CondOn.TheVariants as on;
 
-use crate::{Atom, AtomOf, holds_atoms, holds_entity, holds_row, select_expr, show_expr};
-use edm_types::{
-    Cond, CondOn, Entity, EntityModel, EntityType, Fragment, Pick, Row, Test, TypeNode,
-};
+use crate::staff::{EMPLOYEE, MANAGER, PERSON, staff};
+use condition_logic::{Atom, AtomOf, holds_atoms, holds_entity, holds_row, select_expr, show_expr};
+use edm_types::{Cond, CondOn, Entity, EntityModel, Fragment, Pick, Row, Test};
 use emc_base::{ColId, Memory, PropId, Seq, SetId, TableId, Txt, TypeId, Value};
 use std::alloc::Global;
 use std::test::Fail;
 
-// Manager, Person, Employee, Customer, Product: a manager is an employee, and employees and customers are persons. Employees and managers
-// have a colour.
-const MANAGER: TypeId = TypeId { index: 0 };
-
-const PERSON: TypeId = TypeId { index: 1 };
-
-const EMPLOYEE: TypeId = TypeId { index: 2 };
-
-const CUSTOMER: TypeId = TypeId { index: 3 };
-
-const PRODUCT: TypeId = TypeId { index: 4 };
-
 const COLOUR: PropId = PropId { index: 2 };
-
-fn declared(
-    alloc: Global,
-    base: Option<TypeId>,
-    is_abstract: bool,
-    count: u32,
-) -> Result<EntityType, Memory>
-    ensures { IfOk result (λ declared. descent declared ≡ (base, is_abstract)) }
-{
-    let mut props = Seq::empty(alloc);
-    for index in 0..count {
-        props.push(PropId { index })?;
-    }
-    Ok(EntityType {
-        name: Txt::of(alloc, "Type")?,
-        base,
-        is_abstract,
-        key: Seq::empty(alloc),
-        props,
-        navs: Seq::empty(alloc),
-    })
-}
-
-fn types(alloc: Global) -> Result<Seq<EntityType>, Memory>
-    ensures { IfOk result (λ types. map descent types ≡ staff_descent) }
-{
-    let mut types = Seq::empty(alloc);
-    types.push(declared(alloc, Some(EMPLOYEE), false, 3)?)?;
-    types.push(declared(alloc, None, true, 2)?)?;
-    types.push(declared(alloc, Some(PERSON), false, 3)?)?;
-    types.push(declared(alloc, Some(PERSON), false, 2)?)?;
-    types.push(declared(alloc, None, false, 2)?)?;
-    Ok(types)
-}
-
-fn node(id: TypeId, is_abstract: bool, children: Seq<TypeNode>) -> TypeNode
-    ensures { result ≡ node_of id is_abstract children }
-{
-    TypeNode {
-        id,
-        is_abstract,
-        children,
-    }
-}
-
-fn forest(alloc: Global) -> Result<Seq<TypeNode>, Memory>
-    ensures { IfOk result (λ forest. forest ≡ person ∷ product ∷ []) }
-{
-    let mut under_employee = Seq::empty(alloc);
-    under_employee.push(node(MANAGER, false, Seq::empty(alloc)))?;
-    let mut under_person = Seq::empty(alloc);
-    under_person.push(node(EMPLOYEE, false, under_employee))?;
-    under_person.push(node(CUSTOMER, false, Seq::empty(alloc)))?;
-    let mut forest = Seq::empty(alloc);
-    forest.push(node(PERSON, true, under_person))?;
-    forest.push(node(PRODUCT, false, Seq::empty(alloc)))?;
-    Ok(forest)
-}
-
-fn staff(alloc: Global) -> Result<EntityModel, Memory>
-    ensures forest { IfOk result (λ model. IsForest model model.forest) }
-    ensures whole { IfOk result (λ model. HoldsEachType model model.forest) }
-{
-    Ok(EntityModel {
-        namespace: Txt::of(alloc, "Staff")?,
-        alias: None,
-        container: Txt::of(alloc, "Container")?,
-        types: types(alloc)?,
-        props: Seq::empty(alloc),
-        forest: forest(alloc)?,
-        sets: Seq::empty(alloc),
-        assocs: Seq::empty(alloc),
-    })
-}
 
 // A fragment of one type, with a condition on the colour.
 fn fragment(alloc: Global, pick: Pick, test: Test) -> Result<Fragment, Memory>

@@ -1,7 +1,7 @@
 use Rattle.std.proofs.Common.{List, [], ◌∷◌, ◌++◌, ap, ◌∙◌}
 use Rattle.condition_logic.specs.declared.atoms.AtomOf.{AtomOf}
 use Rattle.condition_logic.proofs.Told.{on_one_atom}
-use Rattle.condition_logic.proofs.tests.selects_by_atom.Goals as goal
+use Rattle.base_tests.proofs.conditions.selects_by_atom.Goals as goal
 
 pub holds_atoms-requires-clause-told : goal.holds_atoms-requires-clause-told
 holds_atoms-requires-clause-told c =
