@@ -2,7 +2,7 @@
 #![tactic(auto)]
 
 ghost use Rattle.round_trip.specs.Between.{schema_of};
-ghost use Rattle.round_trip.specs.soundness.Mappings.{IsSoundSchema};
+ghost use Rattle.round_trip.specs.soundness.mappings.Mappings.{IsSoundSchema};
 
 #[cfg(test)]
 mod tests;

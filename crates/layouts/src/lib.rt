@@ -4,14 +4,11 @@
 mod fault;
 mod form;
 mod leaf;
-mod mapping_layout;
 mod missing;
-mod model_layout;
 mod names;
 mod path;
 mod rule;
 pub mod rule_places;
-mod store_layout;
 pub mod told_rules;
 mod walk;
 

@@ -23,7 +23,7 @@ use Rattle.mapping_core.specs.Accepted.{IsAccepted}
 use Rattle.query_views.specs.Answers.{StateOf}
 use Rattle.query_views.specs.declared.fault.StateFault.{StateFault}
 use Rattle.query_views.specs.declared.fault.StateFault.TheVariants as query
-use Rattle.mapping_core.specs.Loads.{Compares, HasNoState, HasNoStateBy, IsLoaded, IsReadBy, LoadsLegal, TellsDifferent, TellsIllegal, TellsLack}
+use Rattle.mapping_core.specs.states.Loads.{Compares, HasNoState, HasNoStateBy, IsLoaded, IsReadBy, LoadsLegal, TellsDifferent, TellsIllegal, TellsLack}
 use Rattle.mapping_core.specs.declared.loading.LoadFault.{LoadFault}
 use Rattle.mapping_core.specs.declared.loading.LoadFault.TheVariants.{Breach as NotLegal, NoCase, Illegal, Differs, Memory}
 use Rattle.mapping_core.proofs.Comparing.{same_but_free}

@@ -3,7 +3,7 @@ use Rattle.std.specs.Prelude.{◌≡◌, ℕ, List, Some, Result, Ok, Err, ⊤}
 use Rattle.edm_types.specs.declared.faults.VocabFault.{VocabFault}
 use Rattle.edm_types.specs.declared.faults.VocabFault.TheVariants as read
 use Rattle.round_trip.specs.Words.{Keeps, RoundTrips, Schema}
-use Rattle.round_trip.specs.soundness.Mappings.{IsSoundSchema}
+use Rattle.round_trip.specs.soundness.mappings.Mappings.{IsSoundSchema}
 use Rattle.cells.specs.declared.cells.Cells.{Cells}
 use Rattle.region_partition.specs.mapping_limits.FirstLimit.{IsFirstLimit}
 use Rattle.mapping_core.specs.mapping_verdict.Words.{IsFailureOf}

@@ -4,9 +4,6 @@ pub mod Verdicts
 pub mod Compiles
 pub mod Reading
 pub mod Words
-pub mod Stores
-pub mod Documents
-pub mod Loads
+pub mod states
 pub mod ViewsText
-pub mod GivesBack
 pub mod mapping_verdict

@@ -8,8 +8,8 @@ use Rattle.std.proofs.lemmas.Map.Keys.{apart_from_distinct}
 use Rattle.std.proofs.lemmas.Option.{get_or_from_slice_get, same_Some, slice_get_within}
 use Rattle.emc_base.proofs.Lists.{at_once, item_at}
 use Rattle.round_trip.specs.Words.{GroupId, Schema, Table, TableId, At}
-use Rattle.round_trip.specs.soundness.Joined.{IsNoKey, Joined, Member, col, prop}
-use Rattle.round_trip.specs.soundness.Joined as joined
+use Rattle.round_trip.specs.soundness.mappings.Joined.{IsNoKey, Joined, Member, col, prop}
+use Rattle.round_trip.specs.soundness.mappings.Joined as joined
 use Rattle.round_trip.specs.soundness.Lookups.{columns_of}
 use Rattle.member_groups.specs.joined_groups.Groups.{AreGroups, group_of}
 use Rattle.member_groups.specs.joined_groups.Labels.{label_eq, label_of}

@@ -4,8 +4,8 @@ use Rattle.serde_json.specs.Data.{Data}
 use Rattle.groupings.specs.least_fault.Least.{IsLeast}
 use Rattle.layouts.specs.Faults.{fault_cmp}
 use Rattle.round_trip.specs.Words.{EntityModel, StoreModel, Mapping}
-use Rattle.round_trip.specs.soundness.Mappings.{IsSoundSchema}
-use Rattle.round_trip.specs.soundness.Models.{IsSoundModel}
+use Rattle.round_trip.specs.soundness.mappings.Mappings.{IsSoundSchema}
+use Rattle.round_trip.specs.soundness.models.Models.{IsSoundModel}
 use Rattle.round_trip.specs.soundness.Stores.{IsSoundStore}
 use Rattle.round_trip.specs.Between.{schema_of}
 use Rattle.msl_rules.specs.declared.msl_lists.raw.RawMapping.{RawMapping}

@@ -12,10 +12,10 @@ use Rattle.regions.specs.Basis.{Basis, Host}
 use Rattle.regions.specs.Patterns.{Valuation}
 use Rattle.regions.specs.Regions.{regions_of}
 use Rattle.regions.specs.region_laws.IsBasis.{IsBasis, IsHostOf}
-use Rattle.regions.proofs.region_laws.Listed.{is_listed, set_is}
-use Rattle.regions.proofs.region_laws.Possible.{type_fits}
+use Rattle.regions.proofs.region_laws.listing.Listed.{is_listed, set_is}
+use Rattle.regions.proofs.region_laws.listing.Possible.{type_fits}
 use Rattle.regions.specs.region_laws.pattern.Allowed.{IsAllowed}
-use Rattle.regions.proofs.region_laws.pattern.Allowed.{domain_not_null}
+use Rattle.regions.proofs.region_laws.pattern.values.Allowed.{domain_not_null}
 use Rattle.region_states.specs.Entities.{focus_entity}
 use Rattle.region_states.specs.LoneStates.{HasNoAssociationSets, empty_state, lone_focus, lone_state}
 use Rattle.region_states.specs.Hosting.{HoldsFocus}

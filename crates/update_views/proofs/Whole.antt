@@ -12,7 +12,7 @@ use Rattle.cells.specs.declared.parts.Parts.{Parts}
 use Rattle.cells.specs.Parts.{AreParts, schema_in}
 use Rattle.cells.specs.declared.host_links.links.HostLinks.{HostLinks}
 use Rattle.cells.specs.host_links.Grouped.{GroupsLinks, links_in}
-use Rattle.schema_laws.proofs.state_demand.Lists.{member_of_flat_map, none_in_nil}
+use Rattle.schema_laws.proofs.state_demand.lists.Lists.{member_of_flat_map, none_in_nil}
 use Rattle.regions.specs.region_laws.IsBasis.{AreHostedLinks}
 use Rattle.regions.specs.region_laws.Partners.{HasFewPartners}
 use Rattle.cells.specs.region_basis.BasisOf.{basis_of}

@@ -4,7 +4,7 @@ use Rattle.std.proofs.lemmas.Bool.{and_parts}
 use Rattle.round_trip.specs.Words.{SetId, TableId, ColId, Column, Entity, FailsAt, Pair, Place, Schema, State, Table}
 use Rattle.round_trip.specs.FailsAt.{HasColumn}
 use Rattle.round_trip.specs.declared.FailKind.TheVariants as kind
-use Rattle.round_trip.specs.soundness.Owners.{SetWrites}
+use Rattle.round_trip.specs.soundness.mappings.Owners.{SetWrites}
 use Rattle.cells.specs.declared.parts.Parts.{Parts}
 use Rattle.cells.specs.Parts.{schema_in}
 use Rattle.regions.specs.declared.region.Region.{Region}

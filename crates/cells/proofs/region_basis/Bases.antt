@@ -1,8 +1,8 @@
 -- The answers by a mapping's cells are those of the definitions.
-use Rattle.round_trip.specs.soundness.Mappings.{IsSoundSchema}
+use Rattle.round_trip.specs.soundness.mappings.Mappings.{IsSoundSchema}
 use Rattle.schema_laws.proofs.sound_demand.Deriving.{decides_types}
 use Rattle.regions.specs.region_laws.IsBasis.{IsBasis}
-use Rattle.regions.proofs.region_laws.Domains.{decides_domains}
+use Rattle.regions.proofs.region_laws.values.Domains.{decides_domains}
 use Rattle.cells.specs.Cells.{TellsCells}
 use Rattle.cells.specs.Parts.{AreParts, schema_in}
 use Rattle.cells.specs.declared.parts.Parts.{Parts}

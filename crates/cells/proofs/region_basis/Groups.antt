@@ -2,7 +2,7 @@
 use Rattle.std.proofs.Common.{◌≡◌, ◌↔◌, List, [], false, option_and_then, unwrap_or, Option, Some, None, IsSome, IsTrue, refl, sym, subst}
 use Rattle.std.specs.Option.{option_map_or}
 use Rattle.round_trip.specs.Words.{GroupId, Value, Schema}
-use Rattle.round_trip.specs.soundness.Joined.{Member}
+use Rattle.round_trip.specs.soundness.mappings.Joined.{Member}
 use Rattle.member_groups.specs.MemberGroups.{ListsJust, TellsMemberGroups, constants_in, group_in, is_tested_in}
 use Rattle.member_groups.specs.declared.groups.MemberGroups.{MemberGroups}
 use Rattle.member_groups.specs.Tested.{IsConstant, IsMember, IsTested}

@@ -9,16 +9,16 @@ use Rattle.emc_base.proofs.Lists.{item_at}
 use Rattle.emc_base.proofs.Mapped.{contains_enumerated}
 use Rattle.emc_base.proofs.Numbered.{enumerated_at}
 use Rattle.round_trip.specs.Words.{Assoc, AssocId, At, Schema, SetId}
-use Rattle.round_trip.specs.soundness.Mappings.{IsSoundSchema}
+use Rattle.round_trip.specs.soundness.mappings.Mappings.{IsSoundSchema}
 use Rattle.table_owners.specs.declared.places.LinkPlace.{LinkPlace}
 use Rattle.table_owners.specs.declared.places.LinkPlace.TheVariants as place
 use Rattle.table_owners.specs.Places.{AreHosted, AreToldHosted, TellPlaces}
-use Rattle.table_owners.proofs.Hosting.{told_hosted}
-use Rattle.schema_laws.proofs.state_demand.Lists.{contains_flat_map, head_stands, member_cases, member_of_flat_map, none_in_nil}
+use Rattle.table_owners.proofs.ownership.Hosting.{told_hosted}
+use Rattle.schema_laws.proofs.state_demand.lists.Lists.{contains_flat_map, head_stands, member_cases, member_of_flat_map, none_in_nil}
 use Rattle.regions.specs.Basis.{Host, host_end}
 use Rattle.regions.specs.region_laws.IsBasis.{IsHostOf}
-use Rattle.regions.proofs.region_laws.Apart.{numbers_rise}
-use Rattle.regions.proofs.region_laws.Choices.{pairs_nil}
+use Rattle.regions.proofs.region_laws.listing.Apart.{numbers_rise}
+use Rattle.regions.proofs.region_laws.lists.Choices.{pairs_nil}
 use Rattle.cells.specs.region_basis.BasisOf.{host_at, host_by, hosts_in}
 use Rattle.cells.proofs.region_basis.Order.{pairs_joined}
 

@@ -19,7 +19,7 @@ use Rattle.csdl_names.specs.csdl_lists.References.{names_in}
 use Rattle.csdl_names.specs.PropPlaces.{own_prop, place_of_prop, prop_of_type, prop_upto}
 use Rattle.csdl_names.specs.declared.lookups.PropPlace.{PropPlace}
 use Rattle.csdl_meaning.specs.Meaning.{base_in, chain_in, declared_before, own_key, own_props, prop_named, type_of}
-use Rattle.csdl_meaning.proofs.Bases.{base_inside}
+use Rattle.csdl_meaning.proofs.types.Bases.{base_inside}
 use Rattle.csdl_meaning.specs.csdl_making.Making.{AreInherited, AreStarts, chain_list, id_of_place, list_at, type_with}
 
 module _ (raw : RawModel) where

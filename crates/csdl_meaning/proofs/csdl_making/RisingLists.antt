@@ -17,7 +17,7 @@ use Rattle.std.proofs.lemmas.List.Sorted.{Contains-permutation, IsPermutation-sy
 use Rattle.emc_base.proofs.Members.{contains_cons_cases, contains_head, contains_nil, contains_tail}
 use Rattle.csdl_meaning.specs.Rising.{rising, with_number}
 use Rattle.emc_base.proofs.Joined.{pairs_head, pairs_tail}
-use Rattle.csdl_meaning.proofs.Rising.{rising_all, rising_rises}
+use Rattle.csdl_meaning.proofs.lists.Rising.{rising_all, rising_rises}
 
 -- the numbers rise
 abbrev pub Rises : List ℤ → Type 0

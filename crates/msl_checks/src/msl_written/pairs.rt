@@ -4,8 +4,8 @@ ghost use Rattle.groupings.specs.least_fault.Least.{IsLeast};
 ghost use Rattle.layouts.specs.Faults.{fault_cmp};
 ghost use Rattle.layouts.specs.declared.rule.Rule.TheVariants.{WrittenOnce};
 ghost use Rattle.layouts.specs.rule_places.Places.{InList, IsAt};
-ghost use Rattle.round_trip.specs.soundness.Fragments.{WritesToFitting};
-ghost use Rattle.round_trip.specs.soundness.Joined.{WritesNoBarredEnum};
+ghost use Rattle.round_trip.specs.soundness.mappings.Fragments.{WritesToFitting};
+ghost use Rattle.round_trip.specs.soundness.mappings.Joined.{WritesNoBarredEnum};
 ghost use Rattle.msl_rules.specs.FragmentRules.{IsEnumFault, IsUnfitFault, IsWrittenBefore};
 ghost use Rattle.msl_checks.specs.msl_written.Within.{meant_in, named_in, schema_in, table_in};
 ghost use Rattle.msl_checks.specs.msl_written.MeantAt.{meant_at};
@@ -144,7 +144,7 @@ impl<'a> Finder<RawPair, Fault> for Unfit<'a> {
     ghost use Rattle.std.specs.Prelude.{[], MatchOption};
     ghost use Rattle.layouts.specs.declared.rule.Rule.TheVariants.{Corresponds, ForeignValue};
     ghost use Rattle.layouts.specs.rule_places.Places.{IsAt};
-    ghost use Rattle.round_trip.specs.soundness.Fragments.{WritesToFitting};
+    ghost use Rattle.round_trip.specs.soundness.mappings.Fragments.{WritesToFitting};
     ghost use Rattle.msl_checks.specs.msl_written.Within.{schema_in, table_in};
     ghost use Rattle.msl_checks.specs.msl_written.MeantAt.{meant_at};
 
@@ -178,7 +178,7 @@ struct ForeignEnums<'a> {
 }
 
 impl<'a> Finder<RawPair, Fault> for ForeignEnums<'a> {
-    ghost use Rattle.round_trip.specs.soundness.Joined.{WritesNoBarredEnum};
+    ghost use Rattle.round_trip.specs.soundness.mappings.Joined.{WritesNoBarredEnum};
 
     ghost wrong = { λ s k _ fault. MatchOption (meant_at s.meant.now.each k) ⊥ (λ found. ¬ WritesNoBarredEnum (schema_in s.meant.now.writing.now.between) found) × IsAt ForeignValue [] fault };
 

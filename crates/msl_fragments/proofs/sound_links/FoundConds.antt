@@ -6,7 +6,7 @@ use Rattle.edm_types.specs.declared.mapping.CondOn.TheVariants as on
 use Rattle.edm_types.specs.declared.mapping.Test.TheVariants.{Equals}
 use Rattle.emc_base.specs.declared.value.Kind.TheVariants as kinds
 use Rattle.round_trip.specs.Words.{Cond, CondOn, InDomain, Kind, PropId, Schema, Test, Value}
-use Rattle.round_trip.specs.soundness.Conditions.{ComparesInDomain, kind_of}
+use Rattle.round_trip.specs.soundness.mappings.Conditions.{ComparesInDomain, kind_of}
 use Rattle.round_trip.specs.soundness.Kinds.{IsBinary}
 use Rattle.emc_base.proofs.FoundItems.{and_then_some, map_some}
 use Rattle.msl_rules.specs.declared.msl_lists.raw.RawCond.{RawCond}

@@ -7,8 +7,8 @@ use Rattle.emc_base.proofs.Lists.{all_from_members}
 use Rattle.emc_base.proofs.Numbered.{all_pairs_map}
 use Rattle.round_trip.specs.Words.{ColId, Column, Pair, PropId, Schema, StoreModel, Table}
 use Rattle.round_trip.specs.soundness.Lookups.{columns_of}
-use Rattle.round_trip.specs.soundness.Mappings.{HasPairIds}
-use Rattle.round_trip.specs.soundness.ModelIds.{IsPropId}
+use Rattle.round_trip.specs.soundness.mappings.Mappings.{HasPairIds}
+use Rattle.round_trip.specs.soundness.models.ModelIds.{IsPropId}
 use Rattle.groupings.proofs.name_places.FirstPlaces.{first_has}
 use Rattle.schema_names.specs.SchemaNames.{column_named}
 use Rattle.emc_base.proofs.FoundItems.{and_then_some, pairs_found, map_some}

@@ -8,7 +8,7 @@ use Rattle.layouts.specs.declared.fault.Fault.{Fault}
 use Rattle.layouts.specs.declared.rule.Rule.{Rule}
 use Rattle.layouts.specs.declared.rule.Rule.TheVariants as rule
 use Rattle.round_trip.specs.Words.{Assoc, End, EntityModel, IsIndependent, LinkFragment, Schema, StoreModel}
-use Rattle.round_trip.specs.soundness.Owners.{IsPlaced}
+use Rattle.round_trip.specs.soundness.mappings.Owners.{IsPlaced}
 use Rattle.layouts.specs.rule_places.Places.{InList}
 use Rattle.groupings.proofs.name_places.FirstPlaces.{names_apart}
 use Rattle.layouts.specs.rule_places.Names.{IsRepeatedIn}

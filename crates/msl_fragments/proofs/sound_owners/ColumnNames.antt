@@ -3,7 +3,7 @@ use Rattle.std.proofs.Common.{◌≡◌, ℕ, List, Contains, Option, Some, opti
 use Rattle.std.proofs.lemmas.Option.{same_Some}
 use Rattle.emc_base.specs.Lists.{At}
 use Rattle.emc_base.proofs.Lists.{at_once, same_place}
-use Rattle.graphs.proofs.base_chains.Orders.{place_of_member}
+use Rattle.graphs.proofs.base_chains.orders.Orders.{place_of_member}
 use Rattle.groupings.specs.name_places.GivenNames.{IsGivenBefore, first_place}
 use Rattle.groupings.proofs.name_places.FirstPlaces.{first_has, names_apart}
 use Rattle.round_trip.specs.Words.{ColId, EntityModel, Pair, PropId, StoreModel, Table}

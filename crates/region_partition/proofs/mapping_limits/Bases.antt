@@ -5,8 +5,8 @@ use Rattle.emc_base.proofs.Lists.{all_from_members, item_at}
 use Rattle.emc_base.proofs.Mapped.{contains_enumerated}
 use Rattle.round_trip.specs.Words.{EntityModel, EntityType}
 use Rattle.edm_types.specs.declared.faults.LimitKind.TheVariants as limit
-use Rattle.round_trip.specs.soundness.Joined.{prop}
-use Rattle.round_trip.specs.soundness.Mappings.{IsSoundSchema}
+use Rattle.round_trip.specs.soundness.mappings.Joined.{prop}
+use Rattle.round_trip.specs.soundness.mappings.Mappings.{IsSoundSchema}
 use Rattle.cells.specs.declared.parts.Parts.{Parts}
 use Rattle.cells.specs.Cells.{TellsCells}
 use Rattle.cells.specs.Limits.{HasSmallGroups, IsSmallModel, most_assocs, most_constants, most_props}

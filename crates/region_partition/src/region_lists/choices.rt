@@ -1,5 +1,5 @@
 ghost use Rattle.std.specs.Prelude.{◌≡◌, ◌<◌, ◌++◌, ◌∷◌, [], All, IfOk, filter, length, map};
-ghost use Rattle.round_trip.specs.soundness.Joined.{prop};
+ghost use Rattle.round_trip.specs.soundness.mappings.Joined.{prop};
 ghost use Rattle.cells.specs.Parts.{AreParts};
 ghost use Rattle.regions.specs.Lists.{choices};
 ghost use Rattle.regions.specs.Regions.{atoms_at, flagged, flags_at};

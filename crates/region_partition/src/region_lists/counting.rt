@@ -1,6 +1,6 @@
 ghost use Rattle.std.specs.Prelude.{◌≡◌, ◌≤◌, ◌<◌, ◌&&◌, All, filter, length, map, not, sum_by};
 ghost use Rattle.round_trip.specs.Words.{At};
-ghost use Rattle.round_trip.specs.soundness.Joined.{prop};
+ghost use Rattle.round_trip.specs.soundness.mappings.Joined.{prop};
 ghost use Rattle.schema_laws.specs.sound_demand.Deriving.{derives};
 ghost use Rattle.cells.specs.Parts.{AreParts};
 ghost use Rattle.regions.specs.Regions.{atoms_at, count_of, flags_at, types_of};

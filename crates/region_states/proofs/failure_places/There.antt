@@ -5,7 +5,7 @@ use Rattle.round_trip.specs.Words.{At, DemandsRow, EntitySet, FailsAt, FailsBy, 
 use Rattle.round_trip.specs.FailsAt.{Disagrees, IsSameAs}
 use Rattle.round_trip.specs.declared.FailKind.{FailKind}
 use Rattle.round_trip.specs.declared.FailKind.TheVariants as variant
-use Rattle.schema_laws.proofs.state_demand.Lists.{none_in_nil}
+use Rattle.schema_laws.proofs.state_demand.lists.Lists.{none_in_nil}
 use Rattle.schema_laws.proofs.sound_demand.Fitting.{sound_fragment}
 use Rattle.regions.specs.Basis.{Basis}
 use Rattle.regions.specs.region_laws.IsBasis.{IsBasis}

@@ -1,6 +1,6 @@
 ghost use Rattle.std.specs.Prelude.{◌≡◌, ◌<◌, ◌++◌, ◌==◌, All, IfOk, filter, length, map, position};
 ghost use Rattle.std.specs.List.{enumerate_from};
-ghost use Rattle.round_trip.specs.soundness.Joined.{prop};
+ghost use Rattle.round_trip.specs.soundness.mappings.Joined.{prop};
 ghost use Rattle.cells.specs.Parts.{AreParts};
 ghost use Rattle.regions.specs.Basis.{host_end, partner_end};
 ghost use Rattle.schema_laws.specs.sound_demand.Deriving.{derives};

@@ -6,7 +6,7 @@ ghost use Rattle.query_views.specs.Views.{AreQueryViewsOf};
 ghost use Rattle.cells.specs.region_basis.BasisOf.{basis_of};
 ghost use Rattle.round_trip.specs.Words.{AreLegalTables};
 ghost use Rattle.round_trip.specs.soundness.Lookups.{set_key};
-ghost use Rattle.round_trip.specs.soundness.Mappings.{IsSoundSchema};
+ghost use Rattle.round_trip.specs.soundness.mappings.Mappings.{IsSoundSchema};
 
 use cells::{Cells, Parts};
 use data_documents::tables_of_doc;

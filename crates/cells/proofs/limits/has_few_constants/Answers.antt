@@ -2,7 +2,7 @@ use Rattle.std.proofs.Common.{◌≡◌, ◌≤◌, List, length, sym, subst, �
 use Rattle.std.proofs.lemmas.Bool.{le-leb, leb-true}
 use Rattle.std.proofs.lemmas.Option.{same_Some}
 use Rattle.round_trip.specs.Words.{Value}
-use Rattle.round_trip.specs.soundness.Joined.{prop}
+use Rattle.round_trip.specs.soundness.mappings.Joined.{prop}
 use Rattle.member_groups.specs.MemberGroups.{ListsJust, constants_in}
 use Rattle.member_groups.specs.Tested.{IsConstant}
 use Rattle.cells.specs.Parts.{schema_in}

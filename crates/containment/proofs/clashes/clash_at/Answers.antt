@@ -1,7 +1,7 @@
 use Rattle.std.proofs.Common.{List, All, Any, sym, subst, subst₂, ap, ◌∙◌}
 use Rattle.round_trip.specs.declared.FailKind.TheVariants as kind
 use Rattle.condition_logic.specs.declared.atoms.AtomOf.{AtomOf}
-use Rattle.schema_laws.proofs.state_demand.Lists.{of_any}
+use Rattle.schema_laws.proofs.state_demand.lists.Lists.{of_any}
 use Rattle.regions.specs.declared.pattern.Pattern.{Pattern}
 use Rattle.regions.specs.declared.pattern.PatternRow.{PatternRow}
 use Rattle.cells.specs.region_basis.BasisOf.{basis_of}

@@ -7,8 +7,8 @@ use Rattle.round_trip.specs.Words.{Table}
 use Rattle.round_trip.specs.Between.{schema_of}
 use Rattle.table_owners.specs.Clearing.{IsStart, IsStartOf}
 use Rattle.table_owners.specs.Made.{Made}
-use Rattle.table_owners.proofs.Begun.{begun}
-use Rattle.table_owners.proofs.Items.{one_made}
+use Rattle.table_owners.proofs.columns.Begun.{begun}
+use Rattle.table_owners.proofs.lists.Items.{one_made}
 use Rattle.table_owners.proofs.free_columns.columns_of_written.Goals as goal
 
 pub loop-place-preserved : goal.loop-place-preserved

@@ -7,8 +7,8 @@ use Rattle.round_trip.specs.Between.{schema_of}
 use Rattle.table_owners.specs.declared.places.LinkPlace.{LinkPlace}
 use Rattle.table_owners.specs.Places.{IsLinkPlace, TellPlaces, maps_to}
 use Rattle.table_owners.specs.Puts.{Puts}
-use Rattle.table_owners.proofs.Placing.{tell_places}
-use Rattle.table_owners.proofs.PutItems.{all_put, none_put, one_put}
+use Rattle.table_owners.proofs.ownership.Placing.{tell_places}
+use Rattle.table_owners.proofs.lists.PutItems.{all_put, none_put, one_put}
 use Rattle.table_owners.proofs.places.places_of.Goals as goal
 
 pub loop-number-init : goal.loop-number-init

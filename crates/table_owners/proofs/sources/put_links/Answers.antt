@@ -7,7 +7,7 @@ use Rattle.table_owners.specs.declared.sources.Source.{Source}
 use Rattle.table_owners.specs.declared.sources.Source.TheVariants.{Links}
 use Rattle.table_owners.specs.Puts.{Puts}
 use Rattle.table_owners.specs.Sources.{IsLinkSource, links_to}
-use Rattle.table_owners.proofs.PutItems.{all_put, none_put, one_put}
+use Rattle.table_owners.proofs.lists.PutItems.{all_put, none_put, one_put}
 use Rattle.table_owners.proofs.sources.put_links.Goals as goal
 
 pub loop-number-init : goal.loop-number-init

@@ -1,6 +1,6 @@
 use Rattle.std.proofs.Common.{◌≡◌, ◌++◌, List, map, filter, ap, subst, ◌∙◌, IfOk}
 use Rattle.round_trip.specs.Words.{PropId}
-use Rattle.round_trip.specs.soundness.Joined.{prop}
+use Rattle.round_trip.specs.soundness.mappings.Joined.{prop}
 use Rattle.regions.specs.declared.region.Region.{Region}
 use Rattle.regions.specs.Lists.{choices}
 use Rattle.regions.specs.Regions.{atoms_at}
