@@ -5,8 +5,8 @@ use Rattle.cells.specs.Cells.{is_free_in}
 use Rattle.cells.specs.Limits.{IsWithinLimits}
 use Rattle.cells.specs.Parts.{AreParts, schema_in}
 use Rattle.cells.specs.declared.parts.Parts.{Parts}
-use Rattle.cells.specs.region_basis.BasisOf.{basis_of}
-use Rattle.cells.proofs.region_basis.Bases.{basis_is}
+use Rattle.region_states.specs.region_basis.BasisOf.{basis_of}
+use Rattle.region_states.proofs.region_basis.Bases.{basis_is}
 use Rattle.regions.specs.Basis.{Basis}
 use Rattle.regions.specs.region_laws.IsBasis.{IsBasis}
 use Rattle.region_states.specs.LoneStates.{HasNoAssociationSets}

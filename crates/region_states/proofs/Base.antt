@@ -38,7 +38,7 @@ use Rattle.region_states.specs.Hosting.{HoldsFocus}
 use Rattle.region_states.specs.LoneStates.{HasNoAssociationSets}
 use Rattle.region_states.proofs.Entities.{has_value}
 use Rattle.region_states.proofs.Held.{focus_held}
-use Rattle.region_states.proofs.Legal.{lone_holds, no_assoc}
+use Rattle.region_states.proofs.lone.Legal.{lone_holds, no_assoc}
 
 -- a key beside its own properties
 key_beside : (props : List PropId) (key : List Value) → AreApart props → length key ≡ length props → map (λ p. value_beside p props key) props ≡ key

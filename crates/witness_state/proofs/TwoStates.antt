@@ -9,7 +9,7 @@ use Rattle.regions.specs.declared.region.Region.{Region}
 use Rattle.regions.specs.Basis.{Basis}
 use Rattle.regions.specs.Patterns.{Valuation}
 use Rattle.regions.specs.Regions.{regions_of}
-use Rattle.cells.specs.region_basis.BasisOf.{basis_of}
+use Rattle.region_states.specs.region_basis.BasisOf.{basis_of}
 use Rattle.regions.proofs.region_laws.pattern.types.Regions.{parts_of}
 use Rattle.region_states.specs.defaults.Defaults.{default_valuation}
 use Rattle.region_states.specs.declared.conflicts.conflict.Conflict.{Conflict}
@@ -17,8 +17,8 @@ use Rattle.region_states.specs.declared.conflicts.conflict.Conflict.TheVariants 
 use Rattle.region_states.specs.conflicts.There.{NoneFailsBefore, NoneFailsBy}
 use Rattle.region_states.specs.Entities.{focus_entity}
 use Rattle.region_states.specs.LoneStates.{empty_state, lone_focus, lone_state}
-use Rattle.region_states.proofs.Alike.{lone_hosts, lone_leaves, lone_rivals}
-use Rattle.region_states.proofs.Legal.{no_host}
+use Rattle.region_states.proofs.lone.Alike.{lone_hosts, lone_leaves, lone_rivals}
+use Rattle.region_states.proofs.lone.Legal.{no_host}
 use Rattle.conflict_laws.specs.rival.RivalValues.{first_values, second_values}
 use Rattle.conflict_laws.specs.same.SameValues.{first_several, with_one, with_other}
 use Rattle.conflict_laws.specs.same.States.{HasStates}

@@ -16,7 +16,7 @@ use Rattle.region_states.specs.focus.Held.{IsOfRegion}
 use Rattle.region_states.proofs.focus.Flags.{some_region}
 use Rattle.case_laws.specs.filled_rows.Demanded.{IsHeldWith}
 use Rattle.region_states.specs.LoneStates.{HasNoAssociationSets}
-use Rattle.region_states.proofs.Legal.{no_host}
+use Rattle.region_states.proofs.lone.Legal.{no_host}
 use Rattle.case_laws.specs.declared.region_cases.case.Case.{Case}
 use Rattle.case_laws.specs.region_cases.Cases.{case_of, cases_of}
 use Rattle.case_laws.specs.region_cases.Meets.{IsEntityOf, MeetsCase}

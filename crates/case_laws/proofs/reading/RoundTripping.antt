@@ -16,8 +16,8 @@ use Rattle.region_states.specs.conflicts.There.{FailsThere}
 use Rattle.region_states.specs.declared.conflicts.conflict.Conflict.{Conflict}
 use Rattle.region_states.specs.declared.conflicts.conflict.Conflict.TheVariants as conflict
 use Rattle.region_states.specs.LoneStates.{HasNoAssociationSets, lone_focus}
-use Rattle.region_states.proofs.Alike.{lone_hosts}
-use Rattle.region_states.proofs.Legal.{no_host}
+use Rattle.region_states.proofs.lone.Alike.{lone_hosts}
+use Rattle.region_states.proofs.lone.Legal.{no_host}
 use Rattle.conflict_laws.proofs.clash.Clear.{row_clear}
 use Rattle.conflict_laws.proofs.Exact.{exact}
 use Rattle.case_laws.specs.Told.{IsReadable}

@@ -6,7 +6,7 @@ ghost use Rattle.condition_logic.specs.declared.atoms.Atom.TheVariants.{Is, Othe
 ghost use Rattle.regions.specs.Atoms.{atoms_of, kind_atoms};
 ghost use Rattle.regions.specs.Fitting.{fits};
 ghost use Rattle.regions.specs.Regions.{atoms_at};
-ghost use Rattle.cells.specs.region_basis.BasisOf.{basis_of};
+ghost use Rattle.region_states.specs.region_basis.BasisOf.{basis_of};
 ghost use Rattle.region_partition.specs.region_lists.Listing.{told_atoms};
 
 use cells::Parts;

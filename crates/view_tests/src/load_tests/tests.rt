@@ -3,7 +3,7 @@ ghost use Rattle.cells.specs.Cells.{is_free_in};
 ghost use Rattle.cells.specs.Parts.{AreParts};
 ghost use Rattle.round_trip.specs.Between.{schema_of};
 ghost use Rattle.query_views.specs.Views.{AreQueryViewsOf};
-ghost use Rattle.cells.specs.region_basis.BasisOf.{basis_of};
+ghost use Rattle.region_states.specs.region_basis.BasisOf.{basis_of};
 ghost use Rattle.round_trip.specs.Words.{AreLegalTables};
 ghost use Rattle.round_trip.specs.soundness.Lookups.{set_key};
 ghost use Rattle.round_trip.specs.soundness.mappings.Mappings.{IsSoundSchema};

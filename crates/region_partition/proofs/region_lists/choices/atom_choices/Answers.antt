@@ -7,7 +7,7 @@ use Rattle.round_trip.specs.soundness.mappings.Joined.{prop}
 use Rattle.condition_logic.specs.declared.atoms.AtomOf.{AtomOf}
 use Rattle.regions.specs.Lists.{choices}
 use Rattle.regions.specs.Regions.{atoms_at}
-use Rattle.cells.specs.region_basis.BasisOf.{basis_of}
+use Rattle.region_states.specs.region_basis.BasisOf.{basis_of}
 use Rattle.region_partition.specs.region_lists.Listing.{beside}
 use Rattle.region_partition.proofs.region_lists.Further.{choices_more}
 use Rattle.region_partition.proofs.region_lists.choices.atom_choices.Goals as goal

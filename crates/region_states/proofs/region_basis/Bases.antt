@@ -6,9 +6,9 @@ use Rattle.regions.proofs.region_laws.values.Domains.{decides_domains}
 use Rattle.cells.specs.Cells.{TellsCells}
 use Rattle.cells.specs.Parts.{AreParts, schema_in}
 use Rattle.cells.specs.declared.parts.Parts.{Parts}
-use Rattle.cells.specs.region_basis.BasisOf.{basis_of}
-use Rattle.cells.proofs.region_basis.Groups.{constants_told, tested_told}
-use Rattle.cells.proofs.region_basis.Hosts.{hosted_is, hosts_in_order, is_hosted}
+use Rattle.region_states.specs.region_basis.BasisOf.{basis_of}
+use Rattle.region_states.proofs.region_basis.Groups.{constants_told, tested_told}
+use Rattle.region_states.proofs.region_basis.Hosts.{hosted_is, hosts_in_order, is_hosted}
 
 -- the limits aren't needed for it
 pub basis_told : (parts : Parts) → IsSoundSchema (schema_in parts) → TellsCells (schema_in parts) parts.cells.now → IsBasis (basis_of parts)

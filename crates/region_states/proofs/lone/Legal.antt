@@ -20,7 +20,7 @@ use Rattle.region_states.specs.Entities.{focus_entity}
 use Rattle.region_states.specs.LoneStates.{HasNoAssociationSets, empty_state, lone_focus, lone_state}
 use Rattle.region_states.specs.Hosting.{HoldsFocus}
 use Rattle.region_states.proofs.Entities.{carried}
-use Rattle.region_states.proofs.Lone.{all_empty, lone_small, lone_stands, none_left}
+use Rattle.region_states.proofs.lone.Lone.{all_empty, lone_small, lone_stands, none_left}
 
 -- no association stands at any place
 pub no_assoc : (model : EntityModel) → HasNoAssociationSets model → (i : ℕ) (assoc : Assoc) → At model.assocs i assoc → ⊥

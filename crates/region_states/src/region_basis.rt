@@ -7,7 +7,7 @@ ghost use Rattle.cells.specs.declared.parts.Parts.{Parts};
 ghost use Rattle.cells.specs.HostedLinks.{hosted_links};
 ghost use Rattle.cells.specs.Parts.{AreParts, schema_in};
 ghost use Rattle.regions.specs.region_laws.IsBasis.{AreHostedLinks, IsBasis};
-ghost use Rattle.cells.specs.region_basis.BasisOf.{basis_of};
+ghost use Rattle.region_states.specs.region_basis.BasisOf.{basis_of};
 
 pub use ends::{host_end, hosting_end, partner_end};
 

@@ -19,8 +19,8 @@ use Rattle.regions.specs.Basis.{Host, host_end}
 use Rattle.regions.specs.region_laws.IsBasis.{IsHostOf}
 use Rattle.regions.proofs.region_laws.listing.Apart.{numbers_rise}
 use Rattle.regions.proofs.region_laws.lists.Choices.{pairs_nil}
-use Rattle.cells.specs.region_basis.BasisOf.{host_at, host_by, hosts_in}
-use Rattle.cells.proofs.region_basis.Order.{pairs_joined}
+use Rattle.region_states.specs.region_basis.BasisOf.{host_at, host_by, hosts_in}
+use Rattle.region_states.proofs.region_basis.Order.{pairs_joined}
 
 abbrev Rise : Host → Host → Type 0
 Rise one next = one.assoc.index < next.assoc.index

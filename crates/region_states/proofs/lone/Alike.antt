@@ -8,8 +8,8 @@ use Rattle.region_states.specs.Entities.{focus_entity}
 use Rattle.region_states.specs.Hosting.{DifferAtMostAt, HostsFocuses, HostsRivals, LeavesOut}
 use Rattle.region_states.specs.LoneStates.{HasNoAssociationSets, HasOneAtMost, empty_state, lone_focus}
 use Rattle.region_states.proofs.Keys.{same_focus_key}
-use Rattle.region_states.proofs.Legal.{empty_legal, lone_holds, no_assoc, no_host}
-use Rattle.region_states.proofs.Lone.{empty_small, lone_small, none_left}
+use Rattle.region_states.proofs.lone.Legal.{empty_legal, lone_holds, no_assoc, no_host}
+use Rattle.region_states.proofs.lone.Lone.{empty_small, lone_small, none_left}
 
 module _ (basis : Basis) (is : IsBasis basis) (none : HasNoAssociationSets basis.schema.model) where
   -- two states of one entity at most, whose keys are the same

@@ -9,8 +9,8 @@ use Rattle.cells.specs.Parts.{AreParts, schema_in}
 use Rattle.cells.proofs.Hosting.{hosted_here}
 use Rattle.regions.specs.Basis.{Host, IsHostedLink, host_end, host_key, partner_key}
 use Rattle.regions.specs.region_laws.IsBasis.{AreHostedLinks}
-use Rattle.cells.specs.region_basis.BasisOf.{basis_of, hosts_in}
-use Rattle.cells.proofs.region_basis.Hosts.{hosted_is, is_hosted}
+use Rattle.region_states.specs.region_basis.BasisOf.{basis_of, hosts_in}
+use Rattle.region_states.proofs.region_basis.Hosts.{hosted_is, is_hosted}
 
 module _ (schema : Schema) (state : State) (s : SetId) (key : List Value) (hosted : Hosted) where
   -- a link that is hosted at this end

@@ -1,9 +1,9 @@
 ghost use Rattle.std.specs.Prelude.{◌≡◌};
 ghost use Rattle.round_trip.specs.Words.{AssocId};
 ghost use Rattle.regions.specs.Basis.{host_end, partner_end};
-ghost use Rattle.cells.specs.region_basis.BasisOf.{host_by, hosts_told};
+ghost use Rattle.region_states.specs.region_basis.BasisOf.{host_by, hosts_told};
 
-use crate::LinkPlace;
+use cells::LinkPlace;
 use edm_types::{Assoc, End};
 use emc_base::SetId;
 
