@@ -21,7 +21,7 @@ struct InTypes<'a> {
 
 impl<'a> Finder<RawType, Fault> for InTypes<'a> {
     ghost use Rattle.std.specs.Prelude.{slice_get, MatchOption};
-    ghost use Rattle.csdl_names.specs.Repeated.{IsRepeatedInType, IsRepeatedInEnum, IsRepeatedInAssociation};
+    ghost use Rattle.csdl_names.specs.Repeated.{IsRepeatedInType};
 
     ghost wrong = { λ s i _ fault. MatchOption (slice_get s.lookups.now.model.now.types i) ⊥ (λ type. IsRepeatedInType i type fault) };
 
@@ -44,6 +44,8 @@ impl<'a> Finder<RawType, Fault> for InTypes<'a> {
 struct Inside {}
 
 impl Finder<RawEnum, Fault> for Inside {
+    ghost use Rattle.csdl_names.specs.Repeated.{IsRepeatedInEnum};
+
     ghost wrong = { λ _. IsRepeatedInEnum };
 
     fn find(&self, alloc: Global, _: usize, item: &RawEnum) -> Result<Option<Fault>, Memory> {
@@ -54,6 +56,8 @@ impl Finder<RawEnum, Fault> for Inside {
 }
 
 impl Finder<RawAssociation, Fault> for Inside {
+    ghost use Rattle.csdl_names.specs.Repeated.{IsRepeatedInAssociation};
+
     ghost wrong = { λ _. IsRepeatedInAssociation };
 
     fn find(

@@ -18,7 +18,7 @@ use std::alloc::Global;
 
 /// An entity set: its element type.
 impl<'a> Finder<RawSet, Fault> for Lookups<'a> {
-    ghost use Rattle.csdl_names.specs.Unresolved.{IsUnresolvedInSet, IsUnresolvedInSetEnd, IsUnresolvedInAssociationSet, IsUnresolvedInNav, IsUnresolvedProp, IsUnresolvedInType, IsUnresolvedInEnd, IsUnresolvedInAssociation};
+    ghost use Rattle.csdl_names.specs.Unresolved.{IsUnresolvedInSet};
 
     ghost wrong = { λ s. IsUnresolvedInSet (names_in s.model.now) s.model.now };
 
@@ -38,6 +38,8 @@ struct SetEnds<'a> {
 
 /// Its role and its entity set.
 impl<'a> Finder<RawSetEnd, Fault> for SetEnds<'a> {
+    ghost use Rattle.csdl_names.specs.Unresolved.{IsUnresolvedInSetEnd};
+
     ghost wrong = { λ s. IsUnresolvedInSetEnd (names_in s.lookups.now.model.now) s.lookups.now.model.now s.set.now };
 
     fn find(&self, alloc: Global, _: usize, item: &RawSetEnd) -> Result<Option<Fault>, Memory> {
@@ -51,6 +53,8 @@ impl<'a> Finder<RawSetEnd, Fault> for SetEnds<'a> {
 
 /// An association set: its association, and its ends.
 impl<'a> Finder<RawAssociationSet, Fault> for Lookups<'a> {
+    ghost use Rattle.csdl_names.specs.Unresolved.{IsUnresolvedInAssociationSet};
+
     ghost wrong = { λ s. IsUnresolvedInAssociationSet (names_in s.model.now) s.model.now };
 
     fn find(
@@ -72,6 +76,8 @@ impl<'a> Finder<RawAssociationSet, Fault> for Lookups<'a> {
 
 /// A navigation property: its association, and its two roles.
 impl<'a> Finder<RawNav, Fault> for Lookups<'a> {
+    ghost use Rattle.csdl_names.specs.Unresolved.{IsUnresolvedInNav};
+
     ghost wrong = { λ s. IsUnresolvedInNav (names_in s.model.now) s.model.now };
 
     fn find(&self, alloc: Global, _: usize, item: &RawNav) -> Result<Option<Fault>, Memory> {
@@ -91,6 +97,8 @@ struct PropNames<'a> {
 }
 
 impl<'a> Finder<Txt, Fault> for PropNames<'a> {
+    ghost use Rattle.csdl_names.specs.Unresolved.{IsUnresolvedProp};
+
     ghost wrong = { λ s. IsUnresolvedProp (names_in s.lookups.now.model.now) s.lookups.now.model.now s.ty };
 
     fn find(&self, alloc: Global, _: usize, item: &Txt) -> Result<Option<Fault>, Memory> {
@@ -103,6 +111,8 @@ impl<'a> Finder<Txt, Fault> for PropNames<'a> {
 
 /// A type: its base type, its key, and its navigation properties.
 impl<'a> Finder<RawType, Fault> for Lookups<'a> {
+    ghost use Rattle.csdl_names.specs.Unresolved.{IsUnresolvedInType};
+
     ghost wrong = { λ s. IsUnresolvedInType (names_in s.model.now) s.model.now };
 
     fn find(&self, alloc: Global, place: usize, item: &RawType) -> Result<Option<Fault>, Memory> {
@@ -115,6 +125,8 @@ impl<'a> Finder<RawType, Fault> for Lookups<'a> {
 
 /// An end of an association: its type.
 impl<'a> Finder<RawEnd, Fault> for Lookups<'a> {
+    ghost use Rattle.csdl_names.specs.Unresolved.{IsUnresolvedInEnd};
+
     ghost wrong = { λ s. IsUnresolvedInEnd (names_in s.model.now) s.model.now };
 
     fn find(&self, alloc: Global, _: usize, item: &RawEnd) -> Result<Option<Fault>, Memory> {
@@ -126,6 +138,8 @@ impl<'a> Finder<RawEnd, Fault> for Lookups<'a> {
 
 /// An association: the types of its ends, and its constraint.
 impl<'a> Finder<RawAssociation, Fault> for Lookups<'a> {
+    ghost use Rattle.csdl_names.specs.Unresolved.{IsUnresolvedInAssociation};
+
     ghost wrong = { λ s. IsUnresolvedInAssociation (names_in s.model.now) s.model.now };
 
     fn find(

@@ -23,7 +23,7 @@ struct OwnNames<'a> {
 }
 
 impl<'a, T: Named> Finder<T, usize> for OwnNames<'a> {
-    ghost use Rattle.std.specs.Prelude.{◌≡◌, Some, slice_get, MatchOption};
+    ghost use Rattle.std.specs.Prelude.{◌≡◌, Some};
     ghost use Rattle.groupings.specs.name_places.PlacesIn.{place_in};
 
     ghost wrong = { λ s _ item place. place_in s.own.now (T.name_in item) ≡ Some place };
@@ -41,6 +41,8 @@ struct TypesAbove<'a> {
 }
 
 impl<'a> Finder<usize, usize> for TypesAbove<'a> {
+    ghost use Rattle.std.specs.Prelude.{slice_get, MatchOption};
+    ghost use Rattle.groupings.specs.name_places.PlacesIn.{place_in};
     ghost use Rattle.csdl_types.specs.OwnNames.{IsPlaceOfName};
 
     ghost wrong = { λ s _ ancestor place. MatchOption (slice_get s.types.now ancestor) ⊥ (λ type. IsPlaceOfName (place_in s.own.now) type place) };

@@ -72,7 +72,7 @@ pub trait KeyTest {
 struct KeyProperties {}
 
 impl KeyTest for KeyProperties {
-    ghost use Rattle.csdl_types.specs.Keys.{CanBeKey, IsFailingKeyProp};
+    ghost use Rattle.csdl_types.specs.Keys.{CanBeKey};
 
     ghost fails = { λ _ prop. ¬ CanBeKey prop };
 
@@ -92,6 +92,8 @@ struct KeyProps<'a, T> {
 }
 
 impl<'a, T: KeyTest> Finder<RawProp, Fault> for KeyProps<'a, T> {
+    ghost use Rattle.csdl_types.specs.Keys.{IsFailingKeyProp};
+
     ghost wrong = { λ s _ prop. IsFailingKeyProp s.rule (T.fails s.test.now) s.key.now prop };
 
     fn find(&self, alloc: Global, _place: usize, item: &RawProp) -> Result<Option<Fault>, Memory> {

@@ -25,6 +25,7 @@ impl From<VocabFault> for Refusal {
 }
 
 impl From<ShapeFault> for Refusal {
+    ghost use Rattle.std.specs.Prelude.{◌≡◌};
     ghost use Rattle.data_check.specs.declared.refusal.Refusal.TheVariants as refusal;
 
     ghost from_gives = { λ fault given. given ≡ refusal.Shape fault };
@@ -35,6 +36,7 @@ impl From<ShapeFault> for Refusal {
 }
 
 impl From<Memory> for Refusal {
+    ghost use Rattle.std.specs.Prelude.{◌≡◌};
     ghost use Rattle.data_check.specs.declared.refusal.Refusal.TheVariants as refusal;
 
     ghost from_gives = { λ _ given. given ≡ refusal.Memory };

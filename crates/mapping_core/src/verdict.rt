@@ -37,7 +37,7 @@ impl From<emc_base::Memory> for Refusal {
 }
 
 impl From<VocabFault> for Verdict {
-    ghost use Rattle.mapping_core.specs.Verdicts.{TellsFault, TellsRefusal};
+    ghost use Rattle.mapping_core.specs.Verdicts.{TellsFault};
 
     ghost from_gives = { TellsFault };
 
@@ -50,6 +50,8 @@ impl From<VocabFault> for Verdict {
 }
 
 impl From<Refusal> for Verdict {
+    ghost use Rattle.mapping_core.specs.Verdicts.{TellsRefusal};
+
     ghost from_gives = { TellsRefusal };
 
     fn from(refusal: Refusal) -> Verdict {

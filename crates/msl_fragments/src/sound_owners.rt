@@ -6,8 +6,9 @@ ghost use Rattle.edm_types.specs.declared.model.EntityModel.{EntityModel};
 ghost use Rattle.edm_types.specs.declared.store.StoreModel.{StoreModel};
 ghost use Rattle.round_trip.specs.soundness.mappings.Owners.{HasOneOwner, PairsKeysAlike};
 ghost use Rattle.msl_rules.specs.declared.msl_lists.raw.RawMapping.{RawMapping};
-ghost use Rattle.msl_rules.specs.KeepsMapping.{KeepsMappingRules, HasFewItems};
+ghost use Rattle.msl_rules.specs.KeepsMapping.{KeepsMappingRules};
 ghost use Rattle.msl_rules.specs.MappingMeaning.{mapping_in, schema_in};
+ghost use Rattle.msl_rules.specs.KeepsMapping.{HasFewItems};
 
 /// Where a document keeps the rules of MSL, what it means has one owner for each table, and pairs each owner's key alike.
 pub fn kept_tables_have_one_owner()

@@ -40,6 +40,7 @@ pub enum StateFault {
 }
 
 impl From<Memory> for StateFault {
+    ghost use Rattle.std.specs.Prelude.{◌≡◌};
     ghost use Rattle.query_views.specs.declared.fault.StateFault.TheVariants as fault;
 
     ghost from_gives = { λ _ given. given ≡ fault.Memory };
@@ -50,6 +51,7 @@ impl From<Memory> for StateFault {
 }
 
 impl<T: Drop> From<AllocFailed<T>> for StateFault {
+    ghost use Rattle.std.specs.Prelude.{◌≡◌};
     ghost use Rattle.query_views.specs.declared.fault.StateFault.TheVariants as fault;
 
     ghost from_gives = { λ _ given. given ≡ fault.Memory };

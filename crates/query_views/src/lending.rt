@@ -2,8 +2,9 @@ ghost use Rattle.std.specs.Prelude.{◌≡◌, ◌<◌, IfOk, length};
 ghost use Rattle.cells.specs.Cells.{is_free_in};
 ghost use Rattle.cells.specs.Parts.{AreParts};
 ghost use Rattle.region_states.specs.region_basis.BasisOf.{basis_of};
-ghost use Rattle.round_trip.specs.Words.{AreLegalTables, Tables as RowsOfEach};
+ghost use Rattle.round_trip.specs.Words.{AreLegalTables};
 ghost use Rattle.query_views.specs.Answers.{LendsAt, LendsSet, TellsKey};
+ghost use Rattle.round_trip.specs.Words.{Tables as RowsOfEach};
 ghost use Rattle.query_views.specs.Lent.{shown_values};
 ghost use Rattle.query_views.specs.Views.{AreQueryViewsOf};
 

@@ -63,7 +63,7 @@ impl<'a> ConcreteTypes<'a> {
 
 /// V14 of an entity set: its element type.
 impl<'a> Finder<RawSet, Fault> for ConcreteTypes<'a> {
-    ghost use Rattle.csdl_associations.specs.csdl_association_sets.Concrete.{IsElementFault, IsEndTypeFault, IsEndsFault};
+    ghost use Rattle.csdl_associations.specs.csdl_association_sets.Concrete.{IsElementFault};
 
     ghost wrong = { λ model. IsElementFault (names_in model) model };
 
@@ -76,6 +76,8 @@ impl<'a> Finder<RawSet, Fault> for ConcreteTypes<'a> {
 
 /// V14 of an end: its type.
 impl<'a> Finder<RawEnd, Fault> for ConcreteTypes<'a> {
+    ghost use Rattle.csdl_associations.specs.csdl_association_sets.Concrete.{IsEndTypeFault};
+
     ghost wrong = { λ model. IsEndTypeFault (names_in model) model };
 
     fn find(&self, alloc: Global, _: usize, item: &RawEnd) -> Result<Option<Fault>, Memory> {
@@ -92,6 +94,7 @@ struct NamedEnds<'a> {
 }
 
 impl<'a> Model for NamedEnds<'a> {
+    ghost use Rattle.csdl_names.specs.declared.csdl_lists.raw.RawModel.{RawModel};
     ghost use Rattle.csdl_names.specs.csdl_lists.References.{names_in};
     ghost use Rattle.csdl_associations.specs.csdl_constraints.Marks.{AreMarks};
     ghost use Rattle.csdl_associations.specs.csdl_constraints.Sides.{IsNamed};
@@ -106,6 +109,8 @@ impl<'a> Model for NamedEnds<'a> {
 
 /// V14 of an association that some association set names: the types of its ends.
 impl<'a> Finder<RawAssociation, Fault> for NamedEnds<'a> {
+    ghost use Rattle.csdl_associations.specs.csdl_association_sets.Concrete.{IsEndsFault};
+
     ghost wrong = { λ model. IsEndsFault (names_in model) model };
 
     fn find(

@@ -19,7 +19,7 @@ pub struct RawSetEnd {
 }
 
 impl FromNode for RawSetEnd {
-    ghost use Rattle.csdl_names.specs.csdl_lists.Raw.{raw_set_end, raw_association_set, raw_set, raw_end, raw_role, raw_member, raw_enum, raw_nav, raw_prop, raw_type, raw_constraint, raw_association, raw_container, raw_model};
+    ghost use Rattle.csdl_names.specs.csdl_lists.Raw.{raw_set_end};
 
     ghost of = { raw_set_end };
 
@@ -42,6 +42,8 @@ pub struct RawAssociationSet {
 }
 
 impl FromNode for RawAssociationSet {
+    ghost use Rattle.csdl_names.specs.csdl_lists.Raw.{raw_association_set};
+
     ghost of = { raw_association_set };
 
     fn read(alloc: Global, node: Node<'_>) -> Result<RawAssociationSet, Memory> {
@@ -66,6 +68,8 @@ pub struct RawSet {
 }
 
 impl FromNode for RawSet {
+    ghost use Rattle.csdl_names.specs.csdl_lists.Raw.{raw_set};
+
     ghost of = { raw_set };
 
     fn read(alloc: Global, node: Node<'_>) -> Result<RawSet, Memory> {
@@ -87,6 +91,8 @@ pub struct RawEnd {
 }
 
 impl FromNode for RawEnd {
+    ghost use Rattle.csdl_names.specs.csdl_lists.Raw.{raw_end};
+
     ghost of = { raw_end };
 
     fn read(alloc: Global, node: Node<'_>) -> Result<RawEnd, Memory> {
@@ -111,6 +117,8 @@ pub struct RawRole {
 }
 
 impl FromNode for RawRole {
+    ghost use Rattle.csdl_names.specs.csdl_lists.Raw.{raw_role};
+
     ghost of = { raw_role };
 
     fn read(alloc: Global, node: Node<'_>) -> Result<RawRole, Memory> {
@@ -130,6 +138,8 @@ pub struct RawMember {
 }
 
 impl FromNode for RawMember {
+    ghost use Rattle.csdl_names.specs.csdl_lists.Raw.{raw_member};
+
     ghost of = { raw_member };
 
     fn read(alloc: Global, node: Node<'_>) -> Result<RawMember, Memory> {
@@ -151,6 +161,8 @@ pub struct RawEnum {
 }
 
 impl FromNode for RawEnum {
+    ghost use Rattle.csdl_names.specs.csdl_lists.Raw.{raw_enum};
+
     ghost of = { raw_enum };
 
     fn read(alloc: Global, node: Node<'_>) -> Result<RawEnum, Memory> {
@@ -179,6 +191,8 @@ pub struct RawNav {
 }
 
 impl FromNode for RawNav {
+    ghost use Rattle.csdl_names.specs.csdl_lists.Raw.{raw_nav};
+
     ghost of = { raw_nav };
 
     fn read(alloc: Global, node: Node<'_>) -> Result<RawNav, Memory> {
@@ -209,6 +223,8 @@ pub struct RawProp {
 }
 
 impl FromNode for RawProp {
+    ghost use Rattle.csdl_names.specs.csdl_lists.Raw.{raw_prop};
+
     ghost of = { raw_prop };
 
     fn read(alloc: Global, node: Node<'_>) -> Result<RawProp, Memory> {
@@ -243,6 +259,8 @@ pub struct RawType {
 }
 
 impl FromNode for RawType {
+    ghost use Rattle.csdl_names.specs.csdl_lists.Raw.{raw_type};
+
     ghost of = { raw_type };
 
     fn read(alloc: Global, node: Node<'_>) -> Result<RawType, Memory> {
@@ -273,6 +291,8 @@ pub struct RawConstraint {
 }
 
 impl FromNode for RawConstraint {
+    ghost use Rattle.csdl_names.specs.csdl_lists.Raw.{raw_constraint};
+
     ghost of = { raw_constraint };
 
     fn read(alloc: Global, node: Node<'_>) -> Result<RawConstraint, Memory> {
@@ -297,6 +317,8 @@ pub struct RawAssociation {
 }
 
 impl FromNode for RawAssociation {
+    ghost use Rattle.csdl_names.specs.csdl_lists.Raw.{raw_association};
+
     ghost of = { raw_association };
 
     fn read(alloc: Global, node: Node<'_>) -> Result<RawAssociation, Memory> {
@@ -323,6 +345,8 @@ pub struct RawContainer {
 }
 
 impl FromNode for RawContainer {
+    ghost use Rattle.csdl_names.specs.csdl_lists.Raw.{raw_container};
+
     ghost of = { raw_container };
 
     fn read(alloc: Global, node: Node<'_>) -> Result<RawContainer, Memory> {
@@ -355,6 +379,8 @@ pub struct RawModel {
 }
 
 impl FromNode for RawModel {
+    ghost use Rattle.csdl_names.specs.csdl_lists.Raw.{raw_model};
+
     ghost of = { raw_model };
 
     fn read(alloc: Global, node: Node<'_>) -> Result<RawModel, Memory> {

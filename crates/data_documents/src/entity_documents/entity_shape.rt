@@ -60,7 +60,7 @@ pub struct EntitySearch<'a> {
 }
 
 impl<'a> NodeSearch for EntitySearch<'a> {
-    ghost use Rattle.data_documents.specs.entity_documents.Shapes.{IsEntityFault, IsMemberFault};
+    ghost use Rattle.data_documents.specs.entity_documents.Shapes.{IsEntityFault};
 
     ghost wrong = { λ s. IsEntityFault s.names.now.model.now };
 
@@ -97,6 +97,8 @@ struct ValueSearch<'a> {
 }
 
 impl<'a> MemberSearch for ValueSearch<'a> {
+    ghost use Rattle.data_documents.specs.entity_documents.Shapes.{IsMemberFault};
+
     ghost wrong = { λ s. IsMemberFault s.names.now.model.now s.ty };
 
     fn find(

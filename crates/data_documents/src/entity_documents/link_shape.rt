@@ -48,7 +48,7 @@ struct PartSearch<'a> {
 impl<'a> Finder<PropId, ShapePlace> for PartSearch<'a> {
     ghost use Rattle.json_form.specs.Nodes.{part_of};
     ghost use Rattle.json_form.specs.TreeParts.{items_in};
-    ghost use Rattle.data_documents.specs.entity_documents.Shapes.{IsPartFault, IsLinkFault, IsRoleFault};
+    ghost use Rattle.data_documents.specs.entity_documents.Shapes.{IsPartFault};
 
     ghost wrong = { λ s. IsPartFault s.model.now (items_in (part_of s.node)) };
 
@@ -110,6 +110,8 @@ pub struct LinkSearch<'a> {
 }
 
 impl<'a> NodeSearch for LinkSearch<'a> {
+    ghost use Rattle.data_documents.specs.entity_documents.Shapes.{IsLinkFault};
+
     ghost wrong = { λ s. IsLinkFault s.model.now s.assoc.now };
 
     fn find(&self, alloc: Global, node: Node<'_>) -> Result<Option<ShapePlace>, Memory> {
@@ -126,6 +128,7 @@ struct RoleSearch<'a> {
 
 impl<'a> MemberSearch for RoleSearch<'a> {
     ghost use Rattle.data_documents.specs.entity_documents.Names.{role_type};
+    ghost use Rattle.data_documents.specs.entity_documents.Shapes.{IsRoleFault};
 
     ghost wrong = { λ s name. IsRoleFault s.model.now (role_type s.assoc.now name) };
 

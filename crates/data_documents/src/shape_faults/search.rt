@@ -5,7 +5,7 @@ use std::alloc::Global;
 
 /// A search for what is wrong with a node.
 pub trait NodeSearch {
-    ghost use Rattle.std.specs.Prelude.{IfOk, List, ℕ};
+    ghost use Rattle.std.specs.Prelude.{IfOk, List};
     ghost use Rattle.serde_json.specs.Data.{Data};
     ghost use Rattle.json_form.specs.Nodes.{part_of};
     ghost use Rattle.groupings.specs.least_fault.Least.{IsLeast};
@@ -22,6 +22,13 @@ pub trait NodeSearch {
 
 /// A search for what is wrong with a member of an object.
 pub trait MemberSearch {
+    ghost use Rattle.std.specs.Prelude.{IfOk, List, ℕ};
+    ghost use Rattle.serde_json.specs.Data.{Data};
+    ghost use Rattle.json_form.specs.Nodes.{part_of};
+    ghost use Rattle.groupings.specs.least_fault.Least.{IsLeast};
+    ghost use Rattle.data_documents.specs.declared.shape_faults.place.ShapeStep.{ShapeStep};
+    ghost use Rattle.data_documents.specs.shape_faults.Places.{place_cmp};
+
     /// At which places something is wrong with the member of a name, seen from the member.
     ghost wrong: { Self → List ℕ → Data → List ShapeStep → Type 0 };
 

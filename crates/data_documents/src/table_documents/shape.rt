@@ -45,7 +45,7 @@ struct TableSearch<'a> {
 impl<'a> MemberSearch for TableSearch<'a> {
     ghost use Rattle.std.specs.Prelude.{option_and_then, slice_get};
     ghost use Rattle.groupings.specs.name_places.PlacesIn.{place_in};
-    ghost use Rattle.data_documents.specs.table_documents.Shapes.{IsMemberFault, IsRowFaultBy, IsCellFault};
+    ghost use Rattle.data_documents.specs.table_documents.Shapes.{IsMemberFault};
 
     ghost wrong = { λ s name. IsMemberFault (option_and_then (slice_get s.tables.now) (place_in s.places.now name)) };
 
@@ -105,6 +105,10 @@ struct RowSearch<'a> {
 }
 
 impl<'a> NodeSearch for RowSearch<'a> {
+    ghost use Rattle.std.specs.Prelude.{option_and_then, slice_get};
+    ghost use Rattle.groupings.specs.name_places.PlacesIn.{place_in};
+    ghost use Rattle.data_documents.specs.table_documents.Shapes.{IsRowFaultBy};
+
     ghost wrong = { λ s. IsRowFaultBy (λ name. option_and_then (slice_get s.cols.now) (place_in s.places.now name)) s.cols.now };
 
     fn find(&self, alloc: Global, node: Node<'_>) -> Result<Option<ShapePlace>, Memory> {
@@ -127,6 +131,10 @@ struct CellSearch<'a> {
 }
 
 impl<'a> MemberSearch for CellSearch<'a> {
+    ghost use Rattle.std.specs.Prelude.{option_and_then, slice_get};
+    ghost use Rattle.groupings.specs.name_places.PlacesIn.{place_in};
+    ghost use Rattle.data_documents.specs.table_documents.Shapes.{IsCellFault};
+
     ghost wrong = { λ s name. IsCellFault (option_and_then (slice_get s.cols.now) (place_in s.places.now name)) };
 
     fn find(

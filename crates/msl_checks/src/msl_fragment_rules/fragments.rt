@@ -29,7 +29,7 @@ struct OfTypes<'a> {
 }
 
 impl<'a> Finder<RawFragment, Fault> for OfTypes<'a> {
-    ghost use Rattle.msl_rules.specs.FragmentRules.{IsFragmentFault, IsTypesFault, IsSetFault};
+    ghost use Rattle.msl_rules.specs.FragmentRules.{IsFragmentFault};
     ghost use Rattle.msl_checks.specs.msl_written.Within.{schema_in};
 
     ghost wrong = { λ s. IsFragmentFault (schema_in s.between.now) s.types.now s.set };
@@ -78,6 +78,9 @@ struct OfSet<'a> {
 }
 
 impl<'a> Finder<RawTypeMapping, Fault> for OfSet<'a> {
+    ghost use Rattle.msl_rules.specs.FragmentRules.{IsTypesFault};
+    ghost use Rattle.msl_checks.specs.msl_written.Within.{schema_in};
+
     ghost wrong = { λ s. IsTypesFault (schema_in s.between.now) s.set };
 
     fn find(
@@ -104,6 +107,9 @@ struct InMapping<'a> {
 }
 
 impl<'a> Finder<RawSetMapping, Fault> for InMapping<'a> {
+    ghost use Rattle.msl_rules.specs.FragmentRules.{IsSetFault};
+    ghost use Rattle.msl_checks.specs.msl_written.Within.{schema_in};
+
     ghost wrong = { λ s. IsSetFault (schema_in s.between.now) };
 
     fn find(&self, alloc: Global, _: usize, item: &RawSetMapping) -> Result<Option<Fault>, Memory> {

@@ -142,7 +142,7 @@ struct Unfit<'a> {
 
 impl<'a> Finder<RawPair, Fault> for Unfit<'a> {
     ghost use Rattle.std.specs.Prelude.{[], MatchOption};
-    ghost use Rattle.layouts.specs.declared.rule.Rule.TheVariants.{Corresponds, ForeignValue};
+    ghost use Rattle.layouts.specs.declared.rule.Rule.TheVariants.{Corresponds};
     ghost use Rattle.layouts.specs.rule_places.Places.{IsAt};
     ghost use Rattle.round_trip.specs.soundness.mappings.Fragments.{WritesToFitting};
     ghost use Rattle.msl_checks.specs.msl_written.Within.{schema_in, table_in};
@@ -178,7 +178,12 @@ struct ForeignEnums<'a> {
 }
 
 impl<'a> Finder<RawPair, Fault> for ForeignEnums<'a> {
+    ghost use Rattle.std.specs.Prelude.{[], MatchOption};
+    ghost use Rattle.layouts.specs.declared.rule.Rule.TheVariants.{ForeignValue};
+    ghost use Rattle.layouts.specs.rule_places.Places.{IsAt};
     ghost use Rattle.round_trip.specs.soundness.mappings.Joined.{WritesNoBarredEnum};
+    ghost use Rattle.msl_checks.specs.msl_written.Within.{schema_in};
+    ghost use Rattle.msl_checks.specs.msl_written.MeantAt.{meant_at};
 
     ghost wrong = { λ s k _ fault. MatchOption (meant_at s.meant.now.each k) ⊥ (λ found. ¬ WritesNoBarredEnum (schema_in s.meant.now.writing.now.between) found) × IsAt ForeignValue [] fault };
 

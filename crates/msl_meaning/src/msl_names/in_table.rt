@@ -22,7 +22,7 @@ pub struct InTable<'a> {
 
 /// The column of a pair.
 impl<'a> Finder<RawPair, Fault> for InTable<'a> {
-    ghost use Rattle.msl_rules.specs.NameRules.{LacksColumn, LacksCondColumn, LacksEndColumns};
+    ghost use Rattle.msl_rules.specs.NameRules.{LacksColumn};
 
     ghost wrong = { λ s. LacksColumn s.names.now.store.now s.table };
 
@@ -35,6 +35,8 @@ impl<'a> Finder<RawPair, Fault> for InTable<'a> {
 
 /// The column of a condition, where it names one.
 impl<'a> Finder<RawCond, Fault> for InTable<'a> {
+    ghost use Rattle.msl_rules.specs.NameRules.{LacksCondColumn};
+
     ghost wrong = { λ s. LacksCondColumn s.names.now.store.now s.table };
 
     fn find(&self, alloc: Global, _: usize, item: &RawCond) -> Result<Option<Fault>, Memory> {
@@ -49,6 +51,8 @@ impl<'a> Finder<RawCond, Fault> for InTable<'a> {
 
 /// The columns of an end.
 impl<'a> Finder<RawEndMapping, Fault> for InTable<'a> {
+    ghost use Rattle.msl_rules.specs.NameRules.{LacksEndColumns};
+
     ghost wrong = { λ s. LacksEndColumns s.names.now.model.now s.names.now.store.now s.table };
 
     fn find(&self, alloc: Global, _: usize, item: &RawEndMapping) -> Result<Option<Fault>, Memory> {

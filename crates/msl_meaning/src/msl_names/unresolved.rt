@@ -27,7 +27,7 @@ struct AtEnd<'a> {
 }
 
 impl<'a> Finder<RawPair, Fault> for AtEnd<'a> {
-    ghost use Rattle.msl_rules.specs.NameRules.{LacksProp, IsUnresolvedEnd, IsUnresolvedFragment, IsUnresolvedTypes, IsUnresolvedSet, IsUnresolvedLink};
+    ghost use Rattle.msl_rules.specs.NameRules.{LacksProp};
 
     ghost wrong = { λ s. LacksProp s.names.now.model.now s.names.now.store.now s.end.now };
 
@@ -62,6 +62,8 @@ impl<'a> OfAssoc<'a> {
 
 /// The role, or else the properties.
 impl<'a> Finder<RawEndMapping, Fault> for OfAssoc<'a> {
+    ghost use Rattle.msl_rules.specs.NameRules.{IsUnresolvedEnd};
+
     ghost wrong = { λ s. IsUnresolvedEnd s.names.now.model.now s.names.now.store.now s.assoc.now };
 
     fn find(&self, alloc: Global, _: usize, item: &RawEndMapping) -> Result<Option<Fault>, Memory> {
@@ -87,6 +89,8 @@ struct InMapping<'a> {
 
 /// A fragment: its table, and then the columns.
 impl<'a> Finder<RawFragment, Fault> for InMapping<'a> {
+    ghost use Rattle.msl_rules.specs.NameRules.{IsUnresolvedFragment};
+
     ghost wrong = { λ s. IsUnresolvedFragment s.names.now.model.now s.names.now.store.now };
 
     fn find(&self, alloc: Global, _: usize, item: &RawFragment) -> Result<Option<Fault>, Memory> {
@@ -103,6 +107,8 @@ impl<'a> Finder<RawFragment, Fault> for InMapping<'a> {
 
 /// A type mapping: its TypeName, and its fragments.
 impl<'a> Finder<RawTypeMapping, Fault> for InMapping<'a> {
+    ghost use Rattle.msl_rules.specs.NameRules.{IsUnresolvedTypes};
+
     ghost wrong = { λ s. IsUnresolvedTypes s.names.now.model.now s.names.now.store.now };
 
     fn find(
@@ -120,6 +126,8 @@ impl<'a> Finder<RawTypeMapping, Fault> for InMapping<'a> {
 
 /// The mapping of an entity set: the set, and its type mappings.
 impl<'a> Finder<RawSetMapping, Fault> for InMapping<'a> {
+    ghost use Rattle.msl_rules.specs.NameRules.{IsUnresolvedSet};
+
     ghost wrong = { λ s. IsUnresolvedSet s.names.now.model.now s.names.now.store.now };
 
     fn find(&self, alloc: Global, _: usize, item: &RawSetMapping) -> Result<Option<Fault>, Memory> {
@@ -132,6 +140,8 @@ impl<'a> Finder<RawSetMapping, Fault> for InMapping<'a> {
 
 /// The mapping of an association set: the set, its association and its table; and its ends, by the set and by the table.
 impl<'a> Finder<RawLinkMapping, Fault> for InMapping<'a> {
+    ghost use Rattle.msl_rules.specs.NameRules.{IsUnresolvedLink};
+
     ghost wrong = { λ s. IsUnresolvedLink s.names.now.model.now s.names.now.store.now };
 
     fn find(

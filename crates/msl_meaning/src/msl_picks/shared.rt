@@ -54,7 +54,7 @@ impl<'a> OfPicks<'a> {
 
 /// The property of a pair.
 impl<'a> Finder<RawPair, Fault> for OfPicks<'a> {
-    ghost use Rattle.msl_rules.specs.NameRules.{IsUnsharedName, IsSharedFault};
+    ghost use Rattle.msl_rules.specs.NameRules.{IsUnsharedName};
 
     ghost wrong = { λ s _ pair. IsUnsharedName s.names.now.model.now s.picks.now pair.prop };
 
@@ -67,6 +67,7 @@ impl<'a> Finder<RawPair, Fault> for OfPicks<'a> {
 /// The property of a condition, where it names one.
 impl<'a> Finder<RawCond, Fault> for OfPicks<'a> {
     ghost use Rattle.std.specs.Prelude.{MatchOption};
+    ghost use Rattle.msl_rules.specs.NameRules.{IsUnsharedName};
 
     ghost wrong = { λ s _ cond fault. MatchOption cond.prop ⊥ (λ name. IsUnsharedName s.names.now.model.now s.picks.now name fault) };
 
@@ -81,6 +82,8 @@ impl<'a> Finder<RawCond, Fault> for OfPicks<'a> {
 
 /// A fragment: its pairs, and its conditions.
 impl<'a> Finder<RawFragment, Fault> for OfPicks<'a> {
+    ghost use Rattle.msl_rules.specs.NameRules.{IsSharedFault};
+
     ghost wrong = { λ s. IsSharedFault s.names.now.model.now s.picks.now };
 
     fn find(&self, alloc: Global, _: usize, item: &RawFragment) -> Result<Option<Fault>, Memory> {

@@ -26,7 +26,7 @@ struct OfSet<'a> {
 
 /// The TypeName.
 impl<'a> Finder<RawTypeMapping, Fault> for OfSet<'a> {
-    ghost use Rattle.msl_rules.specs.NameRules.{IsPickedFault, IsSharedTypesFault, IsTypeNameFault};
+    ghost use Rattle.msl_rules.specs.NameRules.{IsPickedFault};
 
     ghost wrong = { λ s. IsPickedFault s.names.now.model.now s.set.now };
 
@@ -50,6 +50,8 @@ struct InMapping<'a> {
 
 /// A type mapping: the properties that its fragments name.
 impl<'a> Finder<RawTypeMapping, Fault> for InMapping<'a> {
+    ghost use Rattle.msl_rules.specs.NameRules.{IsSharedTypesFault};
+
     ghost wrong = { λ s. IsSharedTypesFault s.names.now.model.now };
 
     fn find(
@@ -72,6 +74,8 @@ impl<'a> Finder<RawTypeMapping, Fault> for InMapping<'a> {
 
 /// The mapping of an entity set: the types that it picks, and the properties that they share.
 impl<'a> Finder<RawSetMapping, Fault> for InMapping<'a> {
+    ghost use Rattle.msl_rules.specs.NameRules.{IsTypeNameFault};
+
     ghost wrong = { λ s. IsTypeNameFault s.names.now.model.now };
 
     fn find(&self, alloc: Global, _: usize, item: &RawSetMapping) -> Result<Option<Fault>, Memory> {

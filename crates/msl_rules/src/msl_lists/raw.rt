@@ -18,7 +18,7 @@ pub struct RawPair {
 }
 
 impl FromNode for RawPair {
-    ghost use Rattle.msl_rules.specs.msl_lists.Raw.{raw_pair, raw_cond, raw_fragment, raw_type_mapping, raw_set_mapping, raw_end_mapping, raw_link_mapping, raw_mapping};
+    ghost use Rattle.msl_rules.specs.msl_lists.Raw.{raw_pair};
 
     ghost of = { raw_pair };
 
@@ -43,6 +43,8 @@ pub struct RawCond {
 }
 
 impl FromNode for RawCond {
+    ghost use Rattle.msl_rules.specs.msl_lists.Raw.{raw_cond};
+
     ghost of = { raw_cond };
 
     fn read(alloc: Global, node: Node<'_>) -> Result<RawCond, Memory> {
@@ -71,6 +73,8 @@ pub struct RawFragment {
 }
 
 impl FromNode for RawFragment {
+    ghost use Rattle.msl_rules.specs.msl_lists.Raw.{raw_fragment};
+
     ghost of = { raw_fragment };
 
     fn read(alloc: Global, node: Node<'_>) -> Result<RawFragment, Memory> {
@@ -104,6 +108,8 @@ pub struct RawTypeMapping {
 }
 
 impl FromNode for RawTypeMapping {
+    ghost use Rattle.msl_rules.specs.msl_lists.Raw.{raw_type_mapping};
+
     ghost of = { raw_type_mapping };
 
     fn read(alloc: Global, node: Node<'_>) -> Result<RawTypeMapping, Memory> {
@@ -123,6 +129,8 @@ pub struct RawSetMapping {
 }
 
 impl FromNode for RawSetMapping {
+    ghost use Rattle.msl_rules.specs.msl_lists.Raw.{raw_set_mapping};
+
     ghost of = { raw_set_mapping };
 
     fn read(alloc: Global, node: Node<'_>) -> Result<RawSetMapping, Memory> {
@@ -142,6 +150,8 @@ pub struct RawEndMapping {
 }
 
 impl FromNode for RawEndMapping {
+    ghost use Rattle.msl_rules.specs.msl_lists.Raw.{raw_end_mapping};
+
     ghost of = { raw_end_mapping };
 
     fn read(alloc: Global, node: Node<'_>) -> Result<RawEndMapping, Memory> {
@@ -167,6 +177,8 @@ pub struct RawLinkMapping {
 }
 
 impl FromNode for RawLinkMapping {
+    ghost use Rattle.msl_rules.specs.msl_lists.Raw.{raw_link_mapping};
+
     ghost of = { raw_link_mapping };
 
     fn read(alloc: Global, node: Node<'_>) -> Result<RawLinkMapping, Memory> {
@@ -199,6 +211,8 @@ pub struct RawMapping {
 }
 
 impl FromNode for RawMapping {
+    ghost use Rattle.msl_rules.specs.msl_lists.Raw.{raw_mapping};
+
     ghost of = { raw_mapping };
 
     fn read(alloc: Global, node: Node<'_>) -> Result<RawMapping, Memory> {

@@ -1,5 +1,6 @@
-ghost use Rattle.std.specs.Prelude.{◌≡◌, ◌++◌, OnOk, IfOk};
+ghost use Rattle.std.specs.Prelude.{◌≡◌, ◌++◌, OnOk};
 ghost use Rattle.query_cases.specs.case_reading.Shown.{shown_cell, shown_props, shown_row};
+ghost use Rattle.std.specs.Prelude.{IfOk};
 
 use crate::case_reading::reading::CellPlace;
 use case_laws::{CaseCell, CaseRow};

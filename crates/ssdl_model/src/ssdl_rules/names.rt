@@ -53,7 +53,7 @@ fn is_before(first: Option<usize>, place: usize) -> bool
 
 /// V6: a table whose type is that of a table before it.
 impl<'a> Finder<RawSet, Fault> for Owners<'a> {
-    ghost use Rattle.ssdl_model.specs.ssdl_rules.Owned.{IsSharedFault, IsEndlessFault, HasEndlessFault};
+    ghost use Rattle.ssdl_model.specs.ssdl_rules.Owned.{IsSharedFault};
 
     ghost wrong = { λ s. IsSharedFault (names_in s.lookups.now.model.now) s.lookups.now.model.now };
 
@@ -66,6 +66,8 @@ impl<'a> Finder<RawSet, Fault> for Owners<'a> {
 
 /// V7: an end whose type is that of no table.
 impl<'a> Finder<RawEnd, Fault> for Owners<'a> {
+    ghost use Rattle.ssdl_model.specs.ssdl_rules.Owned.{IsEndlessFault};
+
     ghost wrong = { λ s. IsEndlessFault (names_in s.lookups.now.model.now) s.lookups.now.model.now };
 
     fn find(&self, alloc: Global, _place: usize, item: &RawEnd) -> Result<Option<Fault>, Memory> {
@@ -76,6 +78,8 @@ impl<'a> Finder<RawEnd, Fault> for Owners<'a> {
 
 /// V7: an association that has such an end.
 impl<'a> Finder<RawAssociation, Fault> for Owners<'a> {
+    ghost use Rattle.ssdl_model.specs.ssdl_rules.Owned.{HasEndlessFault};
+
     ghost wrong = { λ s. HasEndlessFault (names_in s.lookups.now.model.now) s.lookups.now.model.now };
 
     fn find(

@@ -39,6 +39,7 @@ struct RowCells<'a> {
 
 impl<'a> Finder<Row, Found> for RowCells<'a> {
     ghost use Rattle.groupings.specs.least_fault.Least.{Among};
+    ghost use Rattle.table_files.specs.table_legality.Cells.{IsCellBreach};
 
     ghost wrong = { λ s i row. Among (IsCellBreach s.t s.table.now i row) s.table.now.cols };
 
@@ -60,7 +61,9 @@ pub struct TableCells<'a> {
 }
 
 impl<'a> Finder<Table, Found> for TableCells<'a> {
+    ghost use Rattle.groupings.specs.least_fault.Least.{Among};
     ghost use Rattle.round_trip.specs.Words.{rows_in};
+    ghost use Rattle.table_files.specs.table_legality.Cells.{IsCellBreach};
 
     ghost wrong = { λ s t table. Among (λ i row. Among (IsCellBreach t table i row) table.cols) (rows_in s.tables.now (record { index = t })) };
 

@@ -38,7 +38,7 @@ impl<'a> Finder<Row, Found> for References<'a> {
     ghost use Rattle.std.specs.Cmp.Lexicographic.{slice_cmp};
     ghost use Rattle.emc_base.specs.Order.{value_cmp};
     ghost use Rattle.round_trip.specs.Words.{cells_of};
-    ghost use Rattle.table_files.specs.table_legality.References.{IsLost, IsLostByKey};
+    ghost use Rattle.table_files.specs.table_legality.References.{IsLost};
 
     ghost wrong = { λ s i row. IsLost (λ one. IsTrue (contains (slice_cmp value_cmp) s.held.now (cells_of one s.key.now.from_cols))) s.table.now s.k s.key.now i row };
 
@@ -65,6 +65,8 @@ pub struct ForeignKeys<'a> {
 }
 
 impl<'a> Finder<ForeignKey, Found> for ForeignKeys<'a> {
+    ghost use Rattle.table_files.specs.table_legality.References.{IsLostByKey};
+
     ghost wrong = { λ s k key. IsLostByKey s.store.now s.tables.now k key };
 
     fn find(&self, alloc: Global, k: usize, key: &ForeignKey) -> Result<Option<Found>, Memory> {
