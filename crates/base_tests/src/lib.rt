@@ -2,7 +2,11 @@
 #![tactic(auto)]
 
 mod chain_tests;
+#[cfg(test)]
+mod conditions;
 mod file_tests;
+#[cfg(test)]
+mod staff;
 #[cfg(test)]
 mod trees;
 #[cfg(test)]

@@ -6,14 +6,14 @@ use Rattle.std.proofs.lemmas.Simd.{map-map}
 use Rattle.emc_base.proofs.Lists.{at_once}
 use Rattle.round_trip.specs.Words.{SetId, TableId, PropId, Entity, EntitySet, IsLegal, Pair, Row, Schema, State, Table, Tables, Value, At, cell_of, entities_in, key_of, key_props, row_key, value_beside, value_of}
 use Rattle.round_trip.specs.soundness.Lookups.{set_key}
-use Rattle.round_trip.specs.soundness.Mappings.{IsSoundSchema}
+use Rattle.round_trip.specs.soundness.mappings.Mappings.{IsSoundSchema}
 use Rattle.schema_laws.specs.state_demand.Owners.{IsOwned, paired_key}
 use Rattle.schema_laws.specs.state_demand.WellWritten.{cols_of}
-use Rattle.schema_laws.proofs.state_demand.Fitting.{key_is}
-use Rattle.schema_laws.proofs.state_demand.Owners.{beside_map}
-use Rattle.schema_laws.proofs.state_demand.Places.{agree_by_map, map_agree}
-use Rattle.schema_laws.proofs.sound_demand.OneOwner.{one_owner}
-use Rattle.conflict_laws.proofs.same.Legal.{key_parts}
+use Rattle.schema_laws.proofs.state_demand.writings.Fitting.{key_is}
+use Rattle.schema_laws.proofs.state_demand.owners.Owners.{beside_map}
+use Rattle.schema_laws.proofs.state_demand.lists.Places.{agree_by_map, map_agree}
+use Rattle.schema_laws.proofs.sound_demand.owners.OneOwner.{one_owner}
+use Rattle.conflict_laws.proofs.same.states.Legal.{key_parts}
 use Rattle.case_laws.specs.region_cases.Meets.{StandsAtKey}
 
 module _ (schema : Schema) (sound : IsSoundSchema schema) (s : SetId) where

@@ -3,16 +3,16 @@ use Rattle.std.proofs.Common.{◌≡◌, ℕ, List, slice_get, Contains, Option,
 use Rattle.std.specs.List.{AllZip}
 use Rattle.std.specs.Option.{IsSomeAnd}
 use Rattle.std.proofs.lemmas.Slice.Zip.{AllZip-left, AllZip-right}
-use Rattle.graphs.proofs.base_chains.Orders.{place_of_member}
+use Rattle.graphs.proofs.base_chains.orders.Orders.{place_of_member}
 use Rattle.emc_base.proofs.Lists.{at_once, same_place}
 use Rattle.emc_base.proofs.Mapped.{contains_at}
 use Rattle.round_trip.specs.Words.{TableId, IsErasedRow, IsFree, IsWritten, Row, State, Table, Tables, At, cell_of, row_key, rows_in}
-use Rattle.schema_laws.proofs.state_demand.Places.{map_agree}
-use Rattle.schema_laws.proofs.state_demand.ReadBack.{rows_demanded}
+use Rattle.schema_laws.proofs.state_demand.lists.Places.{map_agree}
+use Rattle.schema_laws.proofs.state_demand.tables.ReadBack.{rows_demanded}
 use Rattle.regions.specs.Basis.{Basis}
 use Rattle.regions.specs.region_laws.IsBasis.{IsBasis}
 use Rattle.case_laws.specs.Reading.{HasStateTables}
-use Rattle.case_laws.proofs.Settling.{key_named}
+use Rattle.case_laws.proofs.shown.Settling.{key_named}
 
 -- items of zipped lists at one place
 zipped_left : {X Y : Type 0} (R : X → Y → Type 0) (xs : List X) (ys : List Y) → AllZip R xs ys → (i : ℕ) (x : X) → At xs i x → (y : Y) × At ys i y × R x y

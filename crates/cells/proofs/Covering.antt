@@ -1,6 +1,6 @@
 -- Something is told of each association set, table and column of sound parts.
 use Rattle.std.proofs.Common.{◌≡◌, length, arith}
-use Rattle.round_trip.specs.soundness.Joined.{col}
+use Rattle.round_trip.specs.soundness.mappings.Joined.{col}
 use Rattle.member_groups.specs.MemberGroups.{constants_in}
 use Rattle.cells.specs.declared.parts.Parts.{Parts}
 use Rattle.cells.specs.Parts.{AreParts, CoverModel, CoverStore}

@@ -10,10 +10,10 @@ use Rattle.emc_base.specs.Order.{value_cmp}
 use Rattle.emc_base.specs.OrderLaws.{value_cmp_total}
 use Rattle.emc_base.proofs.Lists.{all_from_members}
 use Rattle.round_trip.specs.Words.{PropId, Schema, Value}
-use Rattle.round_trip.specs.soundness.Joined.{Member}
+use Rattle.round_trip.specs.soundness.mappings.Joined.{Member}
 use Rattle.member_groups.specs.Tested.{IsConstant}
 use Rattle.member_groups.specs.MemberGroups.{ListsJust}
-use Rattle.schema_laws.proofs.state_demand.Selecting.{Decides-value}
+use Rattle.schema_laws.proofs.state_demand.writings.Selecting.{Decides-value}
 use Rattle.cells.specs.Limits.{HasFewConstants, most_constants}
 
 -- what is found is there

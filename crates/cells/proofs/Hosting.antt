@@ -13,13 +13,13 @@ use Rattle.emc_base.proofs.Mapped.{contains_enumerated, contains_filter, contain
 use Rattle.emc_base.proofs.Numbered.{enumerated_at, filter_contains, map_contains}
 use Rattle.round_trip.specs.Words.{Assoc, AssocId, Hosted, LinkFragment, Link, Schema, SetId, State, Value, links_in}
 use Rattle.round_trip.specs.FailsAt.{IsHostedAt}
-use Rattle.round_trip.specs.soundness.Mappings.{IsSoundSchema}
+use Rattle.round_trip.specs.soundness.mappings.Mappings.{IsSoundSchema}
 use Rattle.table_owners.specs.declared.places.LinkPlace.{LinkPlace}
 use Rattle.table_owners.specs.declared.places.LinkPlace.TheVariants as place
 use Rattle.table_owners.specs.Places.{AreHosted, AreToldHosted}
-use Rattle.table_owners.proofs.Hosting.{told_hosted}
-use Rattle.schema_laws.proofs.state_demand.Lists.{contains_flat_map, member_of_flat_map, none_in_nil}
-use Rattle.schema_laws.proofs.state_demand.Selecting.{Decides-key}
+use Rattle.table_owners.proofs.ownership.Hosting.{told_hosted}
+use Rattle.schema_laws.proofs.state_demand.lists.Lists.{contains_flat_map, member_of_flat_map, none_in_nil}
+use Rattle.schema_laws.proofs.state_demand.writings.Selecting.{Decides-key}
 use Rattle.cells.specs.declared.cells.Cells.{Cells}
 use Rattle.cells.specs.Cells.{TellsCells}
 use Rattle.cells.specs.HostedLinks.{IsHostedLink, host_key, host_set, hosted_at, hosted_by, hosted_links, of_key, partner_key}

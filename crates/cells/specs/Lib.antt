@@ -3,4 +3,3 @@ pub mod Limits
 pub mod Parts
 pub mod HostedLinks
 pub mod host_links
-pub mod region_basis

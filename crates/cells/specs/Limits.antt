@@ -3,7 +3,7 @@
 use Rattle.std.specs.Prelude.{ℕ, List, ◌<◌, ◌≤◌, length, All}
 use Rattle.round_trip.specs.Words.{PropId, Value, EntityModel, Schema}
 use Rattle.emc_base.specs.Lists.{AreApart}
-use Rattle.round_trip.specs.soundness.Joined.{Member, prop}
+use Rattle.round_trip.specs.soundness.mappings.Joined.{Member, prop}
 use Rattle.member_groups.specs.Tested.{IsConstant}
 
 -- so many association sets, so many properties of a type, so many constants of a group that holds a property

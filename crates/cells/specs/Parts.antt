@@ -2,9 +2,9 @@
 -- Source: the profile of this project, over CSDL, SSDL and MSL version 3.
 use Rattle.std.specs.Prelude.{◌≡◌, ◌≤◌, length, Some, IsSome}
 use Rattle.round_trip.specs.Words.{TableId, ColId, GroupId, EntityModel, StoreModel, Schema}
-use Rattle.round_trip.specs.soundness.Joined.{col}
-use Rattle.round_trip.specs.soundness.Mappings.{IsSoundSchema}
-use Rattle.round_trip.specs.soundness.Models.{IsSoundModel}
+use Rattle.round_trip.specs.soundness.mappings.Joined.{col}
+use Rattle.round_trip.specs.soundness.mappings.Mappings.{IsSoundSchema}
+use Rattle.round_trip.specs.soundness.models.Models.{IsSoundModel}
 use Rattle.round_trip.specs.soundness.Stores.{IsSoundStore, IsColId}
 use Rattle.member_groups.specs.MemberGroups.{constants_in, group_in}
 use Rattle.cells.specs.declared.cells.Cells.{Cells}

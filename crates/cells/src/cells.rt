@@ -1,7 +1,7 @@
 ghost use Rattle.std.specs.Prelude.{◌≡◌, ◌<◌, IfOk, IsSome, Some, length};
-ghost use Rattle.round_trip.specs.soundness.Joined.{prop, col};
-ghost use Rattle.round_trip.specs.soundness.Mappings.{IsSoundSchema};
-ghost use Rattle.table_owners.specs.link_places.Between.{schema_of};
+ghost use Rattle.round_trip.specs.soundness.mappings.Joined.{prop, col};
+ghost use Rattle.round_trip.specs.soundness.mappings.Mappings.{IsSoundSchema};
+ghost use Rattle.round_trip.specs.Between.{schema_of};
 ghost use Rattle.emc_base.specs.Lists.{At};
 ghost use Rattle.member_groups.specs.MemberGroups.{constants_in, group_in, is_tested_in};
 ghost use Rattle.cells.specs.Cells.{TellsCells, is_free_in};

@@ -2,7 +2,7 @@ ghost use Rattle.std.specs.Prelude.{◌↔◌, Contains, List};
 ghost use Rattle.cells.specs.declared.parts.Parts.{Parts};
 ghost use Rattle.cells.specs.Parts.{AreParts, CoverModel, CoverStore};
 ghost use Rattle.round_trip.specs.Words.{Hosted, Schema, SetId, State, Value};
-ghost use Rattle.round_trip.specs.soundness.Mappings.{IsSoundSchema};
+ghost use Rattle.round_trip.specs.soundness.mappings.Mappings.{IsSoundSchema};
 ghost use Rattle.cells.specs.declared.cells.Cells.{Cells};
 ghost use Rattle.cells.specs.Cells.{TellsCells};
 ghost use Rattle.cells.specs.HostedLinks.{IsHostedLink, hosted_links};

@@ -2,7 +2,7 @@ ghost use Rattle.std.specs.Prelude.{◌≡◌, ◌≤◌, ◌<◌, ◌↔◌, Al
 ghost use Rattle.cells.specs.Cells.{TellsCells};
 ghost use Rattle.cells.specs.Limits.{HasFewConstants, HasSmallGroups, IsSmallModel, IsWithinLimits, most_assocs, most_props};
 ghost use Rattle.cells.specs.Parts.{schema_in};
-ghost use Rattle.round_trip.specs.soundness.Joined.{prop};
+ghost use Rattle.round_trip.specs.soundness.mappings.Joined.{prop};
 
 use crate::parts::Parts;
 use edm_types::{EntityModel, EntityType};

@@ -1,8 +1,8 @@
 //! Makes the cells of three documents, for measurements and tests: `CSDL SSDL MSL` prints `cells`, and each further word makes them once more.
 #![tactic(auto)]
 
-ghost use Rattle.table_owners.specs.link_places.Between.{schema_of};
-ghost use Rattle.round_trip.specs.soundness.Mappings.{IsSoundSchema};
+ghost use Rattle.round_trip.specs.Between.{schema_of};
+ghost use Rattle.round_trip.specs.soundness.mappings.Mappings.{IsSoundSchema};
 
 #[cfg(test)]
 mod tests;

@@ -2,8 +2,7 @@
 -- Source: MSL version 3, Condition and the type picks of MappingFragment.
 use Rattle.std.specs.Prelude.{◌↔◌, ◌⊎◌, ⊤, All, Any, List, Box}
 use Rattle.std.specs.Global.{Global}
-use Rattle.condition_logic.specs.Words.{TypeId, Value}
-use Rattle.condition_logic.specs.Words.{CondOn}
+use Rattle.condition_logic.specs.Words.{TypeId, Value, CondOn}
 use Rattle.condition_logic.specs.declared.expr.Expr.{Expr, All', Any', Not', IsOf, OnlyOf, IsNull, Equals, Row_of-Expr, end_of-Expr, more_of-Expr}
 use Rattle.condition_logic.specs.declared.expr.Expr.TheVariants as expr
 use Rattle.condition_logic.specs.Readings.{Reading}

@@ -2,8 +2,7 @@
 -- Source: MSL version 3, Condition and the type picks of MappingFragment.
 use Rattle.std.specs.Prelude.{◌≡◌, ◌↔◌, ◌⊎◌, ⊤, List, Any, Box}
 use Rattle.std.specs.Global.{Global}
-use Rattle.condition_logic.specs.Words.{PropId, Value}
-use Rattle.condition_logic.specs.Words.{CondOn}
+use Rattle.condition_logic.specs.Words.{PropId, Value, CondOn}
 use Rattle.edm_types.specs.declared.mapping.CondOn.TheVariants as on
 use Rattle.condition_logic.specs.declared.expr.Expr.{Expr, All', Any', Not', IsOf, OnlyOf, IsNull, Equals, Row_of-Expr, end_of-Expr, more_of-Expr}
 use Rattle.condition_logic.specs.declared.expr.Expr.TheVariants as expr

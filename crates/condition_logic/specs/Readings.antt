@@ -1,8 +1,7 @@
 -- What the simple conditions of an expression say of an entity and of a row.
 -- Source: MSL version 3, Condition and the type picks of MappingFragment; the select-project queries of Melnik, Adya and Bernstein, SIGMOD 2007.
 use Rattle.std.specs.Prelude.{◌≡◌, ◌≢◌}
-use Rattle.condition_logic.specs.Words.{TypeId, Value, Null, IsA, value_of, cell_of}
-use Rattle.condition_logic.specs.Words.{EntityModel, CondOn, Entity, Row}
+use Rattle.condition_logic.specs.Words.{TypeId, Value, Null, IsA, value_of, cell_of, EntityModel, CondOn, Entity, Row}
 use Rattle.edm_types.specs.declared.mapping.CondOn.TheVariants as on
 
 -- how an expression is read: whether the type is this one or derived from it, or is this one; whether a property or a column is null, and which

@@ -9,8 +9,6 @@ mod laws;
 mod making;
 mod reading;
 mod selecting;
-#[cfg(test)]
-mod tests;
 
 pub use atoms::{Atom, AtomOf};
 pub use expr::Expr;

@@ -13,8 +13,8 @@ use Rattle.region_states.specs.conflicts.Conflicts.{IsConflictAt}
 use Rattle.region_states.specs.conflicts.There.{FailsThere, NoneFailsBefore, NoneFailsBy}
 use Rattle.region_states.specs.Hosting.{HostsFocuses}
 use Rattle.region_states.specs.LoneStates.{HasNoAssociationSets, empty_state, lone_focus}
-use Rattle.region_states.proofs.Alike.{lone_hosts, lone_leaves, lone_rivals}
-use Rattle.region_states.proofs.Legal.{no_host}
+use Rattle.region_states.proofs.lone.Alike.{lone_hosts, lone_leaves, lone_rivals}
+use Rattle.region_states.proofs.lone.Legal.{no_host}
 use Rattle.conflict_laws.proofs.clash.Fails.{fails_there}
 use Rattle.conflict_laws.proofs.clash.Told.{clash_told}
 use Rattle.conflict_laws.proofs.null.Failing.{null_there}

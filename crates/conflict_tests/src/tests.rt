@@ -1,8 +1,8 @@
 ghost use Rattle.std.specs.Prelude.{◌≢◌};
 ghost use Rattle.cells.specs.Parts.{AreParts};
-ghost use Rattle.table_owners.specs.link_places.Between.{schema_of};
+ghost use Rattle.round_trip.specs.Between.{schema_of};
 ghost use Rattle.round_trip.specs.declared.FailKind.TheVariants as fails;
-ghost use Rattle.round_trip.specs.soundness.Mappings.{IsSoundSchema};
+ghost use Rattle.round_trip.specs.soundness.mappings.Mappings.{IsSoundSchema};
 
 use crate::all_pairs::has_same_tables;
 use crate::examples::{

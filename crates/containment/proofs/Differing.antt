@@ -6,7 +6,7 @@ use Rattle.std.proofs.lemmas.List.Folds.{list_any-from_Any, list_any_none}
 use Rattle.std.proofs.lemmas.Slice.Eq.{bytes_eq-Decides}
 use Rattle.emc_base.proofs.Lists.{all_from_members}
 use Rattle.round_trip.specs.Words.{Fragment, LinkFragment}
-use Rattle.schema_laws.proofs.state_demand.Lists.{any_of}
+use Rattle.schema_laws.proofs.state_demand.lists.Lists.{any_of}
 use Rattle.regions.specs.Basis.{Basis}
 use Rattle.regions.specs.declared.pattern.Focus.TheVariants as focus
 use Rattle.regions.specs.declared.region.Region.{Region}

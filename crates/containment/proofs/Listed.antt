@@ -8,7 +8,7 @@ use Rattle.regions.specs.Shown.{cell_in}
 use Rattle.regions.specs.declared.pattern.Focus.{Focus}
 use Rattle.regions.specs.declared.pattern.PatternRow.{PatternRow}
 use Rattle.regions.specs.declared.pattern.Symbol.{Symbol}
-use Rattle.regions.proofs.region_laws.Cells.{Decides-table}
+use Rattle.regions.proofs.region_laws.writings.Cells.{Decides-table}
 use Rattle.regions.proofs.region_laws.pattern.Choices.{found_passes}
 use Rattle.region_states.specs.conflicts.Facts.{listed_in}
 use Rattle.conflict_laws.proofs.clash.Listed.{found_row}

@@ -4,15 +4,15 @@ ghost use Rattle.round_trip.specs.declared.FailKind.TheVariants as kind;
 ghost use Rattle.cells.specs.Parts.{AreParts};
 ghost use Rattle.regions.specs.Patterns.{pattern_of};
 ghost use Rattle.regions.specs.declared.pattern.Focus.TheVariants as focus;
-ghost use Rattle.cells.specs.region_basis.BasisOf.{basis_of};
+ghost use Rattle.region_states.specs.region_basis.BasisOf.{basis_of};
 ghost use Rattle.region_states.specs.conflicts.Facts.{differs_at, differs_at_links, disagrees_at, is_hosted, shows_link_pattern, shows_pattern};
 ghost use Rattle.containment.specs.Found.{FindsOne};
 
 use crate::shown::{shows_link_row, shows_row};
-use cells::{Parts, hosting_end};
+use cells::Parts;
 use edm_types::{Fragment, LinkFragment};
 use emc_base::{AssocId, Memory, Txt};
-use region_states::Conflict;
+use region_states::{Conflict, hosting_end};
 use regions::{Pattern, Region};
 use std::alloc::Global;
 use symbolic_rows::{focus_on, is_linked, writes};

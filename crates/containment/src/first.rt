@@ -2,7 +2,7 @@ ghost use Rattle.std.specs.Prelude.{◌≡◌, ◌≢◌, ◌↔◌, IfOk, IsSom
 ghost use Rattle.cells.specs.Parts.{AreParts, schema_in};
 ghost use Rattle.round_trip.specs.declared.FailKind.TheVariants as fails;
 ghost use Rattle.regions.specs.Regions.{regions_of};
-ghost use Rattle.cells.specs.region_basis.BasisOf.{basis_of};
+ghost use Rattle.region_states.specs.region_basis.BasisOf.{basis_of};
 ghost use Rattle.region_states.specs.LoneStates.{HasNoAssociationSets};
 ghost use Rattle.region_states.specs.conflicts.Conflicts.{IsConflictAt};
 ghost use Rattle.region_states.specs.conflicts.There.{FailsThere, NoneFailsBefore};

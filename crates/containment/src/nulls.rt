@@ -5,7 +5,7 @@ ghost use Rattle.regions.specs.Patterns.{pattern_of};
 ghost use Rattle.regions.specs.Settled.{possible};
 ghost use Rattle.regions.specs.declared.pattern.Focus.TheVariants as focus;
 ghost use Rattle.regions.specs.declared.pattern.Symbol.{Symbol};
-ghost use Rattle.cells.specs.region_basis.BasisOf.{basis_of};
+ghost use Rattle.region_states.specs.region_basis.BasisOf.{basis_of};
 ghost use Rattle.region_states.specs.conflicts.Facts.{can_be_null, stands_for_null};
 ghost use Rattle.region_states.specs.declared.conflicts.conflict.Conflict.TheVariants as conflict;
 ghost use Rattle.containment.specs.Cells.{GapsIn, HasNoGap};

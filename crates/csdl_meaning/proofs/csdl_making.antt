@@ -1,5 +1,4 @@
 pub mod RisingLists
-pub mod Places
 pub mod Joins
 pub mod Numbered
 pub mod KindsOf

@@ -6,7 +6,7 @@ use Rattle.std.specs.Option.{option_and_then, option_map_or}
 use Rattle.round_trip.specs.Words.{EntityModel, EntityType, Nav, Prop, PropId, TypeNode}
 use Rattle.edm_types.specs.declared.model.TypeNode.{roll-TypeNode}
 use Rattle.edm_types.specs.Forest.{type_numbered}
-use Rattle.round_trip.specs.soundness.Inheritance.{prop_numbered}
+use Rattle.round_trip.specs.soundness.models.Inheritance.{prop_numbered}
 use Rattle.graphs.specs.base_chains.Chains.{chain}
 use Rattle.groupings.specs.name_places.GivenNames.{first_place}
 use Rattle.csdl_names.specs.declared.csdl_lists.raw.RawModel.{RawModel}

@@ -7,7 +7,7 @@ use Rattle.std.specs.Str.{bytes_eq}
 use Rattle.round_trip.specs.Words.{Assoc, Constraint, End, EntityModel, EntitySet, Mult, PropId, SetId}
 use Rattle.edm_types.specs.declared.model.Mult.TheVariants.{Many, One, ZeroOrOne}
 use Rattle.edm_types.specs.Forest.{type_numbered}
-use Rattle.round_trip.specs.soundness.Inheritance.{prop_numbered}
+use Rattle.round_trip.specs.soundness.models.Inheritance.{prop_numbered}
 use Rattle.csdl_names.specs.declared.csdl_lists.raw.RawAssociation.{RawAssociation}
 use Rattle.csdl_names.specs.declared.csdl_lists.raw.RawAssociationSet.{RawAssociationSet}
 use Rattle.csdl_names.specs.declared.csdl_lists.raw.RawConstraint.{RawConstraint}

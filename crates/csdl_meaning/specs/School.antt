@@ -5,7 +5,7 @@ use Rattle.emc_base.specs.declared.value.Kind.TheVariants as kind
 use Rattle.emc_base.specs.declared.value.Under.TheVariants as under
 use Rattle.round_trip.specs.Words.{EntityType, Kind, Prop}
 use Rattle.edm_types.specs.Forest.{type_numbered}
-use Rattle.round_trip.specs.soundness.Inheritance.{prop_numbered}
+use Rattle.round_trip.specs.soundness.models.Inheritance.{prop_numbered}
 use Rattle.csdl_names.specs.declared.csdl_lists.raw.RawAssociation.{RawAssociation}
 use Rattle.csdl_names.specs.declared.csdl_lists.raw.RawBound.{RawBound}
 use Rattle.csdl_names.specs.declared.csdl_lists.raw.RawBound.TheVariants.{Absent, Max, Number}

@@ -2,12 +2,12 @@
 use Rattle.std.specs.Prelude.{map, All, MatchOption, ⊤}
 use Rattle.layouts.specs.declared.fault.Fault.{Fault}
 use Rattle.round_trip.specs.Words.{EntityModel, EntityType, TypeId, At}
-use Rattle.round_trip.specs.soundness.Inheritance.{HasNoCircle}
+use Rattle.round_trip.specs.soundness.models.Inheritance.{HasNoCircle}
 use Rattle.round_trip.specs.soundness.Kinds.{IsSoundKind}
 use Rattle.emc_base.specs.Lists.{AreApart}
-use Rattle.round_trip.specs.soundness.ModelIds.{IsPropId, IsTypeId}
-use Rattle.round_trip.specs.soundness.ModelNames.{HasDistinctMembers}
-use Rattle.round_trip.specs.soundness.Models.{IsSoundType}
+use Rattle.round_trip.specs.soundness.models.ModelIds.{IsPropId, IsTypeId}
+use Rattle.round_trip.specs.soundness.models.ModelNames.{HasDistinctMembers}
+use Rattle.round_trip.specs.soundness.models.Models.{IsSoundType}
 use Rattle.csdl_names.specs.declared.csdl_lists.raw.RawModel.{RawModel}
 use Rattle.csdl_names.specs.Repeated.{IsRepeated}
 use Rattle.csdl_names.specs.Unresolved.{IsUnresolved}

@@ -14,8 +14,8 @@ ghost use Rattle.edm_types.specs.Forest.{
   node_type,
 };
 ghost use Rattle.round_trip.specs.Words.{TypeNode};
-ghost use Rattle.round_trip.specs.soundness.Inheritance.{HasNoCircle};
-ghost use Rattle.round_trip.specs.soundness.ModelIds.{IsTypeId};
+ghost use Rattle.round_trip.specs.soundness.models.Inheritance.{HasNoCircle};
+ghost use Rattle.round_trip.specs.soundness.models.ModelIds.{IsTypeId};
 
 /// The forest that a document means is that of its base types, whatever the document: a type that stands above itself, or below one that
 /// does, is in none of its trees. So each type stands in the forest just where none is its own ancestor, as where the document keeps the rules.

@@ -11,7 +11,5 @@ mod sets;
 mod sizes;
 mod types;
 
-pub use ids::narrow;
 pub use kinds::simple_kind;
-pub use lists::put_found;
 pub use model::make_model;

@@ -12,7 +12,7 @@ ghost use Rattle.csdl_meaning.specs.School.{school, school_props, school_types};
 ghost use Rattle.csdl_meaning.specs.SoundTypes.{HasSoundTypes, KeepsTypeRules};
 
 pub use csdl_forests::{a_meant_forest_is_whole, a_school_is_two_trees};
-pub use csdl_making::{make_model, narrow, put_found, simple_kind};
+pub use csdl_making::{make_model, simple_kind};
 
 /// The types and the properties that a document means are sound where it breaks none of the rules V6 to V13.
 pub fn a_document_that_breaks_no_rule_has_sound_types()

@@ -6,7 +6,7 @@ use Rattle.layouts.specs.told_rules.Reads.{Answers}
 use Rattle.edm_types.specs.declared.faults.VocabFault.{VocabFault}
 use Rattle.edm_types.specs.declared.faults.VocabFile.TheVariants.{Csdl}
 use Rattle.round_trip.specs.Words.{EntityModel}
-use Rattle.round_trip.specs.soundness.Models.{IsSoundModel}
+use Rattle.round_trip.specs.soundness.models.Models.{IsSoundModel}
 use Rattle.csdl_names.specs.csdl_lists.Raw.{raw_model}
 use Rattle.csdl_meaning.specs.ModelMeaning.{meaning}
 use Rattle.csdl_model.specs.ModelFaults.{IsModelFault}

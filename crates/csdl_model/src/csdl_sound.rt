@@ -2,7 +2,7 @@
 
 ghost use Rattle.std.specs.Prelude.{◌≡◌};
 ghost use Rattle.csdl_names.specs.declared.csdl_lists.raw.RawModel.{RawModel};
-ghost use Rattle.round_trip.specs.soundness.Models.{IsSoundModel};
+ghost use Rattle.round_trip.specs.soundness.models.Models.{IsSoundModel};
 ghost use Rattle.csdl_meaning.specs.ModelMeaning.{meaning};
 ghost use Rattle.csdl_model.specs.csdl_sound.Classes.{class_assocs, class_forest, class_sets, classes};
 ghost use Rattle.csdl_model.specs.csdl_sound.SoundMeaning.{KeepsRules};

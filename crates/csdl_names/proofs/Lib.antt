@@ -1,4 +1,3 @@
-pub mod Known
 pub mod Lacking
 pub mod LeastFound
 pub mod PropClimbs

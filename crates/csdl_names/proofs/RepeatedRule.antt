@@ -12,7 +12,8 @@ use Rattle.csdl_names.specs.declared.csdl_lists.raw.RawContainer.{RawContainer}
 use Rattle.csdl_names.specs.declared.csdl_lists.raw.RawEnum.{RawEnum}
 use Rattle.csdl_names.specs.declared.csdl_lists.raw.RawModel.{RawModel}
 use Rattle.csdl_names.specs.declared.csdl_lists.raw.RawType.{RawType}
-use Rattle.csdl_names.specs.Repeated.{IsGivenAgain, IsRepeated, IsRepeatedIn, IsRepeatedInAssociation, IsRepeatedInContainer, IsRepeatedInEnum, IsRepeatedInSchema, IsRepeatedInType}
+use Rattle.csdl_names.specs.Repeated.{IsRepeated, IsRepeatedInAssociation, IsRepeatedInContainer, IsRepeatedInEnum, IsRepeatedInSchema, IsRepeatedInType}
+use Rattle.layouts.specs.rule_places.Names.{IsGivenAgain, IsRepeatedIn}
 
 -- the rule
 abbrev IsOfNames : Rule → Type 0

@@ -18,7 +18,8 @@ use Rattle.csdl_names.specs.declared.csdl_lists.raw.RawRole.{RawRole}
 use Rattle.csdl_names.specs.declared.csdl_lists.raw.RawSetEnd.{RawSetEnd}
 use Rattle.csdl_names.specs.declared.csdl_lists.raw.RawType.{RawType}
 use Rattle.csdl_names.specs.csdl_lists.References.{Names, names_in}
-use Rattle.csdl_names.specs.Unresolved.{NamesNothing, IsUnresolved, IsUnresolvedIn, IsUnresolvedInAssociation, IsUnresolvedInAssociationSet, IsUnresolvedInConstraint, IsUnresolvedInContainer, IsUnresolvedInEnd, IsUnresolvedInNav, IsUnresolvedInRole, IsUnresolvedInSet, IsUnresolvedInSetEnd, IsUnresolvedInType, IsUnresolvedProp, type_of_role}
+use Rattle.csdl_names.specs.Unresolved.{IsUnresolved, IsUnresolvedIn, IsUnresolvedInAssociation, IsUnresolvedInAssociationSet, IsUnresolvedInConstraint, IsUnresolvedInContainer, IsUnresolvedInEnd, IsUnresolvedInNav, IsUnresolvedInRole, IsUnresolvedInSet, IsUnresolvedInSetEnd, IsUnresolvedInType, IsUnresolvedProp, type_of_role}
+use Rattle.layouts.specs.rule_places.Names.{NamesNothing}
 
 -- the rule
 abbrev IsOfReferences : Rule → Type 0

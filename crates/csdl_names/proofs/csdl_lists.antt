@@ -1,4 +1,3 @@
-pub mod Fronts
 pub mod ScopeFacts
 pub mod BaseTypes
 pub mod Within

@@ -1,5 +1,4 @@
 pub mod Climbs
-pub mod KnownNames
 pub mod PropPlaces
 pub mod Repeated
 pub mod SetRoles

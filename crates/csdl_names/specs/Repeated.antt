@@ -1,6 +1,7 @@
 -- V6: a name is given twice in its scope. The second name breaks the rule, in the order of places: members in byte order of their names,
 -- items by number.
 -- Source: CSDL version 3, the names of types, associations, sets, properties, members and roles.
+use Rattle.layouts.specs.rule_places.Names.{IsRepeatedIn}
 use Rattle.std.specs.Prelude.{◌⊎◌, ℕ, List, [], ◌∷◌, ◌++◌, map, codes, Contains}
 use Rattle.json_form.specs.declared.pointer.Step.TheVariants.{Member}
 use Rattle.layouts.specs.declared.fault.Fault.{Fault}
@@ -13,16 +14,6 @@ use Rattle.csdl_names.specs.declared.csdl_lists.raw.RawContainer.{RawContainer}
 use Rattle.csdl_names.specs.declared.csdl_lists.raw.RawEnum.{RawEnum}
 use Rattle.csdl_names.specs.declared.csdl_lists.raw.RawModel.{RawModel}
 use Rattle.csdl_names.specs.declared.csdl_lists.raw.RawType.{RawType}
-
-module _ {X : Type 0} (name_in : X → List ℕ) where
-  -- the item's name is one of these, or that of an item before it
-  abbrev pub IsGivenAgain : List (List ℕ) → List X → ℕ → X → Type 0
-  IsGivenAgain others items i item = Contains others (name_in item) ⊎ IsGivenBefore name_in items i item
-
-  -- an item of the list at this member breaks the rule: its name, which stands at its member `last`, is given again. These are the names
-  -- of the scope that stand before the list.
-  abbrev pub IsRepeatedIn : List (List ℕ) → List ℕ → List ℕ → List X → Fault → Type 0
-  IsRepeatedIn others member last items = InList member (λ i item fault. IsGivenAgain others items i item × IsAt NamedOnce (Member last ∷ []) fault) items
 
 module _ {X Y : Type 0} (name_in : X → List ℕ) (other_in : Y → List ℕ) where
   -- the items of two lists at these members, each with its name at its Name: the first list stands before the second in their scope

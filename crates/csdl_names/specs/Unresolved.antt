@@ -2,6 +2,7 @@
 -- only where the association is, of a property only where the type is, and each type above it.
 -- Source: CSDL version 3, the references and names of EntitySet, AssociationSet, EntityType, Key, NavigationProperty, Association and
 -- ReferentialConstraint.
+use Rattle.layouts.specs.rule_places.Names.{NamesNothing}
 use Rattle.std.specs.Prelude.{◌≡◌, ◌⊎◌, ℕ, List, [], ◌∷◌, codes, Any, Option, Some, None, MatchOption, find, option_and_then, slice_get}
 use Rattle.std.specs.Str.{bytes_eq}
 use Rattle.emc_base.specs.Lists.{At}
@@ -22,10 +23,6 @@ use Rattle.csdl_names.specs.declared.csdl_lists.raw.RawSet.{RawSet}
 use Rattle.csdl_names.specs.declared.csdl_lists.raw.RawSetEnd.{RawSetEnd}
 use Rattle.csdl_names.specs.declared.csdl_lists.raw.RawType.{RawType}
 use Rattle.csdl_names.specs.csdl_lists.References.{Names, base_of, names_in}
-
--- the rule is broken at this member: it names nothing
-abbrev pub NamesNothing : Option ℕ → List ℕ → Fault → Type 0
-NamesNothing found member fault = (found ≡ None) × IsAt Resolves (Member member ∷ []) fault
 
 -- the type declares a property of this name
 abbrev pub Declares : RawType → List ℕ → Type 0

@@ -10,4 +10,4 @@ pub use raw::{
     RawAssociation, RawAssociationSet, RawBound, RawConstraint, RawContainer, RawEnd, RawEnum,
     RawMember, RawModel, RawNav, RawProp, RawRole, RawSet, RawSetEnd, RawType,
 };
-pub use scope::{Scope, rest_after};
+pub use scope::Scope;

@@ -1,7 +1,6 @@
 //! A CSDL document as lists, and the rules of CSDL on names: that each is given once in its scope, and that each one that is used is given.
 #![tactic(auto)]
 
-mod again;
 mod climbs;
 pub mod csdl_lists;
 mod lookups;
@@ -9,11 +8,9 @@ mod repeated;
 mod tables;
 mod unresolved;
 
-pub use again::first_twice;
 pub use csdl_lists::{
     RawAssociation, RawAssociationSet, RawBound, RawConstraint, RawContainer, RawEnd, RawEnum,
     RawMember, RawModel, RawNav, RawProp, RawRole, RawSet, RawSetEnd, RawType, Scope, bases_of,
-    rest_after,
 };
 pub use lookups::{Lookups, PropPlace, end_of_role};
 pub use repeated::first_repeated;

@@ -6,12 +6,11 @@ ghost use Rattle.groupings.specs.name_places.PlacesIn.{place_in};
 ghost use Rattle.csdl_names.specs.csdl_lists.Scopes.{IsScopeOf};
 ghost use Rattle.csdl_names.specs.Repeated.{IsRepeated, IsRepeatedInBoth, IsRepeatedInContainer, IsRepeatedInSchema};
 
-use crate::again::{Again, first_twice};
 use crate::csdl_lists::{RawAssociation, RawContainer, RawEnum, RawModel, RawType, Scope};
 use crate::lookups::Lookups;
 use emc_base::{Memory, Seq};
 use groupings::{Finder, Named, Places, earlier, places_of};
-use layouts::{Fault, behind_member, first_at};
+use layouts::{Again, Fault, behind_member, first_at, first_twice};
 use std::alloc::Global;
 
 /// Searches the types of a model for names that are given twice in one.

@@ -2,7 +2,8 @@ ghost use Rattle.std.specs.Prelude.{◌≡◌, IfOk};
 ghost use Rattle.layouts.specs.Faults.{fault_cmp};
 ghost use Rattle.groupings.specs.least_fault.Least.{IsLeast};
 ghost use Rattle.csdl_names.specs.csdl_lists.References.{names_in};
-ghost use Rattle.csdl_names.specs.Unresolved.{IsUnresolved, IsUnresolvedBase, IsUnresolvedInConstraint, IsUnresolvedInContainer, IsUnresolvedInKey, IsUnresolvedInRole, LacksRoleAt, NamesNothing};
+ghost use Rattle.csdl_names.specs.Unresolved.{IsUnresolved, IsUnresolvedBase, IsUnresolvedInConstraint, IsUnresolvedInContainer, IsUnresolvedInKey, IsUnresolvedInRole, LacksRoleAt};
+ghost use Rattle.layouts.specs.rule_places.Names.{NamesNothing};
 
 use crate::climbs::allow_climbs;
 use crate::csdl_lists::{

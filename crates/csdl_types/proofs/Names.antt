@@ -5,7 +5,7 @@ use Rattle.std.proofs.lemmas.List.Elements.{Contains-get_or}
 use Rattle.std.proofs.lemmas.Option.{get_or_from_slice_get, slice_get_within}
 use Rattle.emc_base.specs.Lists.{At}
 use Rattle.emc_base.proofs.Loops.{take_item}
-use Rattle.graphs.proofs.base_chains.Orders.{earlier_place}
+use Rattle.graphs.proofs.base_chains.orders.Orders.{earlier_place}
 
 -- one name more that doesn't stand before
 pub apart_more : (names : List (List ℕ)) (i : ℕ) (name : List ℕ) → At names i name → ¬ Contains (take i names) name

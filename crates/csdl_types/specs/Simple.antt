@@ -3,7 +3,8 @@
 use Rattle.std.specs.Prelude.{ℕ, List, Option, Some, None, option_map, unwrap_or, if◌then◌else◌, codes}
 use Rattle.std.specs.Option.{option_or}
 use Rattle.std.specs.Str.{bytes_eq}
-use Rattle.csdl_names.specs.csdl_lists.References.{Names, rest_after}
+use Rattle.csdl_names.specs.csdl_lists.References.{Names}
+use Rattle.groupings.specs.name_places.Fronts.{rest_after}
 use Rattle.csdl_types.specs.declared.simple.PropType.{PropType}
 use Rattle.csdl_types.specs.declared.simple.PropType.TheVariants as named
 use Rattle.csdl_types.specs.declared.simple.Simple.{Simple}

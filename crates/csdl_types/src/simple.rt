@@ -2,7 +2,8 @@ ghost use Rattle.std.specs.Prelude.{◌≡◌};
 ghost use Rattle.csdl_names.specs.csdl_lists.Scopes.{names_of};
 ghost use Rattle.csdl_types.specs.Simple.{prop_type, simple_named, simple_of};
 
-use csdl_names::{Scope, rest_after};
+use csdl_names::Scope;
+use groupings::rest_after;
 
 /// A simple type of CSDL, its bound aside.
 #[derive(Clone, Copy, Debug, PartialEq, Eq)]

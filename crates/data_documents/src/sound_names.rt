@@ -2,7 +2,7 @@
 
 ghost use Rattle.std.specs.Prelude.{◌≢◌, All, codes};
 ghost use Rattle.round_trip.specs.Words.{EntityModel, StoreModel};
-ghost use Rattle.round_trip.specs.soundness.Models.{IsSoundModel};
+ghost use Rattle.round_trip.specs.soundness.models.Models.{IsSoundModel};
 ghost use Rattle.round_trip.specs.soundness.Stores.{IsSoundStore};
 ghost use Rattle.entity_state.specs.Tells.{HasApartNames as EntityNamesAreApart};
 ghost use Rattle.table_files.specs.Tells.{HasApartNames as TableNamesAreApart};

@@ -1,3 +1,7 @@
+ghost use Rattle.std.specs.Prelude.{◌≡◌, IfOk};
+
+use crate::Memory;
+
 /// An entity set, by its place among the model's sets.
 #[derive(Clone, Copy, Debug, PartialEq, Eq)]
 pub struct SetId {
@@ -56,4 +60,14 @@ pub struct LinkFragId {
 #[derive(Clone, Copy, Debug, PartialEq, Eq)]
 pub struct GroupId {
     pub index: u32,
+}
+
+/// A place in 32 bits. One that is past these counts as want of memory.
+pub fn narrow(place: usize) -> Result<u32, Memory>
+    ensures { IfOk result (λ index. index ≡ place) }
+{
+    match u32::try_from(place) {
+        Ok(index) => Ok(index),
+        Err(_) => Err(Memory),
+    }
 }

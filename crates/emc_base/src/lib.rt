@@ -2,6 +2,7 @@
 #![tactic(auto)]
 
 mod bin;
+mod found;
 mod ids;
 mod ledger;
 mod memory;
@@ -13,7 +14,10 @@ mod value;
 mod value_ref;
 
 pub use bin::Bin;
-pub use ids::{AssocId, ColId, FkId, FragId, GroupId, LinkFragId, PropId, SetId, TableId, TypeId};
+pub use found::put_found;
+pub use ids::{
+    AssocId, ColId, FkId, FragId, GroupId, LinkFragId, PropId, SetId, TableId, TypeId, narrow,
+};
 pub use ledger::{Ledger, Steps};
 pub use memory::Memory;
 pub use order::{compare, compare_keys, order_is_total};

@@ -1,12 +1,11 @@
 -- A state's tree has no float.
-use Rattle.std.proofs.Common.{◌≡◌, ◌∙◌, ap, filter, false, refl, codes}
+use Rattle.std.proofs.Common.{◌≡◌, ◌∙◌, ap, filter, false, refl, codes, zip}
 use Rattle.std.specs.List.{enumerate_from}
 use Rattle.serde_json.specs.Data.{string, no_members, put}
 use Rattle.serde_json.specs.Written.{has_float, members_have_float}
 use Rattle.json_form.specs.Trees.{key_tree, put_all}
 use Rattle.json_form.proofs.Members.{put_all-both}
 use Rattle.json_form.proofs.Objects.{members_have_float-put, put_all-plain, array_of-plain, value_tree-plain, key_tree-plain}
-use Rattle.std.proofs.Common.{zip}
 use Rattle.round_trip.specs.Words.{EntityModel, Assoc, Entity, Link, props_of, State, entities_in, links_in}
 use Rattle.entity_state.specs.StateTree.{assoc_member, assoc_members, entity_tree, full_name, is_independent, link_tree, named_value, set_member, set_members, state_tree}
 

@@ -1,13 +1,8 @@
 pub mod Ascents
 pub mod Chains
-pub mod Climbs
+pub mod walks
 pub mod Depths
-pub mod Filled
 pub mod Levels
-pub mod Members
-pub mod Orders
-pub mod Passing
-pub mod Paths
-pub mod Sums
+pub mod orders
 pub mod Tops
-pub mod Turns
+pub mod Settled

@@ -1,2 +1,3 @@
 pub mod GivenNames
 pub mod PlacesIn
+pub mod Fronts

@@ -1,9 +1,11 @@
 //! Names that are given in lists, and the place where each is given first.
 
+mod fronts;
 mod named;
 mod once;
 mod places;
 
+pub use fronts::rest_after;
 pub use named::Named;
 pub use once::{are_apart, holds_each_once};
 pub use places::{Places, first_places, places_of};

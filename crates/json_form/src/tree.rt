@@ -1,8 +1,7 @@
 ghost use Rattle.std.specs.Prelude.{◌≡◌, IfOk, map, string_bytes};
-ghost use Rattle.serde_json.specs.Data.{string};
+ghost use Rattle.serde_json.specs.Data.{string, array, object};
 ghost use Rattle.serde_json.specs.Written.{compact_text};
 ghost use Rattle.serde_json.specs.View.{items_of, items_view, members_view, view};
-ghost use Rattle.serde_json.specs.Data.{array, object};
 ghost use Rattle.json_form.specs.Trees.{key_tree, place_tree, quoted, value_tree};
 
 use emc_base::{Key, Memory, Place, Value};

@@ -12,9 +12,9 @@ use Rattle.layouts.specs.declared.form.Entry.{Entry}
 use Rattle.layouts.specs.declared.form.Entry.TheVariants as entry
 use Rattle.layouts.specs.declared.form.Form.TheVariants as form
 use Rattle.layouts.specs.declared.form.Leaf.TheVariants as leaf
-use Rattle.layouts.specs.declared.model_layout.TheConstants as model
-use Rattle.layouts.specs.declared.store_layout.TheConstants as store
-use Rattle.layouts.specs.declared.mapping_layout.TheConstants as mapping
+use Rattle.layouts.specs.declared.names.model_layout.TheConstants as model
+use Rattle.layouts.specs.declared.names.store_layout.TheConstants as store
+use Rattle.layouts.specs.declared.names.mapping_layout.TheConstants as mapping
 use Rattle.layouts.specs.declared.names.TheConstants.{PASSED_OVER, LEFT_OUT}
 
 -- a table of the code as a list of rows: a member's name, and what is said of it

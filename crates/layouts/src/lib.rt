@@ -4,14 +4,11 @@
 mod fault;
 mod form;
 mod leaf;
-mod mapping_layout;
 mod missing;
-mod model_layout;
 mod names;
 mod path;
 mod rule;
 pub mod rule_places;
-mod store_layout;
 pub mod told_rules;
 mod walk;
 
@@ -21,8 +18,8 @@ pub use names::{entry_of, rows_of};
 pub use path::Path;
 pub use rule::Rule;
 pub use rule_places::{
-    behind, behind_member, fault_at, fault_at_item, fault_here_if, fault_if, fault_on_item,
-    first_at, first_in_list,
+    Again, behind, behind_member, fault_at, fault_at_item, fault_here_if, fault_if, fault_on_item,
+    first_at, first_in_list, first_twice,
 };
 pub use told_rules::{Stop, told};
 pub use walk::first_fault;

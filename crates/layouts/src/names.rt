@@ -1,11 +1,15 @@
 //! What a layout says of the member of a name.
+
+mod mapping_layout;
+mod model_layout;
+mod store_layout;
+
 ghost use Rattle.std.specs.Prelude.{◌≡◌, ◌==◌, option_map};
 ghost use Rattle.std.specs.List.{find, list_any};
 ghost use Rattle.std.specs.Str.{bytes_eq};
 ghost use Rattle.layouts.specs.Layouts.{as_rows, entry_of, everywhere, is_left_out, is_passed_over, rows_of};
 
 use crate::form::{Entry, Form, Leaf, Shape};
-use crate::{mapping_layout, model_layout, store_layout};
 
 /// What is read and passed over wherever it stands, beside each name that holds a colon.
 pub const PASSED_OVER: &[&str] = &[

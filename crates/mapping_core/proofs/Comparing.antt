@@ -12,7 +12,7 @@ use Rattle.schema_laws.proofs.same_states.SameTables.{tables_moved}
 use Rattle.regions.specs.Basis.{Basis}
 use Rattle.regions.specs.region_laws.IsBasis.{IsBasis}
 use Rattle.case_laws.specs.Reading.{DecidesFree, HasStateTables}
-use Rattle.case_laws.proofs.Settling.{answered, key_named}
+use Rattle.case_laws.proofs.shown.Settling.{answered, key_named}
 use Rattle.keyed_rows.specs.row_differences.SameButFree.{AreSameButFree, HasKeptKeys, HaveRowsApart}
 use Rattle.keyed_rows.proofs.row_differences.NoDifference.{columns_of_key, rows_beyond}
 

@@ -1,7 +1,7 @@
 -- What is accepted, and what deciding and compiling answer, follows from the former wording, and the other way round. It goes with the laws.
 use Rattle.std.proofs.Common.{ℕ, List, Result, Ok, Err}
 use Rattle.round_trip.specs.Words.{Schema}
-use Rattle.round_trip.specs.soundness.Mappings.{IsSoundSchema}
+use Rattle.round_trip.specs.soundness.mappings.Mappings.{IsSoundSchema}
 use Rattle.mapping_core.specs.Accepted.{IsAccepted, IsDecided}
 use Rattle.mapping_core.specs.Compiles.{Compiles, Decides}
 use Rattle.mapping_core.specs.Rules.{IsRead}

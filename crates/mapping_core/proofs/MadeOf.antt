@@ -12,7 +12,7 @@ use Rattle.cells.specs.declared.parts.Parts.{Parts}
 use Rattle.regions.specs.declared.region.Region.{Region}
 use Rattle.regions.specs.Basis.{Basis}
 use Rattle.regions.specs.Fitting.{fits}
-use Rattle.cells.specs.region_basis.BasisOf.{basis_of, hosts_in}
+use Rattle.region_states.specs.region_basis.BasisOf.{basis_of, hosts_in}
 use Rattle.mapping_core.specs.Accepted.{AreMadeOf}
 use Rattle.region_partition.specs.set_regions.Regions.{AreRegions}
 use Rattle.update_views.specs.Views.{AreViewsOf}

@@ -6,14 +6,14 @@ use Rattle.std.proofs.lemmas.List.{map-id}
 use Rattle.emc_base.proofs.Lists.{all_from_members}
 use Rattle.emc_base.proofs.Mapped.{all_zip-map}
 use Rattle.round_trip.specs.Words.{TableId, ColId, ForeignKey, Null, Row, Schema, State, Tables, AreLegalTables, AreSameTables, HasAllowedNullCells, HasCellsInDomain, HasDemandedCells, IsErasedRow, IsFree, IsLegal, KeepsForeignKey, TablesAre, cell_of, rows_in}
-use Rattle.schema_laws.proofs.state_demand.SameTables.{same_tables}
+use Rattle.schema_laws.proofs.state_demand.tables.SameTables.{same_tables}
 use Rattle.schema_laws.proofs.same_states.Reordered.{all_in_any_order}
 use Rattle.keyed_rows.proofs.row_differences.OfState.{free_not_demanded}
 use Rattle.case_laws.specs.Reading.{HasStateTables}
 use Rattle.table_files.proofs.table_legality.Kept.{no_breach}
 use Rattle.mapping_core.specs.Accepted.{IsAccepted, IsDecided}
-use Rattle.mapping_core.specs.Loads.{Loads}
-use Rattle.mapping_core.specs.GivesBack.{GivesBack}
+use Rattle.mapping_core.specs.states.Loads.{Loads}
+use Rattle.mapping_core.specs.states.GivesBack.{GivesBack}
 use Rattle.mapping_core.specs.declared.loading.LoadFault.{LoadFault}
 use Rattle.mapping_core.specs.declared.loading.LoadFault.TheVariants.{Breach as NotLegal, NoCase, Illegal, Differs, Memory}
 

@@ -5,8 +5,8 @@ use Rattle.cells.specs.Cells.{is_free_in}
 use Rattle.cells.specs.Limits.{IsWithinLimits}
 use Rattle.cells.specs.Parts.{AreParts, schema_in}
 use Rattle.cells.specs.declared.parts.Parts.{Parts}
-use Rattle.cells.specs.region_basis.BasisOf.{basis_of}
-use Rattle.cells.proofs.region_basis.Bases.{basis_is}
+use Rattle.region_states.specs.region_basis.BasisOf.{basis_of}
+use Rattle.region_states.proofs.region_basis.Bases.{basis_is}
 use Rattle.regions.specs.Basis.{Basis}
 use Rattle.regions.specs.region_laws.IsBasis.{IsBasis}
 use Rattle.region_states.specs.LoneStates.{HasNoAssociationSets}
@@ -23,7 +23,7 @@ use Rattle.mapping_core.specs.Accepted.{IsAccepted, IsDecided}
 use Rattle.query_views.specs.Answers.{StateOf}
 use Rattle.query_views.specs.declared.fault.StateFault.{StateFault}
 use Rattle.query_views.specs.declared.fault.StateFault.TheVariants as query
-use Rattle.mapping_core.specs.Loads.{Compares, HasNoState, HasNoStateBy, IsLoaded, IsReadBy, LoadsLegal, TellsDifferent, TellsIllegal, TellsLack}
+use Rattle.mapping_core.specs.states.Loads.{Compares, HasNoState, HasNoStateBy, IsLoaded, IsReadBy, LoadsLegal, TellsDifferent, TellsIllegal, TellsLack}
 use Rattle.mapping_core.specs.declared.loading.LoadFault.{LoadFault}
 use Rattle.mapping_core.specs.declared.loading.LoadFault.TheVariants.{Breach as NotLegal, NoCase, Illegal, Differs, Memory}
 use Rattle.mapping_core.proofs.Comparing.{same_but_free}

@@ -1,7 +1,7 @@
 -- What is accepted, and what deciding and compiling answer, in their former wording, for the law that they say the same today. It goes with the law.
 use Rattle.std.specs.Prelude.{◌≡◌, ℕ, List, Some, Result, Ok, Err, ⊤}
 use Rattle.round_trip.specs.Words.{Keeps, RoundTrips, Schema}
-use Rattle.round_trip.specs.soundness.Mappings.{IsSoundSchema}
+use Rattle.round_trip.specs.soundness.mappings.Mappings.{IsSoundSchema}
 use Rattle.region_partition.specs.mapping_limits.FirstLimit.{IsFirstLimit}
 use Rattle.mapping_core.specs.mapping_verdict.Words.{IsFailureOf}
 use Rattle.mapping_core.specs.declared.compiled.Compiled.{Compiled}

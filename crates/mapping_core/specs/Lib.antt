@@ -4,10 +4,7 @@ pub mod Verdicts
 pub mod Compiles
 pub mod Reading
 pub mod Words
-pub mod Stores
-pub mod Documents
-pub mod Loads
+pub mod states
 pub mod ViewsText
-pub mod GivesBack
 pub mod Former
 pub mod mapping_verdict

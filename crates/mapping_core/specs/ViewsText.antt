@@ -5,7 +5,7 @@ use Rattle.round_trip.specs.Words.{Schema}
 use Rattle.cells.specs.declared.parts.Parts.{Parts}
 use Rattle.cells.specs.Cells.{is_free_in}
 use Rattle.cells.specs.Parts.{AreParts, schema_in}
-use Rattle.cells.specs.region_basis.BasisOf.{basis_of}
+use Rattle.region_states.specs.region_basis.BasisOf.{basis_of}
 use Rattle.case_laws.specs.declared.region_cases.case.Case.{Case}
 use Rattle.texts.specs.case_texts.Views.{views_text}
 use Rattle.query_views.specs.Views.{AreCases}

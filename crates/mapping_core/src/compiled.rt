@@ -1,6 +1,6 @@
 ghost use Rattle.std.specs.Prelude.{◌≡◌};
 ghost use Rattle.cells.specs.Parts.{AreParts, schema_in};
-ghost use Rattle.cells.specs.region_basis.BasisOf.{basis_of};
+ghost use Rattle.region_states.specs.region_basis.BasisOf.{basis_of};
 ghost use Rattle.region_partition.specs.set_regions.Regions.{AreRegions};
 ghost use Rattle.mapping_core.specs.Accepted.{AreMadeOf, HasQueryViews, IsAccepted};
 ghost use Rattle.mapping_core.specs.Rules.{IsRead};

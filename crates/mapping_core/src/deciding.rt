@@ -1,6 +1,6 @@
 ghost use Rattle.std.specs.Prelude.{IfOk};
 ghost use Rattle.round_trip.specs.Words.{Schema};
-ghost use Rattle.round_trip.specs.soundness.Mappings.{IsSoundSchema};
+ghost use Rattle.round_trip.specs.soundness.mappings.Mappings.{IsSoundSchema};
 ghost use Rattle.cells.specs.Cells.{TellsCells};
 ghost use Rattle.mapping_core.specs.Accepted.{IsDecided};
 ghost use Rattle.mapping_core.specs.Compiles.{Decides, Judges};

@@ -1,4 +1,4 @@
-ghost use Rattle.mapping_core.specs.Documents.{ReadsDocument, ReadsEntities, ReadsTables};
+ghost use Rattle.mapping_core.specs.states.Documents.{ReadsDocument, ReadsEntities, ReadsTables};
 
 use data_documents::{ShapeFault, state_of_doc, tables_of_doc};
 use edm_types::{EntityModel, StoreModel};

@@ -13,11 +13,10 @@ mod reading;
 mod storing;
 mod verdict;
 mod viewing;
-mod wording;
 
 pub use crate::mapping_verdict::Failure;
 pub use compiled::{Compiled, CompiledParts, MappingViews};
-pub use compiling::compile;
+pub use compiling::{accepted_is_told_as_before, compile};
 pub use data_documents::ShapeFault;
 pub use deciding::decide;
 pub use documents::{read_entities, read_tables};
@@ -35,4 +34,3 @@ pub use storing::{StoreFault, store_all};
 pub use table_files::Tables;
 pub use verdict::{Refusal, Verdict};
 pub use viewing::views_all;
-pub use wording::accepted_is_told_as_before;

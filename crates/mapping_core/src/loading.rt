@@ -1,6 +1,6 @@
 ghost use Rattle.cells.specs.Parts.{schema_in};
 ghost use Rattle.round_trip.specs.Words.{AreLegalTables, AreTables, IsLegal};
-ghost use Rattle.mapping_core.specs.Loads.{AreAcceptedParts, Compares, Loads, LoadsLegal};
+ghost use Rattle.mapping_core.specs.states.Loads.{AreAcceptedParts, Compares, Loads, LoadsLegal};
 
 use crate::compiled::{Compiled, CompiledParts};
 use edm_types::{Breach, Row};
@@ -44,7 +44,7 @@ impl From<Memory> for LoadFault {
 }
 
 impl From<StateFault> for LoadFault {
-    ghost use Rattle.mapping_core.specs.Loads.{TellsLack};
+    ghost use Rattle.mapping_core.specs.states.Loads.{TellsLack};
 
     ghost from_gives = { TellsLack };
 

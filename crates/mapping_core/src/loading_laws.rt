@@ -2,8 +2,8 @@ ghost use Rattle.std.specs.Prelude.{Result};
 ghost use Rattle.round_trip.specs.Words.{AreLegalTables, IsLegal, Schema, State, Tables, TablesAre};
 ghost use Rattle.case_laws.specs.Reading.{HasStateTables};
 ghost use Rattle.mapping_core.specs.Accepted.{IsAccepted, IsDecided};
-ghost use Rattle.mapping_core.specs.Loads.{Loads};
-ghost use Rattle.mapping_core.specs.GivesBack.{GivesBack};
+ghost use Rattle.mapping_core.specs.states.Loads.{Loads};
+ghost use Rattle.mapping_core.specs.states.GivesBack.{GivesBack};
 ghost use Rattle.mapping_core.specs.declared.loading.LoadFault.{LoadFault};
 
 /// What is stored is loaded: the tables of a legal state by an accepted mapping are legal, and the state's own; and what loading legal tables of the state's

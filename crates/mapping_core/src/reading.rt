@@ -4,7 +4,7 @@ ghost use Rattle.csdl_model.specs.ModelFaults.{IsModelFault};
 ghost use Rattle.csdl_model.specs.ReadsModel.{IsModelOf};
 ghost use Rattle.msl_fragments.specs.ReadsMapping.{IsMappingOf};
 ghost use Rattle.msl_rules.specs.MappingFaults.{IsMappingFault};
-ghost use Rattle.round_trip.specs.soundness.Models.{IsSoundModel};
+ghost use Rattle.round_trip.specs.soundness.models.Models.{IsSoundModel};
 ghost use Rattle.round_trip.specs.soundness.Stores.{IsSoundStore};
 ghost use Rattle.ssdl_model.specs.ReadsStore.{IsStoreOf};
 ghost use Rattle.ssdl_model.specs.StoreFaults.{IsStoreFault};

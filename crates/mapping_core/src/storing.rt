@@ -1,5 +1,5 @@
 ghost use Rattle.round_trip.specs.Words.{IsState};
-ghost use Rattle.mapping_core.specs.Stores.{Stores};
+ghost use Rattle.mapping_core.specs.states.Stores.{Stores};
 
 use crate::compiled::Compiled;
 use edm_types::Breach;

@@ -3,7 +3,7 @@ use Rattle.std.proofs.Common.{◌≡◌, ◌⊎◌, ◌↔◌, inl, inr, ℕ, �
 use Rattle.std.proofs.lemmas.List.Elements.{Contains-append_cases, Contains-append_left, Contains-append_right}
 use Rattle.round_trip.specs.Words.{PropId, TableId, Value, Pair, LinkFragment, Cond, Test, Schema}
 use Rattle.edm_types.specs.declared.mapping.Test.TheVariants.{Equals, IsNull}
-use Rattle.round_trip.specs.soundness.Joined.{Member, col, prop, member_of}
+use Rattle.round_trip.specs.soundness.mappings.Joined.{Member, col, prop, member_of}
 use Rattle.member_groups.specs.declared.mapping_asks.asks.Ask.{Ask}
 use Rattle.member_groups.specs.declared.mapping_asks.member.MemberId.{MemberId}
 use Rattle.member_groups.specs.declared.mapping_asks.member.MemberId.TheVariants.{Column, Prop}

@@ -8,7 +8,7 @@ use Rattle.std.proofs.lemmas.Bool.Decides.{Decides-eqb}
 use Rattle.emc_base.specs.declared.value.EnumKind.{EnumKind}
 use Rattle.emc_base.specs.declared.value.Kind.TheVariants.{Byte, Int16, Int32, Int64, Boolean, Text, Binary, Enum}
 use Rattle.round_trip.specs.Words.{GroupId, Kind, PropId}
-use Rattle.round_trip.specs.soundness.Joined.{prop}
+use Rattle.round_trip.specs.soundness.mappings.Joined.{prop}
 use Rattle.member_groups.specs.declared.group_numbers.numbered.Numbered.{Numbered}
 use Rattle.member_groups.specs.mapping_asks.Adding.{HasKey}
 use Rattle.member_groups.specs.group_numbers.Joint.{IsJointAt, joint_in}

@@ -1,6 +1,5 @@
 -- The numbers of groups tell which properties and columns are in one group, and which are joined.
-use Rattle.std.proofs.Common.{◌≡◌, ◌↔◌, inl, inr, ℕ, ◌<◌, List, [], length, get_or, slice_get, Option}
-use Rattle.std.proofs.Common.{Some, None, IsSome, true≢false, refl, sym, ap, subst, ◌∙◌, arith}
+use Rattle.std.proofs.Common.{◌≡◌, ◌↔◌, inl, inr, ℕ, ◌<◌, List, [], length, get_or, slice_get, Option, Some, None, IsSome, true≢false, refl, sym, ap, subst, ◌∙◌, arith}
 use Rattle.std.specs.List.{IsDistinct}
 use Rattle.std.specs.Option.{option_map_or}
 use Rattle.std.specs.Prelude.{option_and_then}
@@ -9,8 +8,8 @@ use Rattle.std.proofs.lemmas.Map.Keys.{apart_from_distinct}
 use Rattle.std.proofs.lemmas.Option.{get_or_from_slice_get, same_Some, slice_get_within}
 use Rattle.emc_base.proofs.Lists.{at_once, item_at}
 use Rattle.round_trip.specs.Words.{GroupId, Schema, Table, TableId, At}
-use Rattle.round_trip.specs.soundness.Joined.{IsNoKey, Joined, Member, col, prop}
-use Rattle.round_trip.specs.soundness.Joined as joined
+use Rattle.round_trip.specs.soundness.mappings.Joined.{IsNoKey, Joined, Member, col, prop}
+use Rattle.round_trip.specs.soundness.mappings.Joined as joined
 use Rattle.round_trip.specs.soundness.Lookups.{columns_of}
 use Rattle.member_groups.specs.joined_groups.Groups.{AreGroups, group_of}
 use Rattle.member_groups.specs.joined_groups.Labels.{label_eq, label_of}

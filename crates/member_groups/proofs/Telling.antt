@@ -6,7 +6,7 @@ use Rattle.std.proofs.lemmas.Bool.{cases_eq}
 use Rattle.emc_base.specs.declared.value.EnumKind.{EnumKind}
 use Rattle.emc_base.proofs.Lists.{item_at}
 use Rattle.round_trip.specs.Words.{GroupId, Prop, PropId, Schema, Value, Whole, At}
-use Rattle.round_trip.specs.soundness.Joined.{IsNoKey, Joined, Member, col, prop}
+use Rattle.round_trip.specs.soundness.mappings.Joined.{IsNoKey, Joined, Member, col, prop}
 use Rattle.member_groups.specs.joined_groups.Groups.{AreGroups}
 use Rattle.member_groups.specs.declared.mapping_asks.asks.Ask.{Ask}
 use Rattle.member_groups.specs.declared.mapping_asks.member.MemberId.TheVariants as id

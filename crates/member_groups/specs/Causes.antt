@@ -5,7 +5,7 @@ use Rattle.std.specs.BTreeSet.{BTreeSet, contains}
 use Rattle.std.specs.Ordering.{nat_cmp}
 use Rattle.round_trip.specs.Words.{PropId, Kind, EntityModel, Prop, Mapping, At}
 use Rattle.emc_base.specs.declared.value.Kind.TheVariants as kind
-use Rattle.round_trip.specs.soundness.Joined.{prop}
+use Rattle.round_trip.specs.soundness.mappings.Joined.{prop}
 use Rattle.member_groups.specs.declared.mapping_asks.asks.Ask.{Ask}
 use Rattle.member_groups.specs.declared.mapping_asks.member.MemberId.{MemberId}
 use Rattle.member_groups.specs.declared.group_numbers.numbered.Numbered.{Numbered}

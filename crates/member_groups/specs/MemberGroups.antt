@@ -4,7 +4,7 @@ use Rattle.std.specs.Prelude.{◌≡◌, ◌↔◌, List, slice_get, Option, Som
 use Rattle.std.specs.BTreeSet.{contains}
 use Rattle.std.specs.Ordering.{nat_cmp}
 use Rattle.round_trip.specs.Words.{GroupId, Value, Schema}
-use Rattle.round_trip.specs.soundness.Joined.{Member}
+use Rattle.round_trip.specs.soundness.mappings.Joined.{Member}
 use Rattle.member_groups.specs.declared.groups.MemberGroups.{MemberGroups}
 pub use Rattle.member_groups.specs.group_constants.Constants.{ListsJust}
 use Rattle.member_groups.specs.group_numbers.Numbers.{number_in}

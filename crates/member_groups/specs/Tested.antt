@@ -6,7 +6,7 @@ use Rattle.emc_base.specs.declared.value.EnumKind.{EnumKind}
 use Rattle.emc_base.specs.declared.value.Kind.TheVariants as kind
 use Rattle.edm_types.specs.declared.mapping.Test.TheVariants.{Equals}
 use Rattle.round_trip.specs.soundness.Lookups.{columns_of}
-use Rattle.round_trip.specs.soundness.Joined.{Member, prop, col, Joined, member_of}
+use Rattle.round_trip.specs.soundness.mappings.Joined.{Member, prop, col, Joined, member_of}
 
 -- a property of the model, or a column of the store
 abbrev pub IsMember : Schema → Member → Type 0

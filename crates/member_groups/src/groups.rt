@@ -1,7 +1,7 @@
 ghost use Rattle.std.specs.Prelude.{◌≡◌, IfOk};
 ghost use Rattle.std.specs.Option.{option_copied};
-ghost use Rattle.round_trip.specs.soundness.Joined.{prop, col};
-ghost use Rattle.table_owners.specs.link_places.Between.{schema_of};
+ghost use Rattle.round_trip.specs.soundness.mappings.Joined.{prop, col};
+ghost use Rattle.round_trip.specs.Between.{schema_of};
 ghost use Rattle.member_groups.specs.MemberGroups.{TellsMemberGroups, constants_in, group_in, is_tested_in};
 
 use crate::group_constants::constants_of;

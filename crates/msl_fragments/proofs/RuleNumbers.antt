@@ -9,8 +9,7 @@ use Rattle.layouts.specs.declared.rule.Rule.TheVariants as rule
 use Rattle.layouts.specs.Rules.{rule_number}
 use Rattle.layouts.specs.rule_places.Places.{InList, IsAt}
 use Rattle.layouts.proofs.rule_places.Rules.{after_number, rule_behind, rule_inside, rule_where}
-use Rattle.csdl_names.specs.Repeated.{IsGivenAgain, IsRepeatedIn}
-use Rattle.csdl_names.specs.Unresolved.{NamesNothing}
+use Rattle.layouts.specs.rule_places.Names.{IsGivenAgain, IsRepeatedIn, NamesNothing}
 use Rattle.round_trip.specs.Words.{PropId, EntityModel, StoreModel, EntitySet, Assoc, End, Schema}
 use Rattle.schema_names.specs.SchemaNames.{set_named, association_set_named, table_named, column_named}
 use Rattle.msl_rules.specs.declared.msl_lists.raw.RawPick.{RawPick}

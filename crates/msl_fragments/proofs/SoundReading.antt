@@ -4,10 +4,10 @@ use Rattle.serde_json.specs.Data.{Data}
 use Rattle.groupings.specs.least_fault.Least.{IsLeast}
 use Rattle.layouts.specs.Faults.{fault_cmp}
 use Rattle.round_trip.specs.Words.{EntityModel, StoreModel, Mapping}
-use Rattle.round_trip.specs.soundness.Mappings.{IsSoundSchema}
-use Rattle.round_trip.specs.soundness.Models.{IsSoundModel}
+use Rattle.round_trip.specs.soundness.mappings.Mappings.{IsSoundSchema}
+use Rattle.round_trip.specs.soundness.models.Models.{IsSoundModel}
 use Rattle.round_trip.specs.soundness.Stores.{IsSoundStore}
-use Rattle.table_owners.specs.link_places.Between.{schema_of}
+use Rattle.round_trip.specs.Between.{schema_of}
 use Rattle.msl_rules.specs.declared.msl_lists.raw.RawMapping.{RawMapping}
 use Rattle.msl_rules.specs.msl_lists.Raw.{raw_mapping}
 use Rattle.msl_rules.specs.KeepsMapping.{HasFewItems, KeepsMappingRules}

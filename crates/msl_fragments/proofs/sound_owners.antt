@@ -1,14 +1,7 @@
-pub mod Decimals
-pub mod PlaceTexts
-pub mod NumberedLists
 pub mod Fragments
-pub mod ApartPlaces
+pub mod places
 pub mod Among
 pub mod ColumnNames
-pub mod KeptFragments
-pub mod KeptLinks
+pub mod kept
 pub mod SetKeys
-pub mod OwnedKeys
-pub mod Writing
-pub mod OneOwner
-pub mod PairedAlike
+pub mod owners

@@ -6,8 +6,8 @@ use Rattle.layouts.specs.told_rules.Reads.{Answers}
 use Rattle.edm_types.specs.declared.faults.VocabFault.{VocabFault}
 use Rattle.edm_types.specs.declared.faults.VocabFile.TheVariants.{Msl}
 use Rattle.round_trip.specs.Words.{EntityModel, StoreModel, Mapping}
-use Rattle.round_trip.specs.soundness.Mappings.{IsSoundSchema}
-use Rattle.table_owners.specs.link_places.Between.{schema_of}
+use Rattle.round_trip.specs.soundness.mappings.Mappings.{IsSoundSchema}
+use Rattle.round_trip.specs.Between.{schema_of}
 use Rattle.msl_rules.specs.msl_lists.Raw.{raw_mapping}
 use Rattle.msl_rules.specs.MappingMeaning.{mapping_in}
 use Rattle.msl_rules.specs.MappingFaults.{IsMappingFault}

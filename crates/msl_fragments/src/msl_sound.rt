@@ -2,7 +2,7 @@
 
 ghost use Rattle.edm_types.specs.declared.model.EntityModel.{EntityModel};
 ghost use Rattle.edm_types.specs.declared.store.StoreModel.{StoreModel};
-ghost use Rattle.round_trip.specs.soundness.Mappings.{IsSoundSchema};
+ghost use Rattle.round_trip.specs.soundness.mappings.Mappings.{IsSoundSchema};
 ghost use Rattle.msl_rules.specs.declared.msl_lists.raw.RawMapping.{RawMapping};
 ghost use Rattle.msl_rules.specs.KeepsMapping.{KeepsMappingRules};
 ghost use Rattle.msl_rules.specs.MappingMeaning.{schema_in};

@@ -2,7 +2,7 @@
 
 ghost use Rattle.std.specs.Prelude.{All};
 ghost use Rattle.round_trip.specs.Words.{EntityModel, StoreModel};
-ghost use Rattle.round_trip.specs.soundness.Mappings.{IsSoundFragment};
+ghost use Rattle.round_trip.specs.soundness.mappings.Mappings.{IsSoundFragment};
 ghost use Rattle.msl_rules.specs.declared.msl_lists.raw.RawMapping.{RawMapping};
 ghost use Rattle.msl_rules.specs.KeepsMapping.{KeepsMappingRules};
 ghost use Rattle.msl_rules.specs.MappingMeaning.{mapping_in, schema_in};

@@ -3,7 +3,7 @@
 ghost use Rattle.std.specs.Prelude.{All, map};
 ghost use Rattle.emc_base.specs.Lists.{AreApart};
 ghost use Rattle.round_trip.specs.Words.{Assoc, At, EntityModel, StoreModel};
-ghost use Rattle.round_trip.specs.soundness.Mappings.{HasLinkFragmentIds, IsSoundLinkFragment};
+ghost use Rattle.round_trip.specs.soundness.mappings.Mappings.{HasLinkFragmentIds, IsSoundLinkFragment};
 ghost use Rattle.msl_rules.specs.declared.msl_lists.raw.RawMapping.{RawMapping};
 ghost use Rattle.msl_rules.specs.KeepsMapping.{KeepsMappingRules};
 ghost use Rattle.msl_rules.specs.MappingMeaning.{mapping_in, schema_in};

@@ -4,7 +4,7 @@ ghost use Rattle.std.specs.Prelude.{◌++◌, map};
 ghost use Rattle.emc_base.specs.Lists.{AreApart};
 ghost use Rattle.edm_types.specs.declared.model.EntityModel.{EntityModel};
 ghost use Rattle.edm_types.specs.declared.store.StoreModel.{StoreModel};
-ghost use Rattle.round_trip.specs.soundness.Owners.{HasOneOwner, PairsKeysAlike};
+ghost use Rattle.round_trip.specs.soundness.mappings.Owners.{HasOneOwner, PairsKeysAlike};
 ghost use Rattle.msl_rules.specs.declared.msl_lists.raw.RawMapping.{RawMapping};
 ghost use Rattle.msl_rules.specs.KeepsMapping.{KeepsMappingRules};
 ghost use Rattle.msl_rules.specs.MappingMeaning.{mapping_in, schema_in};

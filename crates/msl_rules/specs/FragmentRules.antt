@@ -11,8 +11,8 @@ use Rattle.groupings.specs.name_places.GivenNames.{IsGivenBefore}
 use Rattle.round_trip.specs.Words.{PropId, Value, Kind, CondOn, Schema, key_columns}
 use Rattle.edm_types.specs.declared.mapping.CondOn.TheVariants as on
 use Rattle.round_trip.specs.soundness.Lookups.{set_key}
-use Rattle.round_trip.specs.soundness.Fragments.{WritesToFitting}
-use Rattle.round_trip.specs.soundness.Joined.{ComparesNoBarred, WritesNoBarredEnum}
+use Rattle.round_trip.specs.soundness.mappings.Fragments.{WritesToFitting}
+use Rattle.round_trip.specs.soundness.mappings.Joined.{ComparesNoBarred, WritesNoBarredEnum}
 use Rattle.schema_names.specs.SchemaNames.{set_named, table_named}
 use Rattle.msl_rules.specs.condition_values.Spelled.{IsSpelled}
 use Rattle.table_owners.specs.key_matching.Matchings.{Matches}

@@ -3,7 +3,7 @@
 use Rattle.std.specs.Prelude.{◌≡◌, ◌<◌, ◌^◌, List, length, All}
 use Rattle.layouts.specs.declared.fault.Fault.{Fault}
 use Rattle.round_trip.specs.Words.{EntityModel, StoreModel}
-use Rattle.round_trip.specs.soundness.Models.{IsSoundModel}
+use Rattle.round_trip.specs.soundness.models.Models.{IsSoundModel}
 use Rattle.round_trip.specs.soundness.Stores.{IsSoundStore}
 use Rattle.msl_rules.specs.declared.msl_lists.raw.RawMapping.{RawMapping}
 use Rattle.msl_rules.specs.declared.msl_lists.raw.RawSetMapping.{RawSetMapping}

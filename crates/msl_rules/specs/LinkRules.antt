@@ -7,7 +7,7 @@ use Rattle.layouts.specs.declared.fault.Fault.{Fault}
 use Rattle.layouts.specs.declared.rule.Rule.TheVariants as rule
 use Rattle.layouts.specs.rule_places.Places.{IsAt, InList}
 use Rattle.round_trip.specs.Words.{PropId, Assoc, End, Pair, Schema, key_props}
-use Rattle.round_trip.specs.soundness.Owners.{IsPlaced}
+use Rattle.round_trip.specs.soundness.mappings.Owners.{IsPlaced}
 use Rattle.schema_names.specs.SchemaNames.{association_set_named, table_named, prop_named}
 use Rattle.msl_rules.specs.declared.msl_lists.raw.RawPair.{RawPair}
 use Rattle.msl_rules.specs.declared.msl_lists.raw.RawCond.{RawCond}

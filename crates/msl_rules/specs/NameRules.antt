@@ -9,8 +9,7 @@ use Rattle.layouts.specs.declared.fault.Fault.{Fault}
 use Rattle.layouts.specs.declared.rule.Rule.TheVariants.{Resolves, ContainerName, PickedType, SharedProperty, MappedAssociation}
 use Rattle.layouts.specs.Inside.{Under}
 use Rattle.layouts.specs.rule_places.Places.{IsAt, InList}
-use Rattle.csdl_names.specs.Repeated.{IsRepeatedIn}
-use Rattle.csdl_names.specs.Unresolved.{NamesNothing}
+use Rattle.layouts.specs.rule_places.Names.{IsRepeatedIn, NamesNothing}
 use Rattle.round_trip.specs.Words.{PropId, EntityModel, StoreModel, Assoc, End, EntitySet, IsA}
 use Rattle.edm_types.specs.Forest.{type_numbered}
 use Rattle.schema_names.specs.SchemaNames.{type_named, set_named, association_set_named, table_named, column_named, prop_named, NamesAssociation, IsOfAssociation}

@@ -8,13 +8,13 @@ use Rattle.std.proofs.lemmas.Option.{slice_get-get_or, slice_get_within}
 use Rattle.emc_base.proofs.Lists.{item_at}
 use Rattle.emc_base.proofs.Mapped.{contains_at}
 use Rattle.emc_base.proofs.Numbered.{map_contains}
-use Rattle.table_owners.proofs.Items.{at_map, member_place}
+use Rattle.table_owners.proofs.lists.Items.{at_map, member_place}
 use Rattle.round_trip.specs.Words.{At, ColId, Entity, EntityModel, EntityType, IsEntity, IsLink, IsState, Place, SetId, State, TableId, Tables, TypeId, Value, entities_in}
 use Rattle.regions.specs.Basis.{Basis}
 use Rattle.regions.specs.Regions.{regions_of}
 use Rattle.regions.specs.region_laws.IsBasis.{IsBasis}
-use Rattle.regions.proofs.region_laws.Listed.{is_listed}
-use Rattle.regions.proofs.region_laws.Possible.{type_fits}
+use Rattle.regions.proofs.region_laws.listing.Listed.{is_listed}
+use Rattle.regions.proofs.region_laws.listing.Possible.{type_fits}
 use Rattle.case_laws.specs.region_cases.Cases.{case_of, cases_of}
 use Rattle.case_laws.specs.declared.region_cases.case.Case.{Case}
 use Rattle.region_partition.proofs.set_regions.Sets.{AreOfFirst}

@@ -15,7 +15,7 @@ use Rattle.emc_base.proofs.Mapped.{contains_at, contains_map}
 use Rattle.emc_base.proofs.Numbered.{all_pairs_map, map_contains}
 use Rattle.emc_base.specs.Order.{value_cmp}
 use Rattle.emc_base.specs.OrderLaws.{key_cmp_total}
-use Rattle.table_owners.proofs.Items.{member_place}
+use Rattle.table_owners.proofs.lists.Items.{member_place}
 use Rattle.round_trip.specs.Words.{At, ColId, Place, SetId, TableId, Tables, Value}
 use Rattle.regions.specs.Basis.{Basis}
 use Rattle.keyed_rows.specs.row_groups.Shown.{shown_cells, shown_group}

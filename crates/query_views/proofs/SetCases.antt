@@ -2,7 +2,7 @@
 use Rattle.std.proofs.Common.{◌≡◌, ◌≤◌, ℕ, List, Bool, map, take, length, ap, sym, subst, ◌∙◌}
 use Rattle.std.proofs.lemmas.List.{length-map, take_all}
 use Rattle.round_trip.specs.Words.{ColId, TableId}
-use Rattle.table_owners.proofs.Items.{at_map}
+use Rattle.table_owners.proofs.lists.Items.{at_map}
 use Rattle.regions.specs.Basis.{Basis}
 use Rattle.regions.specs.declared.region.Region.{Region}
 use Rattle.case_laws.specs.region_cases.Cases.{case_of}

@@ -1,7 +1,7 @@
 ghost use Rattle.std.specs.Prelude.{◌≡◌, ◌<◌, length};
 ghost use Rattle.cells.specs.Cells.{is_free_in};
 ghost use Rattle.cells.specs.Parts.{AreParts};
-ghost use Rattle.cells.specs.region_basis.BasisOf.{basis_of};
+ghost use Rattle.region_states.specs.region_basis.BasisOf.{basis_of};
 ghost use Rattle.round_trip.specs.Words.{AreLegalTables};
 ghost use Rattle.round_trip.specs.soundness.Lookups.{set_key};
 ghost use Rattle.query_views.specs.Answers.{EntityAt};
@@ -9,10 +9,11 @@ ghost use Rattle.query_views.specs.Views.{AreQueryViewsOf};
 
 use crate::fault::{EntityFault, Found};
 use crate::views::QueryViews;
-use cells::{Parts, parts_are_a_basis};
+use cells::Parts;
 use emc_base::{Key, SetId};
 use keyed_rows::rows_at;
 use query_cases::met_cases_are_read;
+use region_states::parts_are_a_basis;
 use std::alloc::Global;
 use table_files::Tables;
 

@@ -1,7 +1,7 @@
 ghost use Rattle.std.specs.Prelude.{◌≡◌, ◌<◌, IfOk, length};
 ghost use Rattle.cells.specs.Cells.{is_free_in};
 ghost use Rattle.cells.specs.Parts.{AreParts};
-ghost use Rattle.cells.specs.region_basis.BasisOf.{basis_of};
+ghost use Rattle.region_states.specs.region_basis.BasisOf.{basis_of};
 ghost use Rattle.round_trip.specs.Words.{AreLegalTables};
 ghost use Rattle.query_views.specs.Answers.{LendsAt, LendsSet, TellsKey};
 ghost use Rattle.round_trip.specs.Words.{Tables as RowsOfEach};
@@ -11,11 +11,12 @@ ghost use Rattle.query_views.specs.Views.{AreQueryViewsOf};
 use crate::fault::StateFault;
 use crate::views::{Met, QueryViews};
 use case_laws::PlacedRow;
-use cells::{Parts, parts_are_a_basis};
+use cells::Parts;
 use edm_types::EntityModel;
 use emc_base::{Key, Memory, Place, Seq, SetId, Txt, Value};
 use keyed_rows::{KeyGroup, rows_by_key};
 use query_cases::met_cases_are_read;
+use region_states::parts_are_a_basis;
 use std::alloc::Global;
 use table_files::Tables;
 

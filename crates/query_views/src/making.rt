@@ -3,7 +3,7 @@ ghost use Rattle.std.specs.List.{AllZip};
 ghost use Rattle.query_cases.specs.case_reading.Reading.{IsReadingOf};
 ghost use Rattle.cells.specs.Cells.{is_free_in};
 ghost use Rattle.cells.specs.Parts.{AreParts};
-ghost use Rattle.cells.specs.region_basis.BasisOf.{basis_of};
+ghost use Rattle.region_states.specs.region_basis.BasisOf.{basis_of};
 ghost use Rattle.region_partition.specs.set_regions.Regions.{AreRegions};
 ghost use Rattle.query_views.specs.Views.{AreCases, AreQueryViewsOf, IsReaderOf};
 

@@ -1,7 +1,7 @@
 ghost use Rattle.std.specs.Prelude.{◌≡◌, [], IfOk, map};
 ghost use Rattle.cells.specs.Cells.{is_free_in};
 ghost use Rattle.cells.specs.Parts.{AreParts};
-ghost use Rattle.cells.specs.region_basis.BasisOf.{basis_of};
+ghost use Rattle.region_states.specs.region_basis.BasisOf.{basis_of};
 ghost use Rattle.round_trip.specs.Words.{AreLegalTables};
 ghost use Rattle.query_views.specs.Answers.{StateOf};
 ghost use Rattle.query_views.specs.Lent.{lent_entity, lent_state};

@@ -2,7 +2,7 @@ ghost use Rattle.std.specs.Prelude.{◌≡◌, ◌<◌, All, AllPairs, IfOk, len
 ghost use Rattle.std.specs.Option.{option_and_then, option_copied};
 ghost use Rattle.case_laws.specs.candidates.Rows.{shown_rows};
 ghost use Rattle.cells.specs.Parts.{AreParts};
-ghost use Rattle.cells.specs.region_basis.BasisOf.{basis_of};
+ghost use Rattle.region_states.specs.region_basis.BasisOf.{basis_of};
 ghost use Rattle.query_views.specs.First.{FindsAmong, FindsFirst, cases_in, readings_in};
 ghost use Rattle.query_views.specs.Views.{IsReaderOf};
 ghost use Rattle.std.specs.List.{AllZip};

@@ -9,12 +9,12 @@ use Rattle.std.proofs.lemmas.Slice.Zip.{AllZip-long}
 use Rattle.emc_base.specs.Lists.{AreApart}
 use Rattle.emc_base.proofs.Lists.{all_from_members, at_once}
 use Rattle.round_trip.specs.Words.{SetId, PropId, Value, EntityModel, Prop, Entity, State, At, InDomain, IsLegal, key_of, key_props, value_beside, value_of}
-use Rattle.round_trip.specs.soundness.Joined.{prop}
+use Rattle.round_trip.specs.soundness.mappings.Joined.{prop}
 use Rattle.condition_logic.specs.declared.atoms.AtomOf.{AtomOf}
-use Rattle.schema_laws.proofs.state_demand.Joined.{same_values}
-use Rattle.schema_laws.proofs.state_demand.Lists.{member_cases, none_in_nil}
-use Rattle.schema_laws.proofs.state_demand.Owners.{beside_map}
-use Rattle.schema_laws.proofs.state_demand.Places.{map_agree}
+use Rattle.schema_laws.proofs.state_demand.owners.Joined.{same_values}
+use Rattle.schema_laws.proofs.state_demand.lists.Lists.{member_cases, none_in_nil}
+use Rattle.schema_laws.proofs.state_demand.owners.Owners.{beside_map}
+use Rattle.schema_laws.proofs.state_demand.lists.Places.{map_agree}
 use Rattle.schema_laws.proofs.sound_demand.Keys.{keys_apart}
 use Rattle.cells.specs.Limits.{IsWithinLimits}
 use Rattle.regions.specs.declared.region.Region.{Region}
@@ -23,9 +23,9 @@ use Rattle.regions.specs.Basis.{Basis}
 use Rattle.regions.specs.Patterns.{Valuation}
 use Rattle.regions.specs.Regions.{regions_of}
 use Rattle.regions.specs.region_laws.IsBasis.{IsBasis}
-use Rattle.regions.proofs.region_laws.Symbols.{Decides-prop}
+use Rattle.regions.proofs.region_laws.values.Symbols.{Decides-prop}
 use Rattle.regions.specs.region_laws.pattern.Allowed.{IsAllowed}
-use Rattle.regions.proofs.region_laws.pattern.Types.{key_among}
+use Rattle.regions.proofs.region_laws.pattern.types.Types.{key_among}
 use Rattle.region_states.specs.focus.Held.{IsHeldAt}
 use Rattle.region_states.proofs.focus.Partners.{are_hosted, holds_hosted, links}
 use Rattle.region_states.specs.defaults.Admissible.{IsAdmissible}
@@ -38,7 +38,7 @@ use Rattle.region_states.specs.Hosting.{HoldsFocus}
 use Rattle.region_states.specs.LoneStates.{HasNoAssociationSets}
 use Rattle.region_states.proofs.Entities.{has_value}
 use Rattle.region_states.proofs.Held.{focus_held}
-use Rattle.region_states.proofs.Legal.{lone_holds, no_assoc}
+use Rattle.region_states.proofs.lone.Legal.{lone_holds, no_assoc}
 
 -- a key beside its own properties
 key_beside : (props : List PropId) (key : List Value) → AreApart props → length key ≡ length props → map (λ p. value_beside p props key) props ≡ key

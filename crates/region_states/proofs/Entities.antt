@@ -3,9 +3,9 @@ use Rattle.std.proofs.Common.{◌≡◌, ◌≢◌, All, Contains, refl, sym, su
 use Rattle.std.proofs.lemmas.List.Elements.{All-contains}
 use Rattle.emc_base.proofs.Lists.{all_from_members}
 use Rattle.round_trip.specs.Words.{SetId, PropId, TableId, ColId, Value, Null, Entity, props_of, value_of}
-use Rattle.round_trip.specs.soundness.Joined.{prop}
+use Rattle.round_trip.specs.soundness.mappings.Joined.{prop}
 use Rattle.condition_logic.specs.declared.atoms.AtomOf.{AtomOf}
-use Rattle.schema_laws.proofs.state_demand.Owners.{beside_map}
+use Rattle.schema_laws.proofs.state_demand.owners.Owners.{beside_map}
 use Rattle.regions.specs.declared.region.Region.{Region}
 use Rattle.regions.specs.declared.pattern.Focus.TheVariants as focus
 use Rattle.regions.specs.declared.pattern.Symbol.{Symbol}
@@ -18,8 +18,8 @@ use Rattle.regions.specs.region_laws.IsBasis.{IsBasis}
 use Rattle.regions.specs.region_laws.pattern.Allowed.{IsAllowed}
 use Rattle.regions.specs.region_laws.pattern.Listed.{Lists}
 use Rattle.regions.proofs.region_laws.pattern.Laws.{listed_from}
-use Rattle.regions.proofs.region_laws.pattern.Standing.{listed_prop}
-use Rattle.regions.proofs.region_laws.pattern.Types.{key_among}
+use Rattle.regions.proofs.region_laws.pattern.symbols.Standing.{listed_prop}
+use Rattle.regions.proofs.region_laws.pattern.types.Types.{key_among}
 use Rattle.region_states.specs.defaults.Admissible.{IsAdmissible}
 use Rattle.region_states.specs.defaults.Short.{IsShort}
 use Rattle.region_states.proofs.defaults.Listed.{told_is}

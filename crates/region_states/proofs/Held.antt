@@ -4,8 +4,8 @@ use Rattle.emc_base.proofs.Lists.{all_from_members, only_member}
 use Rattle.emc_base.proofs.Mapped.{contains_map}
 use Rattle.emc_base.proofs.Numbered.{map_contains}
 use Rattle.round_trip.specs.Words.{SetId, AssocId, Entity, Hosted, Link, State, entities_in, key_of}
-use Rattle.schema_laws.proofs.state_demand.Decisions.{so_or_not}
-use Rattle.schema_laws.proofs.state_demand.Lists.{any_of, none_in_nil, of_any}
+use Rattle.schema_laws.proofs.state_demand.writings.Decisions.{so_or_not}
+use Rattle.schema_laws.proofs.state_demand.lists.Lists.{any_of, none_in_nil, of_any}
 use Rattle.regions.specs.declared.region.Region.{Region}
 use Rattle.regions.specs.Basis.{Basis}
 use Rattle.regions.specs.Patterns.{Valuation}
@@ -14,9 +14,9 @@ use Rattle.regions.specs.Symbols.{is_linked}
 use Rattle.regions.specs.region_laws.IsBasis.{IsBasis}
 use Rattle.regions.specs.region_laws.Partners.{HasPartners}
 use Rattle.regions.specs.region_laws.RegionAt.{links_at}
-use Rattle.regions.proofs.region_laws.Listed.{set_is}
+use Rattle.regions.proofs.region_laws.listing.Listed.{set_is}
 use Rattle.regions.specs.region_laws.pattern.Allowed.{IsAllowed}
-use Rattle.regions.proofs.region_laws.pattern.Origins.{linked_decided}
+use Rattle.regions.proofs.region_laws.pattern.symbols.Origins.{linked_decided}
 use Rattle.region_states.specs.focus.Held.{IsHeldAt}
 use Rattle.region_states.specs.conflicts.There.{HasFewLinks}
 use Rattle.region_states.specs.Entities.{focus_entity}

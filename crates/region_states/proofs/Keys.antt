@@ -2,15 +2,15 @@
 use Rattle.std.proofs.Common.{◌≡◌, List, map, Contains, sym, ap, ◌∙◌}
 use Rattle.round_trip.specs.Words.{SetId, PropId, Value, EntityModel, key_of, key_props, value_of}
 use Rattle.round_trip.specs.soundness.Lookups.{set_key}
-use Rattle.schema_laws.proofs.state_demand.Places.{map_agree}
+use Rattle.schema_laws.proofs.state_demand.lists.Places.{map_agree}
 use Rattle.regions.specs.declared.region.Region.{Region}
 use Rattle.regions.specs.Basis.{Basis}
 use Rattle.regions.specs.Patterns.{Valuation}
 use Rattle.regions.specs.Regions.{regions_of}
 use Rattle.regions.specs.region_laws.IsBasis.{IsBasis}
-use Rattle.regions.proofs.region_laws.Listed.{set_is}
-use Rattle.regions.proofs.region_laws.pattern.Regions.{key_is}
-use Rattle.regions.proofs.region_laws.pattern.Types.{key_among}
+use Rattle.regions.proofs.region_laws.listing.Listed.{set_is}
+use Rattle.regions.proofs.region_laws.pattern.types.Regions.{key_is}
+use Rattle.regions.proofs.region_laws.pattern.types.Types.{key_among}
 use Rattle.region_states.specs.defaults.Admissible.{IsAdmissible}
 use Rattle.region_states.specs.defaults.Defaults.{fresh_at, place_in}
 use Rattle.region_states.specs.defaults.Fresh.{focus_key}

@@ -1,9 +1,7 @@
 pub mod Entities
 pub mod Held
-pub mod Lone
-pub mod Legal
 pub mod Keys
-pub mod Alike
+pub mod lone
 pub mod Base
 pub mod focus
 pub mod defaults

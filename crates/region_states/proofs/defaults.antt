@@ -1,13 +1,10 @@
-pub mod Classes
+pub mod groups
 pub mod Short
-pub mod Uses
 pub mod Lists
 pub mod Candidates
-pub mod Constants
 pub mod Valued
-pub mod Bounds
+pub mod indices
 pub mod Fitting
 pub mod Listed
 pub mod Defaults
 pub mod Changes
-pub mod Shared

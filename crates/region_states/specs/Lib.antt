@@ -5,3 +5,4 @@ pub mod BasePopulation
 pub mod focus
 pub mod defaults
 pub mod conflicts
+pub mod region_basis

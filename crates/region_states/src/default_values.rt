@@ -3,7 +3,7 @@
 ghost use Rattle.std.specs.Prelude.{◌<◌, ◌≡◌, ◌≢◌, ◌≤◌, ℕ, Bool, Contains, IsTrue, Option};
 ghost use Rattle.round_trip.specs.Words.{At, InDomain, Kind, Null, Prop, PropId, SetId, TypeId, Value, key_props};
 ghost use Rattle.emc_base.specs.declared.value.Kind.TheVariants as kind;
-ghost use Rattle.round_trip.specs.soundness.Joined.{IsDependent, IsNoKey, Joined, prop};
+ghost use Rattle.round_trip.specs.soundness.mappings.Joined.{IsDependent, IsNoKey, Joined, prop};
 ghost use Rattle.round_trip.specs.soundness.Kinds.{IsEnum, IsKeyKind};
 ghost use Rattle.condition_logic.specs.declared.atoms.Atom.{Atom};
 ghost use Rattle.member_groups.specs.Tested.{AreInOneGroup};

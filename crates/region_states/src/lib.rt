@@ -1,4 +1,4 @@
-//! Conflicts, and legal states that hold an entity of a region: what they demand by its pattern, which values it may have, which states there are, and at which set a state fails.
+//! That cells are a basis of the regions of their mapping; conflicts, and legal states that hold an entity of a region: what they demand by its pattern, which values it may have, which states there are, and at which set a state fails.
 #![tactic(auto)]
 
 mod conflicts;
@@ -6,6 +6,7 @@ mod default_values;
 mod failure_places;
 mod focus_laws;
 pub mod joined_laws;
+pub mod region_basis;
 
 ghost use Rattle.std.specs.Prelude.{◌≡◌, Contains, List};
 ghost use Rattle.round_trip.specs.Words.{ColId, Entity, EntityModel, IsLegal, PropId, SetId, State, TableId, Value, props_of, value_of};
@@ -39,6 +40,9 @@ pub use focus_laws::{
     no_other_row_is_demanded,
 };
 pub use joined_laws::{a_joined_pattern_is_one_row, joined_links_are_told};
+pub use region_basis::{
+    host_end, hosted_links_are_those_of_the_basis, hosting_end, partner_end, parts_are_a_basis,
+};
 
 /// An entity that is made of values has them, and each symbol that the pattern of its region lists has the same value by the entity as by these. Where
 /// they are admissible, the entity's are.

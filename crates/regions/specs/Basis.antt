@@ -2,7 +2,7 @@
 -- Source: this project's profile of MSL version 3: the groups of properties and columns, and where links stand.
 use Rattle.std.specs.Prelude.{◌≡◌, List, Contains, Bool, Option, if◌then◌else◌}
 use Rattle.round_trip.specs.Words.{SetId, TypeId, AssocId, GroupId, Value, Kind, Assoc, End, Schema, Link, Hosted, State, links_in}
-use Rattle.round_trip.specs.soundness.Joined.{Member}
+use Rattle.round_trip.specs.soundness.mappings.Joined.{Member}
 
 -- an association whose links stand with the entities at one end, and whether this is the first
 pub record Host : Type 0 where

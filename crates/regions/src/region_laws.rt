@@ -9,7 +9,7 @@ ghost use Rattle.emc_base.specs.Lists.{AreApart};
 ghost use Rattle.condition_logic.specs.declared.atoms.Atom.{Atom};
 ghost use Rattle.round_trip.specs.Words.{Assoc, AssocId, At, ColId, Column, DemandsCell, DemandsRow, Entity, EntityModel, EntitySet, Fragment, Hosted, IsA, IsConcrete, IsLegal, Link, LinkFragment, Pair, Prop, PropId, Selects, SetId, State, StoreModel, Table, TableId, Value, Writing, WritesRow, entities_in, key_of, links_in, written_key};
 ghost use Rattle.edm_types.specs.declared.model.Mult.TheVariants.{Many, ZeroOrOne};
-ghost use Rattle.round_trip.specs.soundness.Joined.{prop};
+ghost use Rattle.round_trip.specs.soundness.mappings.Joined.{prop};
 ghost use Rattle.regions.specs.declared.pattern.Symbol.{Symbol};
 ghost use Rattle.schema_laws.specs.state_demand.MadeTables.{given_cells};
 ghost use Rattle.schema_laws.specs.state_demand.Owners.{IsJoinedTo, IsOwned, StandsAt};

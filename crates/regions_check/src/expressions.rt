@@ -1,5 +1,5 @@
-ghost use Rattle.table_owners.specs.link_places.Between.{schema_of};
-ghost use Rattle.round_trip.specs.soundness.Mappings.{IsSoundSchema};
+ghost use Rattle.round_trip.specs.Between.{schema_of};
+ghost use Rattle.round_trip.specs.soundness.mappings.Mappings.{IsSoundSchema};
 
 use crate::examples::NAMED;
 use condition_logic::{holds_entity, holds_row, select_expr, show_expr};

@@ -3,8 +3,8 @@
 #![tactic(auto)]
 
 ghost use Rattle.cells.specs.Parts.{AreParts};
-ghost use Rattle.table_owners.specs.link_places.Between.{schema_of};
-ghost use Rattle.round_trip.specs.soundness.Mappings.{IsSoundSchema};
+ghost use Rattle.round_trip.specs.Between.{schema_of};
+ghost use Rattle.round_trip.specs.soundness.mappings.Mappings.{IsSoundSchema};
 
 #[cfg(test)]
 mod examples;

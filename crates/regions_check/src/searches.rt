@@ -1,6 +1,6 @@
 ghost use Rattle.cells.specs.Parts.{AreParts};
-ghost use Rattle.table_owners.specs.link_places.Between.{schema_of};
-ghost use Rattle.round_trip.specs.soundness.Mappings.{IsSoundSchema};
+ghost use Rattle.round_trip.specs.Between.{schema_of};
+ghost use Rattle.round_trip.specs.soundness.mappings.Mappings.{IsSoundSchema};
 
 use crate::examples::NULLS;
 use cells::{Cells, Parts, hosted_links, is_within_limits};

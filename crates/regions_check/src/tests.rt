@@ -1,7 +1,7 @@
 ghost use Rattle.std.specs.Prelude.{◌≤◌};
 ghost use Rattle.cells.specs.Parts.{AreParts};
-ghost use Rattle.table_owners.specs.link_places.Between.{schema_of};
-ghost use Rattle.round_trip.specs.soundness.Mappings.{IsSoundSchema};
+ghost use Rattle.round_trip.specs.Between.{schema_of};
+ghost use Rattle.round_trip.specs.soundness.mappings.Mappings.{IsSoundSchema};
 
 use crate::examples::{
     BOSSES, COLUMN, CONDITION, ITEM_MAPPING, ITEM_ROWS, ITEMS, NULLS, ON_OFF, ONE_BOSS, PAIR, PROP,

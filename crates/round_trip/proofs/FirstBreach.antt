@@ -6,7 +6,7 @@ use Rattle.std.specs.Cmp.Lexicographic.{nat_list_cmp_total, slice_cmp}
 use Rattle.std.specs.FinMap.{nat_cmp-IsAntisymmetric, slice_cmp-IsAntisymmetric}
 use Rattle.emc_base.proofs.Orders.{neither_after}
 use Rattle.round_trip.specs.Types.{Value, Null, Place, Kind, Breach, InDomain}
-use Rattle.round_trip.specs.Breaches.{IsFirstBreach}
+use Rattle.round_trip.specs.legality.Breaches.{IsFirstBreach}
 
 -- no more than one place is told
 abbrev pub TellsOne : (Place → Type 0) → Type 0

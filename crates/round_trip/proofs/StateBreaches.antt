@@ -2,8 +2,8 @@
 use Rattle.std.proofs.Common.{◌≡◌, inl, inr, ℕ, List, [], ◌∷◌, ◌++◌, refl, false}
 use Rattle.std.specs.Prelude.{codes}
 use Rattle.round_trip.specs.Types.{Value, Place, place_at, EntityModel, Prop, EntitySet, Assoc, End, Mult, Entity, Link, key_of, State, entities_in, links_in}
-use Rattle.round_trip.specs.Legal.{dependent_end}
-use Rattle.round_trip.specs.Breaches.{StandsIn, LinksIn, StandsAtProp, HasWrongCount, BreaksType, BreaksNull, BreaksDomain, BreaksKey, BreaksEnd, BreaksOnce, BreaksCount, BreaksPrincipal, BreaksRule}
+use Rattle.round_trip.specs.legality.Legal.{dependent_end}
+use Rattle.round_trip.specs.legality.Breaches.{StandsIn, LinksIn, StandsAtProp, HasWrongCount, BreaksType, BreaksNull, BreaksDomain, BreaksKey, BreaksEnd, BreaksOnce, BreaksCount, BreaksPrincipal, BreaksRule}
 use Rattle.round_trip.proofs.FirstBreach.{TellsOne, StandsSome, null_told, domain_told, TellsOneFrom, last_rule, before_rules}
 use Rattle.round_trip.proofs.AtPlaces.{StandAt, told_once, told_with, told_at}
 

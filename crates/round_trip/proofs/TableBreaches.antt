@@ -1,7 +1,7 @@
 -- Each rule of tables tells one place at a spot.
 use Rattle.std.proofs.Common.{◌≡◌, ℕ, List, [], ◌∷◌, false}
 use Rattle.round_trip.specs.Types.{place_at, StoreModel, Table, Column, ForeignKey, Row, Tables, rows_in, row_key}
-use Rattle.round_trip.specs.TableBreaches.{RowStandsIn, StandsAtColumn, BreaksNullCell, BreaksCellDomain, BreaksRowKey, BreaksForeignKey, BreaksTableRule}
+use Rattle.round_trip.specs.legality.TableBreaches.{RowStandsIn, StandsAtColumn, BreaksNullCell, BreaksCellDomain, BreaksRowKey, BreaksForeignKey, BreaksTableRule}
 use Rattle.round_trip.proofs.FirstBreach.{TellsOne, StandsSome, null_told, domain_told, TellsOneFrom, last_rule, before_rules}
 use Rattle.round_trip.proofs.AtPlaces.{StandAt, told_with, told_at}
 

@@ -5,8 +5,8 @@ use Rattle.std.specs.Option.{option_map_or}
 use Rattle.round_trip.specs.Types.{SetId, TypeId, TableId, ColId, AssocId, Value, Null, Place, place_at, EntityModel, EntitySet, Assoc, Table, Column, ForeignKey, Fragment, Pair, LinkFragment, Schema, Entity, Link, Row, At, key_props, value_beside, key_of, State, entities_in, links_in, IsIndependent, IsSameState, Tables, rows_in, row_key, AreSameTables}
 use Rattle.round_trip.specs.declared.FailKind.{FailKind}
 use Rattle.round_trip.specs.declared.FailKind.TheVariants as kind
-use Rattle.round_trip.specs.Legal.{IsLegal}
-use Rattle.round_trip.specs.LegalTables.{Refers, FindsRow}
+use Rattle.round_trip.specs.legality.Legal.{IsLegal}
+use Rattle.round_trip.specs.legality.LegalTables.{Refers, FindsRow}
 use Rattle.round_trip.specs.Demand.{DemandsRow, DemandsCell, key_columns}
 use Rattle.round_trip.specs.TablesAre.{TablesAre}
 use Rattle.round_trip.specs.Satisfies.{IsWrittenTuple, IsShownTuple, IsWrittenLinkTuple, IsShownLinkTuple}

@@ -1,8 +1,5 @@
 pub mod Types
-pub mod Legal
-pub mod Breaches
-pub mod LegalTables
-pub mod TableBreaches
+pub mod legality
 pub mod Demand
 pub mod TablesAre
 pub mod FreeColumns
@@ -11,3 +8,4 @@ pub mod FailsAt
 pub mod RoundTrips
 pub mod Words
 pub mod soundness
+pub mod Between

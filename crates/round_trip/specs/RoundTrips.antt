@@ -1,8 +1,8 @@
 -- The round trip. Source: the criterion of Melnik, Adya and Bernstein, SIGMOD 2007, that query after update is the identity.
 use Rattle.round_trip.specs.Types.{Place, Schema, State, IsSameState, Tables, AreSameTables}
 use Rattle.round_trip.specs.declared.FailKind.{FailKind}
-use Rattle.round_trip.specs.Legal.{IsLegal}
-use Rattle.round_trip.specs.LegalTables.{AreLegalTables}
+use Rattle.round_trip.specs.legality.Legal.{IsLegal}
+use Rattle.round_trip.specs.legality.LegalTables.{AreLegalTables}
 use Rattle.round_trip.specs.TablesAre.{TablesAre}
 use Rattle.round_trip.specs.Satisfies.{Satisfies}
 use Rattle.round_trip.specs.FailsAt.{FailsAt}

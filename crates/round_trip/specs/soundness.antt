@@ -1,13 +1,5 @@
 pub mod Kinds
 pub mod Lookups
-pub mod ModelIds
-pub mod ModelNames
-pub mod Inheritance
-pub mod Constraints
-pub mod Models
+pub mod models
 pub mod Stores
-pub mod Fragments
-pub mod Conditions
-pub mod Owners
-pub mod Joined
-pub mod Mappings
+pub mod mappings

@@ -4,8 +4,8 @@
 
 ghost use Rattle.std.specs.Prelude.{◌≡◌};
 ghost use Rattle.round_trip.specs.Types.{Breach, EntityModel, State, StoreModel, Tables};
-ghost use Rattle.round_trip.specs.Breaches.{IsBreachOf};
-ghost use Rattle.round_trip.specs.TableBreaches.{IsBreachOfTables};
+ghost use Rattle.round_trip.specs.legality.Breaches.{IsBreachOf};
+ghost use Rattle.round_trip.specs.legality.TableBreaches.{IsBreachOfTables};
 
 /// The ways in which an entity state fails, in the order in which they are told.
 #[derive(Clone, Copy, Debug, PartialEq, Eq)]

@@ -2,13 +2,8 @@ pub mod Deriving
 pub mod Keys
 pub mod Fitting
 pub mod Holding
-pub mod Pairing
-pub mod Owned
 pub mod Local
 pub mod ReadBack
-pub mod OneRow
-pub mod TupleKeys
-pub mod Tuples
-pub mod Disagreeing
+pub mod tuples
 pub mod Kept
-pub mod OneOwner
+pub mod owners

@@ -2,7 +2,7 @@
 
 ghost use Rattle.std.specs.Prelude.{◌≡◌};
 ghost use Rattle.round_trip.specs.Words.{AreSameTables, Assoc, AssocId, At, EntityModel, IsIndependent, IsLegal, IsSameState, Keeps, RoundTrips, Schema, State, Tables, TablesAre};
-ghost use Rattle.round_trip.specs.soundness.Mappings.{IsSoundSchema};
+ghost use Rattle.round_trip.specs.soundness.mappings.Mappings.{IsSoundSchema};
 
 /// Where no legal state fails and no association is independent, legal states with the same tables are the same.
 pub fn states_are_told_apart()

@@ -5,8 +5,8 @@ ghost use Rattle.round_trip.specs.Words.{AreLegalTables, AreSameTables, Assoc, A
 ghost use Rattle.round_trip.specs.FailsAt.{Clashes, Dangles, LeavesNull};
 ghost use Rattle.emc_base.specs.Lists.{HoldsEachOnce};
 ghost use Rattle.round_trip.specs.soundness.Lookups.{set_key};
-ghost use Rattle.round_trip.specs.soundness.Mappings.{IsSoundSchema};
-ghost use Rattle.round_trip.specs.soundness.Models.{IsSoundModel};
+ghost use Rattle.round_trip.specs.soundness.mappings.Mappings.{IsSoundSchema};
+ghost use Rattle.round_trip.specs.soundness.models.Models.{IsSoundModel};
 ghost use Rattle.schema_laws.specs.state_demand.Owners.{HasOwner, IsJoinedTo, IsOwned, props_in};
 ghost use Rattle.schema_laws.specs.state_demand.Selecting.{DecidesTypes};
 ghost use Rattle.schema_laws.specs.state_demand.Writings.{AreWritings};

@@ -4,7 +4,7 @@
 ghost use Rattle.std.specs.Prelude.{◌⊎◌, AllPairs};
 ghost use Rattle.emc_base.specs.Lists.{AreApart};
 ghost use Rattle.round_trip.specs.Words.{EntityModel, IsA, TypeId, props_of};
-ghost use Rattle.round_trip.specs.soundness.Models.{IsSoundModel};
+ghost use Rattle.round_trip.specs.soundness.models.Models.{IsSoundModel};
 ghost use Rattle.schema_laws.specs.sound_types.PropNames.{HaveOtherNames};
 
 /// In a sound model a type has each of its properties once, inherited ones included.

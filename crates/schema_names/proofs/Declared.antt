@@ -10,7 +10,7 @@ use Rattle.std.proofs.lemmas.Option.{get_or_from_slice_get, slice_get_past, slic
 use Rattle.emc_base.specs.Lists.{places_of}
 use Rattle.emc_base.proofs.Numbered.{numbered_at}
 use Rattle.round_trip.specs.Words.{EntityModel, EntityType, Prop, PropId, At}
-use Rattle.round_trip.specs.soundness.Inheritance.{prop_numbered}
+use Rattle.round_trip.specs.soundness.models.Inheritance.{prop_numbered}
 use Rattle.schema_names.specs.declared.own_props.OwnProps.{OwnProps}
 use Rattle.schema_names.specs.OwnProps.{AddsProp, AreOwnProps, HaveNoProps, prop_at, prop_in}
 use Rattle.schema_names.specs.SchemaNames.{has_name}

@@ -12,10 +12,10 @@ use Rattle.graphs.proofs.base_chains.Chains.{chain_step, ends}
 use Rattle.edm_types.specs.Forest.{type_numbered}
 use Rattle.edm_types.specs.IsA as is
 use Rattle.round_trip.specs.Words.{EntityModel, EntityType, TypeId, PropId, HasBase, props_of}
-use Rattle.round_trip.specs.soundness.Inheritance.{declared_props}
+use Rattle.round_trip.specs.soundness.models.Inheritance.{declared_props}
 use Rattle.round_trip.specs.soundness.Lookups.{IsAncestor as IsAbove}
-use Rattle.round_trip.specs.soundness.ModelIds.{IsTypeId}
-use Rattle.round_trip.specs.soundness.Models.{IsSoundModel}
+use Rattle.round_trip.specs.soundness.models.ModelIds.{IsTypeId}
+use Rattle.round_trip.specs.soundness.models.Models.{IsSoundModel}
 use Rattle.schema_laws.proofs.sound_types.Once.{names_once}
 use Rattle.schema_names.specs.Inherited.{InheritsProps, base_place}
 use Rattle.schema_names.specs.SchemaNames.{has_name, own_prop, prop_named}

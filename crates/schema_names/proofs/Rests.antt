@@ -3,7 +3,7 @@ use Rattle.std.proofs.Common.{◌≡◌, ℕ, List, [], ◌∷◌, ◌++◌, len
 use Rattle.std.specs.Prelude.{◌==◌, ◌&&◌, if◌then◌else◌}
 use Rattle.std.specs.List.{starts_with}
 use Rattle.std.specs.Option.{option_and_then}
-use Rattle.csdl_names.specs.csdl_lists.References.{rest_after}
+use Rattle.groupings.specs.name_places.Fronts.{rest_after}
 
 pub rest_append : (front next text : List ℕ) → rest_after (front ++ next) text ≡ option_and_then (rest_after next) (rest_after front text)
 rest_append [] next text = refl

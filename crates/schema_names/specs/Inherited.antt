@@ -5,7 +5,7 @@ use Rattle.std.specs.Option.{option_and_then}
 use Rattle.round_trip.specs.Words.{EntityModel, EntityType, TypeId, At, props_of}
 use Rattle.edm_types.specs.Forest.{type_numbered}
 use Rattle.graphs.specs.base_chains.Chains.{IsAncestor, StaysWithin}
-use Rattle.round_trip.specs.soundness.Inheritance.{HasInheritedProps}
+use Rattle.round_trip.specs.soundness.models.Inheritance.{HasInheritedProps}
 use Rattle.schema_laws.specs.sound_types.PropNames.{HaveOtherNames}
 
 -- the place of the base type of the type at a place

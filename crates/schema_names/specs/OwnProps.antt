@@ -4,7 +4,7 @@ use Rattle.std.specs.BTreeMap.{get_by_text}
 use Rattle.std.specs.Option.{option_and_then, option_or}
 use Rattle.std.specs.Str.{bytes_eq}
 use Rattle.round_trip.specs.Words.{EntityModel, Prop, PropId}
-use Rattle.round_trip.specs.soundness.Inheritance.{prop_numbered}
+use Rattle.round_trip.specs.soundness.models.Inheritance.{prop_numbered}
 use Rattle.schema_names.specs.declared.own_props.OwnProps.{OwnProps}
 use Rattle.schema_names.specs.SchemaNames.{own_prop}
 

@@ -6,9 +6,9 @@ use Rattle.std.specs.Option.{option_and_then, option_map_or, option_or}
 use Rattle.std.specs.Str.{bytes_eq}
 use Rattle.round_trip.specs.Words.{EntityModel, Assoc, StoreModel, Column, Table, PropId, At, props_of}
 use Rattle.edm_types.specs.Forest.{type_numbered}
-use Rattle.round_trip.specs.soundness.Inheritance.{declared_props}
+use Rattle.round_trip.specs.soundness.models.Inheritance.{declared_props}
 use Rattle.groupings.specs.name_places.GivenNames.{first_place}
-use Rattle.csdl_names.specs.csdl_lists.References.{rest_of}
+use Rattle.groupings.specs.name_places.Fronts.{rest_of}
 use Rattle.schema_names.specs.declared.ends.WhichEnd.{WhichEnd}
 use Rattle.schema_names.specs.declared.ends.WhichEnd.TheVariants.{First, Second}
 

@@ -1,9 +1,9 @@
 ghost use Rattle.std.specs.Prelude.{◌≡◌, option_map};
-ghost use Rattle.csdl_names.specs.csdl_lists.References.{rest_of};
+ghost use Rattle.groupings.specs.name_places.Fronts.{rest_of};
 ghost use Rattle.schema_names.specs.SchemaNames.{local_name};
 
-use csdl_names::rest_after;
 use edm_types::EntityModel;
+use groupings::rest_after;
 
 /// The name that a reference gives: it follows the Namespace, or else the Alias, and a dot.
 pub fn local_name<'a>(model: &EntityModel, reference: &'a str) -> Option<&'a str>

@@ -3,7 +3,7 @@ use Rattle.std.proofs.Common.{◌≡◌, ◌⊎◌, ⊎_elim, inl, inr, Option, 
 use Rattle.groupings.specs.least_fault.Least.{IsLeast, earlier}
 use Rattle.groupings.proofs.least_fault.Leasts.{least_of_both, least_same}
 use Rattle.round_trip.specs.Words.{Breach, EntityModel, State, IsBreachOf, IsLegal, IsState}
-use Rattle.round_trip.specs.soundness.Models.{IsSoundModel}
+use Rattle.round_trip.specs.soundness.models.Models.{IsSoundModel}
 use Rattle.entity_state.specs.breach_order.Founds.{found_cmp}
 use Rattle.entity_state.specs.breach_order.FoundOrder.{found_cmp_total}
 use Rattle.entity_state.specs.declared.breach_order.found.Found.{Found}

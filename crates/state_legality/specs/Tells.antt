@@ -2,7 +2,7 @@
 -- Source: the rules of `Legal` in `round_trip`.
 use Rattle.std.specs.Prelude.{Option, Some, None}
 use Rattle.round_trip.specs.Words.{Breach, EntityModel, State, IsBreachOf, IsLegal}
-use Rattle.round_trip.specs.Breaches.{BreaksRule}
+use Rattle.round_trip.specs.legality.Breaches.{BreaksRule}
 use Rattle.entity_state.specs.declared.breach_order.found.Found.{Found}
 
 -- that it is legal, or the first breach

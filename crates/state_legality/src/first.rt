@@ -1,7 +1,7 @@
 ghost use Rattle.std.specs.Prelude.{IfOk};
 ghost use Rattle.groupings.specs.least_fault.Least.{IsLeast};
 ghost use Rattle.round_trip.specs.Words.{Breach, EntityModel, IsBreachOf, IsLegal, IsState, State};
-ghost use Rattle.round_trip.specs.soundness.Models.{IsSoundModel};
+ghost use Rattle.round_trip.specs.soundness.models.Models.{IsSoundModel};
 ghost use Rattle.entity_state.specs.breach_order.Founds.{found_cmp};
 ghost use Rattle.state_legality.specs.Tells.{BreaksState, TellsState};
 

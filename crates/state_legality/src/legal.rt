@@ -1,6 +1,6 @@
 ghost use Rattle.std.specs.Prelude.{◌↔◌, IsTrue};
 ghost use Rattle.round_trip.specs.Words.{IsLegal, IsState};
-ghost use Rattle.round_trip.specs.soundness.Models.{IsSoundModel};
+ghost use Rattle.round_trip.specs.soundness.models.Models.{IsSoundModel};
 ghost use Rattle.state_legality.specs.set_legality.Tells.{AreLegalSets};
 ghost use Rattle.state_legality.specs.link_legality.Tells.{KeepsLinkRules, state_of};
 

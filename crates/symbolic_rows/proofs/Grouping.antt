@@ -11,7 +11,7 @@ use Rattle.regions.specs.declared.pattern.Symbol.{Symbol}
 use Rattle.regions.specs.Lists.{firsts}
 use Rattle.regions.specs.Patterns.{symbols_in}
 use Rattle.regions.specs.Symbols.{SymbolWriting, same_symbol}
-use Rattle.regions.proofs.region_laws.Symbols.{Decides-symbol}
+use Rattle.regions.proofs.region_laws.values.Symbols.{Decides-symbol}
 use Rattle.symbolic_rows.specs.declared.writing.Writing.{Writing}
 use Rattle.symbolic_rows.specs.Grouped.{AreIn, AreTo, with_once}
 use Rattle.symbolic_rows.specs.Written.{in_symbols}

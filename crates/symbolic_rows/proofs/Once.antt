@@ -3,9 +3,9 @@ use Rattle.std.proofs.Common.{◌≡◌, List, [], ◌∷◌, ◌++◌, append-n
 use Rattle.std.specs.List.{list_any}
 use Rattle.std.proofs.lemmas.Bool.Decides.{Decides-like, same_from_decides}
 use Rattle.std.proofs.lemmas.List.Elements.{filter-append}
-use Rattle.schema_laws.proofs.state_demand.Lists.{Decides-any, any_of, of_any}
+use Rattle.schema_laws.proofs.state_demand.lists.Lists.{Decides-any, any_of, of_any}
 use Rattle.regions.specs.Lists.{firsts}
-use Rattle.regions.proofs.region_laws.Firsts.{in_firsts, of_firsts}
+use Rattle.regions.proofs.region_laws.lists.Firsts.{in_firsts, of_firsts}
 
 module _ {X : Type 0} (same : X → X → Bool) (decides : (x y : X) → Decides (same x y) (x ≡ y)) (y : X) where
   -- whether it stands in a list

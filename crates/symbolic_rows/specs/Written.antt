@@ -6,7 +6,7 @@ use Rattle.table_owners.specs.declared.places.LinkPlace.{LinkPlace}
 use Rattle.regions.specs.declared.region.Region.{Region}
 use Rattle.regions.specs.Basis.{Basis, Host}
 use Rattle.regions.specs.Symbols.{SymbolWriting, host_writings, is_linked}
-use Rattle.cells.specs.region_basis.BasisOf.{host_at, host_by}
+use Rattle.region_states.specs.region_basis.BasisOf.{host_at, host_by}
 use Rattle.symbolic_rows.specs.declared.writing.Writing.{Writing}
 
 -- a writing as it stands in the definitions

@@ -2,13 +2,14 @@ ghost use Rattle.std.specs.Prelude.{◌≡◌, ◌++◌, ◌==◌, ◌&&◌, IfO
 ghost use Rattle.std.specs.List.{list_any};
 ghost use Rattle.cells.specs.Parts.{AreParts};
 ghost use Rattle.emc_base.specs.Lists.{At};
-ghost use Rattle.cells.specs.region_basis.BasisOf.{basis_of};
+ghost use Rattle.region_states.specs.region_basis.BasisOf.{basis_of};
 ghost use Rattle.symbolic_rows.specs.Written.{in_symbols, writings_at, writings_by};
 
 use crate::writing::{Writing, link_fragment_writing};
-use cells::{LinkPlace, Parts, host_end};
+use cells::{LinkPlace, Parts};
 use edm_types::{Assoc, End};
 use emc_base::{AssocId, Memory};
+use region_states::host_end;
 use regions::Region;
 use std::alloc::Global;
 

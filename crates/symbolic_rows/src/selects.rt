@@ -2,7 +2,7 @@ ghost use Rattle.std.specs.Prelude.{◌≡◌, option_map};
 ghost use Rattle.std.specs.List.{list_all, list_any};
 ghost use Rattle.schema_laws.specs.state_demand.Selecting.{is_picked, passes};
 ghost use Rattle.regions.specs.Symbols.{atom_passes, met_by_atoms};
-ghost use Rattle.round_trip.specs.soundness.Models.{IsSoundModel};
+ghost use Rattle.round_trip.specs.soundness.models.Models.{IsSoundModel};
 ghost use Rattle.schema_laws.specs.sound_demand.Deriving.{derives};
 ghost use Rattle.symbolic_rows.specs.Selected.{selected_by, told_of};
 

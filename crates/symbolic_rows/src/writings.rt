@@ -1,7 +1,7 @@
 ghost use Rattle.std.specs.Prelude.{◌≡◌, ◌++◌, ◌==◌, ◌&&◌, IfOk, flat_map, map, false};
 ghost use Rattle.std.specs.List.{enumerate_from};
 ghost use Rattle.cells.specs.Parts.{AreParts};
-ghost use Rattle.cells.specs.region_basis.BasisOf.{basis_of};
+ghost use Rattle.region_states.specs.region_basis.BasisOf.{basis_of};
 ghost use Rattle.regions.specs.Symbols.{fragment_writing, fragments_of, link_fragment_writing, link_fragments_of, link_writings, region_writings, selects_region};
 ghost use Rattle.symbolic_rows.specs.Written.{in_symbols, writings_by};
 

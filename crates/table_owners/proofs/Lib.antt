@@ -1,12 +1,3 @@
-pub mod Begun
-pub mod Cleared
-pub mod Found
-pub mod Free
-pub mod Hosting
-pub mod Items
-pub mod OneEnd
-pub mod Owning
-pub mod Pairing
-pub mod Placing
-pub mod PutItems
-pub mod Sourcing
+pub mod columns
+pub mod ownership
+pub mod lists

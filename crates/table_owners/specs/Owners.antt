@@ -2,7 +2,7 @@
 -- Source: the profile's choice of who may write a table, over MSL version 3, MappingFragment and AssociationSetMapping.
 use Rattle.std.specs.Prelude.{◌≡◌, List, length, Option, MatchOption}
 use Rattle.round_trip.specs.Words.{TableId, Schema, At, IsWritten}
-use Rattle.round_trip.specs.soundness.Owners as sound
+use Rattle.round_trip.specs.soundness.mappings.Owners as sound
 use Rattle.table_owners.specs.declared.table_writers.writer.Owner.{Owner}
 use Rattle.table_owners.specs.declared.table_writers.writer.Owner.TheVariants.{Set, Assoc}
 

@@ -4,7 +4,7 @@ use Rattle.std.specs.Prelude.{◌≡◌, List, [], length, Contains}
 use Rattle.std.specs.List.{AllZip}
 use Rattle.round_trip.specs.Words.{SetId, PropId, TableId, ColId, Pair, Schema, At, key_columns}
 use Rattle.round_trip.specs.soundness.Lookups.{set_key}
-use Rattle.round_trip.specs.soundness.Owners.{IsOwner, Owns, set}
+use Rattle.round_trip.specs.soundness.mappings.Owners.{IsOwner, Owns, set}
 
 -- a property of the set's key that is written to the column wherever the set owns the table
 pub record IsPairedWith (schema : Schema) (t : TableId) (s : SetId) (col : ColId) (prop : PropId) : Type 0 where

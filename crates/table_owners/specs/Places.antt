@@ -4,7 +4,7 @@ use Rattle.std.specs.Prelude.{◌≡◌, ℕ, List, length, Contains, Bool, true
 use Rattle.std.specs.Option.{option_map_or}
 use Rattle.round_trip.specs.Words.{AssocId, LinkFragId, Assoc, LinkFragment, Schema, At, IsIndependent}
 use Rattle.round_trip.specs.FailsAt.{IsHostedAt, IsUnmapped}
-use Rattle.round_trip.specs.soundness.Owners.{IsJoined}
+use Rattle.round_trip.specs.soundness.mappings.Owners.{IsJoined}
 use Rattle.table_owners.specs.declared.places.LinkPlace.{LinkPlace}
 use Rattle.table_owners.specs.declared.places.LinkPlace.TheVariants.{Hosted, Joined, Unmapped, Constraint}
 use Rattle.table_owners.specs.declared.sources.Standing.{Standing}

@@ -1,6 +1,6 @@
 ghost use Rattle.std.specs.Prelude.{◌≡◌, length, map, replicate, IfOk};
 ghost use Rattle.round_trip.specs.Words.{EntityModel};
-ghost use Rattle.table_owners.specs.link_places.Between.{schema_of};
+ghost use Rattle.round_trip.specs.Between.{schema_of};
 ghost use Rattle.table_owners.specs.Clearing.{IsStart};
 ghost use Rattle.table_owners.specs.FreeColumns.{TellFree};
 

@@ -1,7 +1,7 @@
 ghost use Rattle.std.specs.Prelude.{◌↔◌, Bool, Contains, List};
 ghost use Rattle.round_trip.specs.Words.{Assoc, AssocId, At, LinkFragment, Schema};
 ghost use Rattle.round_trip.specs.FailsAt.{IsHostedAt};
-ghost use Rattle.round_trip.specs.soundness.Mappings.{IsSoundSchema};
+ghost use Rattle.round_trip.specs.soundness.mappings.Mappings.{IsSoundSchema};
 ghost use Rattle.table_owners.specs.declared.places.LinkPlace.{LinkPlace};
 ghost use Rattle.table_owners.specs.Places.{AreHosted, AreToldHosted, TellPlaces};
 

@@ -1,6 +1,6 @@
 ghost use Rattle.std.specs.Prelude.{◌≡◌, IfOk};
-ghost use Rattle.round_trip.specs.soundness.Mappings.{IsSoundSchema};
-ghost use Rattle.table_owners.specs.link_places.Between.{schema_of};
+ghost use Rattle.round_trip.specs.soundness.mappings.Mappings.{IsSoundSchema};
+ghost use Rattle.round_trip.specs.Between.{schema_of};
 ghost use Rattle.table_owners.specs.Owners.{TellOwners};
 ghost use Rattle.table_owners.specs.Sources.{owner_by, owner_of_links};
 

@@ -1,7 +1,7 @@
 ghost use Rattle.std.specs.Prelude.{◌≡◌, filter_map, option_map, IfOk};
 ghost use Rattle.round_trip.specs.Words.{EntityModel};
-ghost use Rattle.round_trip.specs.soundness.Mappings.{IsSoundSchema};
-ghost use Rattle.table_owners.specs.link_places.Between.{schema_of};
+ghost use Rattle.round_trip.specs.soundness.mappings.Mappings.{IsSoundSchema};
+ghost use Rattle.round_trip.specs.Between.{schema_of};
 ghost use Rattle.table_owners.specs.Pairings.{TellPairings};
 ghost use Rattle.table_owners.specs.Sources.{pairs_at, pairs_by, prop_beside, props_beside};
 

@@ -1,6 +1,6 @@
 ghost use Rattle.std.specs.Prelude.{◌≡◌, map, IfOk};
-ghost use Rattle.round_trip.specs.soundness.Mappings.{IsSoundSchema};
-ghost use Rattle.table_owners.specs.link_places.Between.{schema_of};
+ghost use Rattle.round_trip.specs.soundness.mappings.Mappings.{IsSoundSchema};
+ghost use Rattle.round_trip.specs.Between.{schema_of};
 ghost use Rattle.table_owners.specs.Places.{TellPlaces, place_by, place_without};
 
 use crate::putting::put;

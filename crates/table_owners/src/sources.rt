@@ -1,6 +1,6 @@
 ghost use Rattle.std.specs.Prelude.{◌≡◌, length, IfOk};
 ghost use Rattle.round_trip.specs.Words.{EntityModel, Mapping};
-ghost use Rattle.table_owners.specs.link_places.Between.{schema_of};
+ghost use Rattle.round_trip.specs.Between.{schema_of};
 ghost use Rattle.table_owners.specs.Puts.{Puts};
 ghost use Rattle.table_owners.specs.Sources.{AreSources, IsEntitySource, IsLinkSource, Stands, links_to, writes_to};
 

@@ -11,7 +11,7 @@ use Rattle.regions.specs.Basis.{Basis}
 use Rattle.regions.specs.Patterns.{pattern_of}
 use Rattle.regions.specs.Regions.{Holds, regions_by, regions_of, types_of}
 use Rattle.regions.specs.region_laws.IsBasis.{IsBasis}
-use Rattle.regions.proofs.region_laws.Regions.{region_only}
+use Rattle.regions.proofs.region_laws.entities.Regions.{region_only}
 use Rattle.update_views.specs.region_table.Numbers.{place_in}
 use Rattle.case_laws.specs.filled_rows.Filled.{entity_rows}
 use Rattle.update_views.specs.view_rows.Made.{row_of, rows_of_region}

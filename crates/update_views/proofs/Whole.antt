@@ -12,12 +12,12 @@ use Rattle.cells.specs.declared.parts.Parts.{Parts}
 use Rattle.cells.specs.Parts.{AreParts, schema_in}
 use Rattle.cells.specs.declared.host_links.links.HostLinks.{HostLinks}
 use Rattle.cells.specs.host_links.Grouped.{GroupsLinks, links_in}
-use Rattle.schema_laws.proofs.state_demand.Lists.{member_of_flat_map, none_in_nil}
+use Rattle.schema_laws.proofs.state_demand.lists.Lists.{member_of_flat_map, none_in_nil}
 use Rattle.regions.specs.region_laws.IsBasis.{AreHostedLinks}
 use Rattle.regions.specs.region_laws.Partners.{HasFewPartners}
-use Rattle.cells.specs.region_basis.BasisOf.{basis_of}
-use Rattle.cells.proofs.region_basis.Bases.{basis_is}
-use Rattle.cells.proofs.region_basis.Links.{links_of_basis}
+use Rattle.region_states.specs.region_basis.BasisOf.{basis_of}
+use Rattle.region_states.proofs.region_basis.Bases.{basis_is}
+use Rattle.region_states.proofs.region_basis.Links.{links_of_basis}
 use Rattle.case_laws.specs.filled_rows.Gathered.{gathered, rows_of, rows_of_links, rows_of_set}
 use Rattle.case_laws.proofs.filled_rows.Tables.{tables_are}
 use Rattle.update_views.specs.view_rows.Held.{row_by_link}

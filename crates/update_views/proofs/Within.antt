@@ -14,7 +14,7 @@ use Rattle.regions.specs.declared.region.Region.{Region}
 use Rattle.regions.specs.Basis.{Basis}
 use Rattle.regions.specs.Patterns.{pattern_of, writings_of}
 use Rattle.regions.specs.Regions.{regions_of}
-use Rattle.regions.proofs.region_laws.Rows.{rows_only}
+use Rattle.regions.proofs.region_laws.writings.Rows.{rows_only}
 use Rattle.update_views.specs.region_table.Numbers.{place_in}
 use Rattle.update_views.specs.view_rows.Made.{first_link_row, link_row_of, row_of, rows_of_region}
 use Rattle.update_views.specs.view_rows.Held.{row_by_entity}

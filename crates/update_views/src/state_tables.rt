@@ -5,7 +5,7 @@ ghost use Rattle.round_trip.specs.Words.{Hosted, IsLegal, TablesAre, Value, key_
 ghost use Rattle.round_trip.specs.TablesAre.{HasNoClash};
 ghost use Rattle.cells.specs.Parts.{AreParts, schema_in};
 ghost use Rattle.cells.specs.host_links.Grouped.{links_in};
-ghost use Rattle.cells.specs.region_basis.BasisOf.{basis_of};
+ghost use Rattle.region_states.specs.region_basis.BasisOf.{basis_of};
 ghost use Rattle.regions.specs.region_laws.Partners.{HasFewPartners};
 ghost use Rattle.case_laws.specs.filled_rows.Gathered.{rows_of_links, rows_of_set};
 ghost use Rattle.update_views.specs.Placed.{with_rows};

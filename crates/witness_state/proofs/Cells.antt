@@ -4,7 +4,7 @@ use Rattle.std.proofs.lemmas.Bool.{and_parts}
 use Rattle.round_trip.specs.Words.{SetId, TableId, ColId, Column, Entity, FailsAt, Pair, Place, Schema, State, Table}
 use Rattle.round_trip.specs.FailsAt.{HasColumn}
 use Rattle.round_trip.specs.declared.FailKind.TheVariants as kind
-use Rattle.round_trip.specs.soundness.Owners.{SetWrites}
+use Rattle.round_trip.specs.soundness.mappings.Owners.{SetWrites}
 use Rattle.cells.specs.declared.parts.Parts.{Parts}
 use Rattle.cells.specs.Parts.{schema_in}
 use Rattle.regions.specs.declared.region.Region.{Region}
@@ -13,14 +13,14 @@ use Rattle.regions.specs.declared.pattern.Symbol.{Symbol}
 use Rattle.regions.specs.Basis.{Basis}
 use Rattle.regions.specs.Patterns.{Valuation, pattern_of, writings_of}
 use Rattle.regions.specs.Regions.{regions_of}
-use Rattle.cells.specs.region_basis.BasisOf.{basis_of}
+use Rattle.region_states.specs.region_basis.BasisOf.{basis_of}
 use Rattle.regions.proofs.region_laws.pattern.Cells.{cell_of}
 use Rattle.region_states.specs.defaults.Defaults.{default_valuation}
 use Rattle.region_states.specs.conflicts.Facts.{has_row, is_required}
 use Rattle.region_states.specs.declared.conflicts.conflict.Conflict.TheVariants as conflict
 use Rattle.region_states.specs.Entities.{focus_entity}
 use Rattle.region_states.specs.LoneStates.{lone_focus, lone_state}
-use Rattle.region_states.proofs.Alike.{lone_hosts}
+use Rattle.region_states.proofs.lone.Alike.{lone_hosts}
 use Rattle.conflict_laws.specs.clash.ClashValues.{clash_values}
 use Rattle.conflict_laws.proofs.clash.Clashing.{Decides-clash, IsClash}
 use Rattle.conflict_laws.proofs.clash.Fails.{fails_at}

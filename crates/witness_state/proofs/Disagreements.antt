@@ -10,14 +10,14 @@ use Rattle.regions.specs.declared.pattern.Focus.TheVariants as focus
 use Rattle.regions.specs.Basis.{Basis}
 use Rattle.regions.specs.Patterns.{Valuation}
 use Rattle.regions.specs.Symbols.{is_linked}
-use Rattle.cells.specs.region_basis.BasisOf.{basis_of}
+use Rattle.region_states.specs.region_basis.BasisOf.{basis_of}
 use Rattle.region_states.specs.defaults.Defaults.{default_valuation}
 use Rattle.region_states.specs.conflicts.Facts.{differ, is_hosted, shows_link_pattern}
 use Rattle.region_states.specs.declared.conflicts.conflict.Conflict.TheVariants as conflict
 use Rattle.region_states.specs.Entities.{focus_entity}
 use Rattle.region_states.specs.LoneStates.{lone_focus, lone_state}
-use Rattle.region_states.proofs.Alike.{lone_hosts}
-use Rattle.region_states.proofs.Legal.{no_host}
+use Rattle.region_states.proofs.lone.Alike.{lone_hosts}
+use Rattle.region_states.proofs.lone.Legal.{no_host}
 use Rattle.conflict_laws.proofs.disagreement.Deciding.{Decides-disagrees, Decides-hosted, SomeDiffers, SomeLinksDiffer}
 use Rattle.conflict_laws.proofs.disagreement.Failing.{fails}
 use Rattle.witness_state.specs.Failures.{IsFailureOf}

@@ -5,7 +5,7 @@ use Rattle.cells.specs.declared.parts.Parts.{Parts}
 use Rattle.cells.specs.Parts.{AreParts, schema_in}
 use Rattle.regions.specs.Basis.{Basis}
 use Rattle.regions.specs.region_laws.IsBasis.{IsBasis}
-use Rattle.cells.specs.region_basis.BasisOf.{basis_of}
+use Rattle.region_states.specs.region_basis.BasisOf.{basis_of}
 use Rattle.region_states.specs.LoneStates.{HasNoAssociationSets}
 use Rattle.region_states.specs.conflicts.Conflicts.{IsConflictAt, TellsOfSet, kind_of}
 use Rattle.region_states.specs.conflicts.There.{NoneFailsBefore}

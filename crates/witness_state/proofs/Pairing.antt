@@ -5,11 +5,11 @@ use Rattle.std.proofs.lemmas.List.Elements.{All-contains, All-head, All-tail}
 use mathlib.Core.List.{map-map}
 use Rattle.emc_base.specs.Lists.{AreApart}
 use Rattle.round_trip.specs.Words.{SetId, TableId, ColId, PropId, Entity, Fragment, Pair, Schema, value_of, values_of}
-use Rattle.round_trip.specs.soundness.Owners.{SetWrites}
+use Rattle.round_trip.specs.soundness.mappings.Owners.{SetWrites}
 use Rattle.schema_laws.specs.state_demand.Owners.{IsOfOwner, IsOwned, paired_key, props_in}
 use Rattle.schema_laws.specs.state_demand.WellWritten.{cols_of}
-use Rattle.schema_laws.proofs.state_demand.Lists.{same_by_key}
-use Rattle.schema_laws.proofs.state_demand.Owners.{pairs_from_map}
+use Rattle.schema_laws.proofs.state_demand.lists.Lists.{same_by_key}
+use Rattle.schema_laws.proofs.state_demand.owners.Owners.{pairs_from_map}
 use Rattle.table_owners.specs.Pairings.{IsPairedWith, TellsPairing}
 
 module _ (pairs : List Pair) (once : AreApart (cols_of pairs)) where

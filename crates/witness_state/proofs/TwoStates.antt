@@ -9,23 +9,23 @@ use Rattle.regions.specs.declared.region.Region.{Region}
 use Rattle.regions.specs.Basis.{Basis}
 use Rattle.regions.specs.Patterns.{Valuation}
 use Rattle.regions.specs.Regions.{regions_of}
-use Rattle.cells.specs.region_basis.BasisOf.{basis_of}
-use Rattle.regions.proofs.region_laws.pattern.Regions.{parts_of}
+use Rattle.region_states.specs.region_basis.BasisOf.{basis_of}
+use Rattle.regions.proofs.region_laws.pattern.types.Regions.{parts_of}
 use Rattle.region_states.specs.defaults.Defaults.{default_valuation}
 use Rattle.region_states.specs.declared.conflicts.conflict.Conflict.{Conflict}
 use Rattle.region_states.specs.declared.conflicts.conflict.Conflict.TheVariants as conflict
 use Rattle.region_states.specs.conflicts.There.{NoneFailsBefore, NoneFailsBy}
 use Rattle.region_states.specs.Entities.{focus_entity}
 use Rattle.region_states.specs.LoneStates.{empty_state, lone_focus, lone_state}
-use Rattle.region_states.proofs.Alike.{lone_hosts, lone_leaves, lone_rivals}
-use Rattle.region_states.proofs.Legal.{no_host}
+use Rattle.region_states.proofs.lone.Alike.{lone_hosts, lone_leaves, lone_rivals}
+use Rattle.region_states.proofs.lone.Legal.{no_host}
 use Rattle.conflict_laws.specs.rival.RivalValues.{first_values, second_values}
 use Rattle.conflict_laws.specs.same.SameValues.{first_several, with_one, with_other}
 use Rattle.conflict_laws.specs.same.States.{HasStates}
-use Rattle.conflict_laws.proofs.same.Absent.{several_lost}
-use Rattle.conflict_laws.proofs.same.LeftOut.{absent_fails}
-use Rattle.conflict_laws.proofs.same.Lost.{lost_fails, lost_told}
-use Rattle.conflict_laws.proofs.same.RivalsFail.{rivals_fail}
+use Rattle.conflict_laws.proofs.same.lost.Absent.{several_lost}
+use Rattle.conflict_laws.proofs.same.lost.LeftOut.{absent_fails}
+use Rattle.conflict_laws.proofs.same.lost.Lost.{lost_fails, lost_told}
+use Rattle.conflict_laws.proofs.same.rivals.RivalsFail.{rivals_fail}
 use Rattle.witness_state.specs.declared.failure.Failure.{Failure}
 use Rattle.witness_state.specs.Failures.{IsFailureOf}
 use Rattle.witness_state.specs.FirstConflict.{IsFirstConflict}

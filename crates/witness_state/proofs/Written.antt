@@ -1,7 +1,7 @@
 -- Where no association set is declared, a region's set writes the table of each row of its pattern, by a fragment of entities.
 use Rattle.std.proofs.Common.{◌≡◌, inl, inr, List, Contains, refl, sym, ap, ◌∙◌}
 use Rattle.round_trip.specs.Words.{SetId, TableId, Pair}
-use Rattle.round_trip.specs.soundness.Owners.{SetWrites}
+use Rattle.round_trip.specs.soundness.mappings.Owners.{SetWrites}
 use Rattle.regions.specs.declared.region.Region.{Region}
 use Rattle.regions.specs.declared.pattern.Focus.TheVariants as focus
 use Rattle.regions.specs.declared.pattern.PatternRow.{PatternRow}
@@ -11,11 +11,11 @@ use Rattle.regions.specs.Regions.{regions_of}
 use Rattle.regions.specs.Symbols.{SymbolWriting, region_writings}
 use Rattle.regions.specs.region_laws.IsBasis.{IsBasis}
 use Rattle.regions.proofs.region_laws.pattern.Cells.{row_of, writing_to}
-use Rattle.regions.proofs.region_laws.pattern.Origins.{IsRegionWriter, chosen_of, region_writer}
-use Rattle.regions.proofs.region_laws.pattern.Regions.{parts_of}
+use Rattle.regions.proofs.region_laws.pattern.symbols.Origins.{IsRegionWriter, chosen_of, region_writer}
+use Rattle.regions.proofs.region_laws.pattern.types.Regions.{parts_of}
 use Rattle.region_states.specs.focus.Held.{HasRow}
 use Rattle.region_states.specs.LoneStates.{HasNoAssociationSets}
-use Rattle.region_states.proofs.Legal.{no_host}
+use Rattle.region_states.proofs.lone.Legal.{no_host}
 
 module _ (basis : Basis) (is : IsBasis basis) (alone : HasNoAssociationSets basis.schema.model) (s : SetId) (region : Region) (has : Contains (regions_of basis s) region) where
   -- what writes the table is a fragment of the set

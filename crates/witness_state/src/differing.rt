@@ -3,7 +3,7 @@ ghost use Rattle.round_trip.specs.Words.{EntityModel, key_props, props_of};
 ghost use Rattle.regions.specs.declared.pattern.Symbol.TheVariants as symbol;
 ghost use Rattle.regions.specs.Settled.{possible};
 ghost use Rattle.region_states.specs.conflicts.SameFacts.{is_multi, is_one_of};
-ghost use Rattle.cells.specs.region_basis.BasisOf.{basis_of};
+ghost use Rattle.region_states.specs.region_basis.BasisOf.{basis_of};
 ghost use Rattle.conflict_laws.specs.same.SameValues.{first_several, may_differ};
 
 use cells::Parts;

@@ -1,6 +1,6 @@
 ghost use Rattle.std.specs.Prelude.{◌≡◌, IfOk};
 ghost use Rattle.cells.specs.Parts.{AreParts, schema_in};
-ghost use Rattle.cells.specs.region_basis.BasisOf.{basis_of};
+ghost use Rattle.region_states.specs.region_basis.BasisOf.{basis_of};
 ghost use Rattle.region_states.specs.LoneStates.{HasNoAssociationSets};
 ghost use Rattle.regions.specs.declared.pattern.Focus.TheVariants as focus;
 ghost use Rattle.regions.specs.Basis.{Basis};
@@ -12,9 +12,9 @@ ghost use Rattle.witness_state.specs.Failures.{IsFailureOf};
 use crate::failure::Failure;
 use crate::one_state::{clash_failure, disagreement_failure, null_failure};
 use crate::two_states::{absence_failure, lost_failure, rival_failure};
-use cells::{Parts, parts_are_a_basis};
+use cells::Parts;
 use emc_base::Memory;
-use region_states::Conflict;
+use region_states::{Conflict, parts_are_a_basis};
 use regions::{Focus, Region};
 use std::alloc::Global;
 

@@ -2,7 +2,7 @@ ghost use Rattle.std.specs.Prelude.{◌≡◌, [], IfOk, List};
 ghost use Rattle.cells.specs.Parts.{AreParts, schema_in};
 ghost use Rattle.round_trip.specs.Words.{Column, Pair, Table, key_of, place_at};
 ghost use Rattle.round_trip.specs.FailsAt.{HasColumn};
-ghost use Rattle.round_trip.specs.soundness.Owners.{SetWrites};
+ghost use Rattle.round_trip.specs.soundness.mappings.Owners.{SetWrites};
 ghost use Rattle.witness_state.specs.CellPlaces.{IsCellPlace};
 
 use cells::Parts;

@@ -6,13 +6,12 @@ use Rattle.std.proofs.lemmas.List.Elements.{All-nil}
 use Rattle.std.proofs.lemmas.List.Sorted.{IsPermutation-refl, Contains-permutation}
 use Rattle.round_trip.specs.Words.{Null, Whole, Entity, Row, State, Tables, rows_in, Selects, IsLegal, Writing, Writes, TablesAre}
 use Rattle.worked_examples.specs.Ids.{set_id, table_id}
-use Rattle.worked_examples.specs.LevelLost.{items, item_model, items_set, item, only_items}
-use Rattle.worked_examples.specs.LevelLost.{level_is, of_level, level_one_table, level_two_table, LevelIsLost}
-use Rattle.worked_examples.proofs.Small.{PairsByRecursion}
-use Rattle.worked_examples.proofs.Values.{whole_fits}
-use Rattle.worked_examples.proofs.Entities.{MayStand, two_values_stand, HaveOwnKeys}
-use Rattle.worked_examples.proofs.Writings.{each_writing, no_row}
-use Rattle.worked_examples.proofs.States.{legal_set_alone, stored_by_tables}
+use Rattle.worked_examples.specs.LevelLost.{items, item_model, items_set, item, only_items, level_is, of_level, level_one_table, level_two_table, LevelIsLost}
+use Rattle.worked_examples.proofs.facts.Small.{PairsByRecursion}
+use Rattle.worked_examples.proofs.facts.Values.{whole_fits}
+use Rattle.worked_examples.proofs.facts.Entities.{MayStand, two_values_stand, HaveOwnKeys}
+use Rattle.worked_examples.proofs.facts.Writings.{each_writing, no_row}
+use Rattle.worked_examples.proofs.facts.States.{legal_set_alone, stored_by_tables}
 
 abbrev third : Entity
 third = item (pos 1) (pos 3)

@@ -6,14 +6,14 @@ use Rattle.std.proofs.lemmas.List.Elements.{All-nil}
 use Rattle.round_trip.specs.Words.{TableId, Value, Whole, Entity, Row, cell_of, MetByEntity, Selects, Writing, Writes, WritesRow}
 use Rattle.worked_examples.specs.Ids.{type_id, table_id, just, row_of}
 use Rattle.worked_examples.specs.Seats.{seats, seats_model, seats_set, seats_store, seats_table, all_seats, seat, seat_row, two_seats, seat_rows, SeatsAreLegal, SeatsAreKeyed, SeatsAreStored, SeatRowsAreLegal, SeatRowsSatisfy}
-use Rattle.worked_examples.proofs.Small.{PairsByRecursion}
-use Rattle.worked_examples.proofs.Values.{whole_fits}
-use Rattle.worked_examples.proofs.Entities.{MayStand, two_values_stand}
-use Rattle.worked_examples.proofs.Writings.{entity_writing, each_writing, each_given}
-use Rattle.worked_examples.proofs.States.{legal_set_alone}
-use Rattle.worked_examples.proofs.LegalRows.{FitsTable, HaveOwnRowKeys, legal_rows, legal_tables}
-use Rattle.worked_examples.proofs.KeyedRows.{IsInItsRow, IsDemandedRow, HasItsRow, all_rows_stored}
-use Rattle.worked_examples.proofs.Agreement.{meets_none, Agrees, agrees, satisfied_by_parts}
+use Rattle.worked_examples.proofs.facts.Small.{PairsByRecursion}
+use Rattle.worked_examples.proofs.facts.Values.{whole_fits}
+use Rattle.worked_examples.proofs.facts.Entities.{MayStand, two_values_stand}
+use Rattle.worked_examples.proofs.facts.Writings.{entity_writing, each_writing, each_given}
+use Rattle.worked_examples.proofs.facts.States.{legal_set_alone}
+use Rattle.worked_examples.proofs.facts.LegalRows.{FitsTable, HaveOwnRowKeys, legal_rows, legal_tables}
+use Rattle.worked_examples.proofs.facts.KeyedRows.{IsInItsRow, IsDemandedRow, HasItsRow, all_rows_stored}
+use Rattle.worked_examples.proofs.facts.Agreement.{meets_none, Agrees, agrees, satisfied_by_parts}
 
 -- a seat of row 1, what it writes, and its row
 abbrev numbered : ℕ → Entity

@@ -6,7 +6,7 @@ use Rattle.edm_types.specs.declared.mapping.CondOn.TheVariants as on
 use Rattle.edm_types.specs.declared.mapping.Test.TheVariants.{Equals}
 use Rattle.round_trip.specs.declared.FailKind.TheVariants as kinds
 use Rattle.worked_examples.specs.Ids.{type_id, set_id, prop_id, table_id, col_id, needed, needed_column, set_of, pair_of, just, entity_of, leaf, concrete_type, model_of}
-use Rattle.worked_examples.specs.People.{id_prop}
+use Rattle.worked_examples.specs.people.People.{id_prop}
 
 abbrev pub level_prop : Prop
 level_prop = needed (type_id 0) (codes "Level") kind.Int32

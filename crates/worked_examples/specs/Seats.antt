@@ -3,7 +3,7 @@ use Rattle.std.specs.Prelude.{ℤ, pos, [], ◌∷◌, None, codes}
 use Rattle.round_trip.specs.Words.{Whole, EntityModel, EntityType, Prop, EntitySet, StoreModel, Table, Fragment, Schema, Entity, Row, State, Tables, IsLegal, AreLegalTables, DemandsRow, TablesAre, Satisfies}
 use Rattle.emc_base.specs.declared.value.Kind.TheVariants as kind
 use Rattle.worked_examples.specs.Ids.{type_id, prop_id, table_id, col_id, needed, needed_column, set_of, pair_of, entity_of, row_of, leaf, concrete_type, model_of}
-use Rattle.worked_examples.specs.People.{people_fragment, only_people, only_rows}
+use Rattle.worked_examples.specs.people.People.{people_fragment, only_people, only_rows}
 
 abbrev pub row_prop : Prop
 row_prop = needed (type_id 0) (codes "Row") kind.Int32

@@ -3,32 +3,32 @@
 
 mod sound_examples;
 
-ghost use Rattle.worked_examples.specs.BossLost.{BossIsLost};
-ghost use Rattle.worked_examples.specs.ByKind.{
+ghost use Rattle.worked_examples.specs.bosses.BossLost.{BossIsLost};
+ghost use Rattle.worked_examples.specs.staff.ByKind.{
   OneOfEachIsLegal,
   OneOfEachIsStored,
   ToldRowsAreLegal,
   ToldRowsSatisfy,
 };
-ghost use Rattle.worked_examples.specs.JoinedBosses.{
+ghost use Rattle.worked_examples.specs.bosses.JoinedBosses.{
   JoinedIsLegal,
   JoinedIsStored,
   JoinedTablesAreLegal,
   JoinedTablesSatisfy,
 };
 ghost use Rattle.worked_examples.specs.LevelLost.{LevelIsLost};
-ghost use Rattle.worked_examples.specs.LinkHidden.{BossIsHidden};
-ghost use Rattle.worked_examples.specs.LongName.{LongNameIsTold};
-ghost use Rattle.worked_examples.specs.NameShown.{NullNameIsHidden};
-ghost use Rattle.worked_examples.specs.NameUnwritten.{NameIsLost};
-ghost use Rattle.worked_examples.specs.NeededBoss.{EachOthersBossIsLegal, MissingBossIsNot};
-ghost use Rattle.worked_examples.specs.NoBoss.{
+ghost use Rattle.worked_examples.specs.bosses.LinkHidden.{BossIsHidden};
+ghost use Rattle.worked_examples.specs.people.LongName.{LongNameIsTold};
+ghost use Rattle.worked_examples.specs.people.NameShown.{NullNameIsHidden};
+ghost use Rattle.worked_examples.specs.people.NameUnwritten.{NameIsLost};
+ghost use Rattle.worked_examples.specs.bosses.NeededBoss.{EachOthersBossIsLegal, MissingBossIsNot};
+ghost use Rattle.worked_examples.specs.bosses.NoBoss.{
   BosslessIsStored,
   BosslessRowSatisfies,
   NoBossIsDemanded,
   OnlyBosslessIsShown,
 };
-ghost use Rattle.worked_examples.specs.Notes.{
+ghost use Rattle.worked_examples.specs.people.Notes.{
   AskedColumnIsNot,
   NoteIsErased,
   NoteIsFree,
@@ -36,14 +36,14 @@ ghost use Rattle.worked_examples.specs.Notes.{
   UnwrittenTableHasNone,
   WrittenColumnsAreNot,
 };
-ghost use Rattle.worked_examples.specs.OneBoss.{
+ghost use Rattle.worked_examples.specs.bosses.OneBoss.{
   CrewIsLegal,
   CrewIsStored,
   CrewTablesAreLegal,
   CrewTablesSatisfy,
 };
-ghost use Rattle.worked_examples.specs.Owners.{OwnerDangles};
-ghost use Rattle.worked_examples.specs.People.{
+ghost use Rattle.worked_examples.specs.staff.Owners.{OwnerDangles};
+ghost use Rattle.worked_examples.specs.people.People.{
   NoNameIsLegal,
   OnePersonIsLegal,
   OneRowIsDemanded,
@@ -52,7 +52,7 @@ ghost use Rattle.worked_examples.specs.People.{
   TwentyCharactersAreLegal,
   TwentyOneCharactersAreNot,
 };
-ghost use Rattle.worked_examples.specs.Salary.{SalaryIsLeftNull};
+ghost use Rattle.worked_examples.specs.staff.Salary.{SalaryIsLeftNull};
 ghost use Rattle.worked_examples.specs.Seats.{
   SeatRowsAreLegal,
   SeatRowsSatisfy,
@@ -60,8 +60,8 @@ ghost use Rattle.worked_examples.specs.Seats.{
   SeatsAreLegal,
   SeatsAreStored,
 };
-ghost use Rattle.worked_examples.specs.TwoBosses.{TwoBossesClash};
-ghost use Rattle.worked_examples.specs.TypeLost.{TypeIsLost};
+ghost use Rattle.worked_examples.specs.bosses.TwoBosses.{TwoBossesClash};
+ghost use Rattle.worked_examples.specs.staff.TypeLost.{TypeIsLost};
 
 pub use sound_examples::{
     bosses_are_sound, broken_mappings_are_not_sound, broken_models_are_not_sound,

@@ -2,8 +2,8 @@
 
 ghost use Rattle.emc_base.specs.declared.value.Kind.TheVariants as kind;
 ghost use Rattle.round_trip.specs.soundness.Kinds.{Corresponds, IsSoundKind};
-ghost use Rattle.round_trip.specs.soundness.Mappings.{IsSoundSchema};
-ghost use Rattle.round_trip.specs.soundness.Models.{IsSoundModel};
+ghost use Rattle.round_trip.specs.soundness.mappings.Mappings.{IsSoundSchema};
+ghost use Rattle.round_trip.specs.soundness.models.Models.{IsSoundModel};
 ghost use Rattle.round_trip.specs.soundness.Stores.{IsSoundStore};
 ghost use Rattle.round_trip.specs.Words.{Mult};
 ghost use Rattle.worked_examples.specs.sound_examples.BrokenMappings as mappings;
@@ -19,14 +19,14 @@ ghost use Rattle.worked_examples.specs.sound_examples.Kinds.{
 };
 ghost use Rattle.worked_examples.specs.sound_examples.Lines.{lines_model};
 ghost use Rattle.worked_examples.specs.sound_examples.Seats.{swapped};
-ghost use Rattle.worked_examples.specs.Bosses.{bossed, bossed_model, bossed_store};
-ghost use Rattle.worked_examples.specs.ByKind.{optional_salaries, told_staff};
-ghost use Rattle.worked_examples.specs.JoinedBosses.{joined, joined_store};
+ghost use Rattle.worked_examples.specs.bosses.Bosses.{bossed, bossed_model, bossed_store};
+ghost use Rattle.worked_examples.specs.staff.ByKind.{optional_salaries, told_staff};
+ghost use Rattle.worked_examples.specs.bosses.JoinedBosses.{joined, joined_store};
 ghost use Rattle.worked_examples.specs.LevelLost.{items};
-ghost use Rattle.worked_examples.specs.Owners.{shop, shop_model, shop_store};
-ghost use Rattle.worked_examples.specs.People.{people, people_model, people_store};
+ghost use Rattle.worked_examples.specs.staff.Owners.{shop, shop_model, shop_store};
+ghost use Rattle.worked_examples.specs.people.People.{people, people_model, people_store};
 ghost use Rattle.worked_examples.specs.Seats.{seats};
-ghost use Rattle.worked_examples.specs.Salary.{staff_model, staff_store};
+ghost use Rattle.worked_examples.specs.staff.Salary.{staff_model, staff_store};
 
 /// People with an id and a name.
 pub fn people_are_sound()

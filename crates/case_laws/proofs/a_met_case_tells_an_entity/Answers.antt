@@ -1,5 +1,5 @@
-use Rattle.case_laws.proofs.ReadBack.{alone_by_keys, read_back}
-use Rattle.case_laws.proofs.Telling.{some_told}
+use Rattle.case_laws.proofs.reading.ReadBack.{alone_by_keys, read_back}
+use Rattle.case_laws.proofs.reading.Telling.{some_told}
 use Rattle.case_laws.proofs.a_met_case_tells_an_entity.Goals as goal
 
 pub returns-clause-told : goal.returns-clause-told

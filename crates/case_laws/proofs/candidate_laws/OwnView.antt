@@ -6,8 +6,8 @@ use Rattle.emc_base.proofs.Mapped.{contains_at, contains_map}
 use Rattle.emc_base.proofs.Numbered.{map_contains}
 use Rattle.round_trip.specs.Words.{SetId, TableId, ColId, Entity, EntitySet, At, IsLegal, RoundTrips, State, Tables, Value, entities_in, key_of, key_props, value_of}
 use Rattle.cells.specs.Limits.{IsWithinLimits}
-use Rattle.schema_laws.proofs.state_demand.Lists.{none_in_nil}
-use Rattle.conflict_laws.proofs.same.Legal.{key_parts}
+use Rattle.schema_laws.proofs.state_demand.lists.Lists.{none_in_nil}
+use Rattle.conflict_laws.proofs.same.states.Legal.{key_parts}
 use Rattle.regions.specs.declared.region.Region.{Region}
 use Rattle.regions.specs.Basis.{Basis}
 use Rattle.regions.specs.Regions.{regions_of}
@@ -16,7 +16,7 @@ use Rattle.region_states.specs.focus.Held.{IsOfRegion}
 use Rattle.region_states.proofs.focus.Flags.{some_region}
 use Rattle.case_laws.specs.filled_rows.Demanded.{IsHeldWith}
 use Rattle.region_states.specs.LoneStates.{HasNoAssociationSets}
-use Rattle.region_states.proofs.Legal.{no_host}
+use Rattle.region_states.proofs.lone.Legal.{no_host}
 use Rattle.case_laws.specs.declared.region_cases.case.Case.{Case}
 use Rattle.case_laws.specs.region_cases.Cases.{case_of, cases_of}
 use Rattle.case_laws.specs.region_cases.Meets.{IsEntityOf, MeetsCase}
@@ -25,8 +25,8 @@ use Rattle.case_laws.specs.candidates.Viewed.{IsViewed, LacksCase}
 use Rattle.case_laws.specs.Reading.{DecidesFree, HasStateTables}
 use Rattle.case_laws.specs.Told.{AreTold}
 use Rattle.case_laws.proofs.Keys.{set_key_is}
-use Rattle.case_laws.proofs.OwnCase.{meets_own, row_there, told_is_own}
-use Rattle.case_laws.proofs.Whole.{key_of_row, set_of_entity}
+use Rattle.case_laws.proofs.own.OwnCase.{meets_own, row_there, told_is_own}
+use Rattle.case_laws.proofs.reading.Whole.{key_of_row, set_of_entity}
 
 module _ (basis : Basis) (is : IsBasis basis) (limits : IsWithinLimits basis.schema) (none : HasNoAssociationSets basis.schema.model) (round : RoundTrips basis.schema)
     (is_free : TableId → ColId → Bool) (decides : DecidesFree basis.schema is_free) (state : State) (legal : IsLegal basis.schema.model state)

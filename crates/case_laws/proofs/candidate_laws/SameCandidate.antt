@@ -8,7 +8,7 @@ use Rattle.cells.specs.Limits.{IsWithinLimits}
 use Rattle.schema_laws.proofs.kept_states.Entities.{past_none}
 use Rattle.schema_laws.proofs.same_states.SameState.{as_legal}
 use Rattle.schema_laws.proofs.same_states.SameTables.{tables_too, turned}
-use Rattle.schema_laws.proofs.state_demand.SameTables.{same_tables}
+use Rattle.schema_laws.proofs.state_demand.tables.SameTables.{same_tables}
 use Rattle.regions.specs.Basis.{Basis}
 use Rattle.regions.specs.region_laws.IsBasis.{IsBasis}
 use Rattle.region_states.specs.LoneStates.{HasNoAssociationSets}

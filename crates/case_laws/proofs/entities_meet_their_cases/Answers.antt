@@ -1,5 +1,5 @@
-use Rattle.case_laws.proofs.Own.{meets}
-use Rattle.case_laws.proofs.OwnTold.{entity_told, links_told}
+use Rattle.case_laws.proofs.own.Own.{meets}
+use Rattle.case_laws.proofs.own.OwnTold.{entity_told, links_told}
 use Rattle.case_laws.proofs.entities_meet_their_cases.Goals as goal
 
 pub returns-clause-meets : goal.returns-clause-meets

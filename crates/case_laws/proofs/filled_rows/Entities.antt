@@ -11,9 +11,9 @@ use Rattle.table_files.specs.declared.tables.TableRow.{TableRow}
 use Rattle.round_trip.specs.soundness.Stores.{IsKeyColumn, IsSoundTable}
 use Rattle.schema_laws.specs.state_demand.Owners.{IsOwned, StandsAt, paired_key}
 use Rattle.schema_laws.specs.state_demand.WellWritten.{cols_of}
-use Rattle.schema_laws.proofs.state_demand.Fitting.{key_is}
-use Rattle.schema_laws.proofs.state_demand.Lists.{any_of}
-use Rattle.schema_laws.proofs.state_demand.Places.{map_agree}
+use Rattle.schema_laws.proofs.state_demand.writings.Fitting.{key_is}
+use Rattle.schema_laws.proofs.state_demand.lists.Lists.{any_of}
+use Rattle.schema_laws.proofs.state_demand.lists.Places.{map_agree}
 use Rattle.regions.specs.declared.region.Region.{Region}
 use Rattle.regions.specs.declared.pattern.Focus.TheVariants as focus
 use Rattle.regions.specs.declared.pattern.PatternRow.{PatternRow}

@@ -7,10 +7,10 @@ use Rattle.std.proofs.lemmas.Option.{slice_get-map}
 use Rattle.emc_base.proofs.Lists.{at_once}
 use Rattle.round_trip.specs.Words.{TableId, ColId, At, Column, DemandsCell, DemandsRow, Row, State, Table, Value, Null, cell_of, row_key, written_to}
 use Rattle.round_trip.specs.TablesAre.{HasDemandedCells, HasNoClash}
-use Rattle.schema_laws.proofs.state_demand.Fitting.{key_written}
-use Rattle.schema_laws.proofs.state_demand.Lists.{head_stands, none_in_nil, same_by_key}
-use Rattle.schema_laws.proofs.state_demand.Places.{map_agree}
-use Rattle.schema_laws.proofs.state_demand.Tables.{key_demanded}
+use Rattle.schema_laws.proofs.state_demand.writings.Fitting.{key_written}
+use Rattle.schema_laws.proofs.state_demand.lists.Lists.{head_stands, none_in_nil, same_by_key}
+use Rattle.schema_laws.proofs.state_demand.lists.Places.{map_agree}
+use Rattle.schema_laws.proofs.state_demand.tables.Tables.{key_demanded}
 use Rattle.schema_laws.proofs.sound_demand.Fitting.{well_written}
 use Rattle.regions.specs.declared.pattern.Focus.{Focus}
 use Rattle.regions.specs.declared.pattern.PatternRow.{PatternRow}
@@ -18,7 +18,7 @@ use Rattle.regions.specs.declared.pattern.Symbol.{Symbol}
 use Rattle.regions.specs.Basis.{Basis}
 use Rattle.regions.specs.Patterns.{Valuation, cell_symbols, pattern_of, pattern_row, value_under, writings_of}
 use Rattle.regions.specs.region_laws.IsBasis.{IsBasis}
-use Rattle.regions.proofs.region_laws.Rows.{row_cells, rows_only, rows_order}
+use Rattle.regions.proofs.region_laws.writings.Rows.{row_cells, rows_only, rows_order}
 use Rattle.regions.specs.region_laws.pattern.Described.{row_for, value_in}
 use Rattle.regions.specs.region_laws.pattern.Listed.{HasCell}
 use Rattle.region_states.specs.focus.Held.{ListsValue}

@@ -9,18 +9,18 @@ use Rattle.round_trip.specs.TablesAre.{HasNoClash}
 use Rattle.table_files.specs.declared.tables.TableRow.{TableRow}
 use Rattle.schema_laws.specs.state_demand.Owners.{HasOwner, IsJoinedTo}
 use Rattle.schema_laws.specs.state_demand.Writings.{link_writing}
-use Rattle.schema_laws.proofs.state_demand.Decisions.{so_or_not}
-use Rattle.schema_laws.proofs.state_demand.Lists.{any_or_none}
+use Rattle.schema_laws.proofs.state_demand.writings.Decisions.{so_or_not}
+use Rattle.schema_laws.proofs.state_demand.lists.Lists.{any_or_none}
 use Rattle.schema_laws.proofs.sound_demand.Fitting.{link_ids}
-use Rattle.schema_laws.proofs.sound_demand.OneOwner.{owned_or_joined}
-use Rattle.schema_laws.proofs.sound_demand.Owned.{has_owner}
+use Rattle.schema_laws.proofs.sound_demand.owners.OneOwner.{owned_or_joined}
+use Rattle.schema_laws.proofs.sound_demand.owners.Owned.{has_owner}
 use Rattle.regions.specs.declared.pattern.Focus.TheVariants as focus
 use Rattle.regions.specs.declared.pattern.PatternRow.{PatternRow}
 use Rattle.regions.specs.Basis.{Basis}
 use Rattle.regions.specs.Patterns.{Valuation, by_link, pattern_of}
 use Rattle.regions.specs.region_laws.IsBasis.{IsBasis}
 use Rattle.regions.specs.region_laws.pattern.Described.{row_for}
-use Rattle.regions.proofs.region_laws.pattern.Hosting.{one_link}
+use Rattle.regions.proofs.region_laws.pattern.symbols.Hosting.{one_link}
 use Rattle.region_states.specs.focus.Held.{IsAtLinkRow}
 use Rattle.region_states.proofs.focus.Demanded.{link_cells, link_rows as link_row_there}
 use Rattle.region_states.proofs.focus.Listed.{row_joined}

@@ -8,17 +8,17 @@ use Rattle.round_trip.specs.Words.{SetId, AssocId, TableId, Assoc, At, DemandsRo
 use Rattle.table_files.specs.declared.tables.TableRow.{TableRow}
 use Rattle.schema_laws.specs.state_demand.Owners.{IsJoinedTo, IsOwned, StandsAt}
 use Rattle.schema_laws.specs.state_demand.Writings.{link_writing}
-use Rattle.schema_laws.proofs.state_demand.Lists.{any_of}
-use Rattle.schema_laws.proofs.state_demand.Owners.{link_is}
+use Rattle.schema_laws.proofs.state_demand.lists.Lists.{any_of}
+use Rattle.schema_laws.proofs.state_demand.owners.Owners.{link_is}
 use Rattle.schema_laws.proofs.sound_demand.Local.{is_local, is_local_to_links}
-use Rattle.schema_laws.proofs.sound_demand.OneOwner.{one_joined, one_owner, owned_or_joined}
+use Rattle.schema_laws.proofs.sound_demand.owners.OneOwner.{one_joined, one_owner, owned_or_joined}
 use Rattle.regions.specs.declared.pattern.Focus.TheVariants as focus
 use Rattle.regions.specs.declared.pattern.PatternRow.{PatternRow}
 use Rattle.regions.specs.Basis.{Basis}
 use Rattle.regions.specs.Patterns.{Valuation, by_entity, pattern_of, writings_of}
-use Rattle.regions.proofs.region_laws.Apart.{numbers_rise}
-use Rattle.regions.proofs.region_laws.Choices.{pairs_nil}
-use Rattle.regions.proofs.region_laws.Rows.{rows_order}
+use Rattle.regions.proofs.region_laws.listing.Apart.{numbers_rise}
+use Rattle.regions.proofs.region_laws.lists.Choices.{pairs_nil}
+use Rattle.regions.proofs.region_laws.writings.Rows.{rows_order}
 use Rattle.regions.specs.region_laws.pattern.Allowed.{partner_parts}
 use Rattle.case_laws.specs.filled_rows.Filled.{table_row}
 use Rattle.case_laws.proofs.filled_rows.Entities.{IsEntityRow}

@@ -3,8 +3,8 @@ use Rattle.std.proofs.Common.{List, [], ◌∷◌, ◌++◌, flat_map, get_or, A
 use Rattle.std.proofs.lemmas.List.Elements.{All-append, All-contains, Contains-get_or}
 use Rattle.std.proofs.lemmas.List.Kept.{AllPairs-cons}
 use Rattle.emc_base.proofs.Lists.{all_from_members}
-use Rattle.schema_laws.proofs.state_demand.Lists.{head_stands, member_of_flat_map, tail_stands}
-use Rattle.regions.proofs.region_laws.Choices.{pairs_head, pairs_nil, pairs_tail}
+use Rattle.schema_laws.proofs.state_demand.lists.Lists.{head_stands, member_of_flat_map, tail_stands}
+use Rattle.regions.proofs.region_laws.lists.Choices.{pairs_head, pairs_nil, pairs_tail}
 
 module _ {X : Type 0} (R : X → X → Type 0) where
   -- in each of two lists, and between them

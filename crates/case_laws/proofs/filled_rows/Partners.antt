@@ -7,8 +7,8 @@ use Rattle.emc_base.proofs.Mapped.{contains_filter}
 use Rattle.emc_base.proofs.Numbered.{filter_contains}
 use Rattle.round_trip.specs.Words.{SetId, AssocId, PropId, Assoc, End, Entity, Hosted, IsLegal, Link, State, Value, Null, key_of, key_props, links_in, value_beside}
 use Rattle.schema_laws.specs.state_demand.Selecting.{same_key}
-use Rattle.schema_laws.proofs.state_demand.Lists.{head_stands}
-use Rattle.schema_laws.proofs.state_demand.Selecting.{Decides-key}
+use Rattle.schema_laws.proofs.state_demand.lists.Lists.{head_stands}
+use Rattle.schema_laws.proofs.state_demand.writings.Selecting.{Decides-key}
 use Rattle.regions.specs.declared.region.Region.{Region}
 use Rattle.regions.specs.Basis.{Basis, Host, IsHostedLink, host_key, partner_end, partner_key}
 use Rattle.regions.specs.region_laws.IsBasis.{IsBasis}
@@ -16,7 +16,7 @@ use Rattle.regions.specs.region_laws.Partners.{HasFewPartners, TellsPartner}
 use Rattle.regions.specs.region_laws.RegionAt.{links_at}
 use Rattle.regions.specs.region_laws.pattern.Allowed.{end_at, partner_parts}
 use Rattle.regions.proofs.region_laws.pattern.Choices.{found_passes, none_passes}
-use Rattle.regions.proofs.region_laws.pattern.Hosting.{one_host}
+use Rattle.regions.proofs.region_laws.pattern.symbols.Hosting.{one_host}
 use Rattle.region_states.specs.focus.Held.{IsHeldAt, IsOfRegion}
 use Rattle.region_states.proofs.focus.Flags.{flagged_one, unflagged}
 use Rattle.case_laws.specs.filled_rows.Demanded.{IsHeldWith}

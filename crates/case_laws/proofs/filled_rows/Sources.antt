@@ -11,13 +11,13 @@ use Rattle.round_trip.specs.Words.{SetId, AssocId, TableId, Assoc, At, DemandsRo
 use Rattle.round_trip.specs.TablesAre.{HasNoClash}
 use Rattle.table_files.specs.declared.tables.TableRow.{TableRow}
 use Rattle.schema_laws.specs.state_demand.Owners.{IsJoinedTo}
-use Rattle.schema_laws.proofs.state_demand.Lists.{contains_flat_map, head_stands, member_of_flat_map, none_in_nil, of_any}
+use Rattle.schema_laws.proofs.state_demand.lists.Lists.{contains_flat_map, head_stands, member_of_flat_map, none_in_nil, of_any}
 use Rattle.regions.specs.declared.region.Region.{Region}
 use Rattle.regions.specs.Basis.{Basis}
 use Rattle.regions.specs.region_laws.IsBasis.{AreHostedLinks, IsBasis}
 use Rattle.regions.specs.region_laws.Partners.{HasFewPartners}
 use Rattle.regions.specs.region_laws.RegionAt.{region_at}
-use Rattle.regions.proofs.region_laws.Regions.{region_among, region_holds}
+use Rattle.regions.proofs.region_laws.entities.Regions.{region_among, region_holds}
 use Rattle.region_states.specs.focus.Held.{IsAtLinkRow, IsAtRow}
 use Rattle.region_states.proofs.focus.Demanded.{row_of_one}
 use Rattle.case_laws.specs.filled_rows.Demanded.{IsHeldWith}

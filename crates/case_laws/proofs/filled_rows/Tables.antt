@@ -12,7 +12,7 @@ use Rattle.emc_base.proofs.Numbered.{all_pairs_map, filter_contains, map_contain
 use Rattle.round_trip.specs.Words.{SetId, AssocId, TableId, AreTables, At, DemandsRow, Entity, Hosted, Link, Row, State, Table, Tables, TablesAre, Value, row_key, rows_in}
 use Rattle.round_trip.specs.TablesAre.{AreDemandedRows, HasDemandedCells}
 use Rattle.table_files.specs.declared.tables.TableRow.{TableRow}
-use Rattle.schema_laws.proofs.state_demand.Lists.{any_of}
+use Rattle.schema_laws.proofs.state_demand.lists.Lists.{any_of}
 use Rattle.regions.specs.Basis.{Basis}
 use Rattle.case_laws.specs.filled_rows.Gathered.{gathered}
 use Rattle.case_laws.proofs.filled_rows.Filled.{IsFilled}

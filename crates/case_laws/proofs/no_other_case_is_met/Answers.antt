@@ -1,7 +1,7 @@
-use Rattle.case_laws.proofs.OneCase.{one_case, reading}
-use Rattle.case_laws.proofs.OwnCase.{own_case}
-use Rattle.case_laws.proofs.ReadBack.{alone_by_keys}
-use Rattle.case_laws.proofs.RoundTripping.{readable}
+use Rattle.case_laws.proofs.own.OneCase.{one_case, reading}
+use Rattle.case_laws.proofs.own.OwnCase.{own_case}
+use Rattle.case_laws.proofs.reading.ReadBack.{alone_by_keys}
+use Rattle.case_laws.proofs.reading.RoundTripping.{readable}
 use Rattle.case_laws.proofs.no_other_case_is_met.Goals as goal
 
 pub returns-clause-readable : goal.returns-clause-readable

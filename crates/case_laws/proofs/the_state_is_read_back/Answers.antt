@@ -1,5 +1,5 @@
-use Rattle.case_laws.proofs.OwnCase.{row_there, told_is_own}
-use Rattle.case_laws.proofs.Whole.{key_of_row}
+use Rattle.case_laws.proofs.own.OwnCase.{row_there, told_is_own}
+use Rattle.case_laws.proofs.reading.Whole.{key_of_row}
 use Rattle.case_laws.proofs.the_state_is_read_back.Goals as goal
 
 pub returns-clause-keys : goal.returns-clause-keys

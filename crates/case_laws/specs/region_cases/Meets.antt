@@ -2,7 +2,7 @@
 -- Source: the query views of Melnik, Adya and Bernstein, SIGMOD 2007.
 use Rattle.std.specs.Prelude.{◌≡◌, ◌⊎◌, ◌↔◌, List, length, map, All, Any, Contains, Some, None, IsTrue}
 use Rattle.round_trip.specs.Words.{SetId, TableId, ColId, PropId, AssocId, Value, Null, Prop, Assoc, Table, Pair, Schema, Entity, Hosted, Row, At, InDomain, IsWritten, Tables, rows_in, row_key, cell_of, props_of, key_props, value_beside, value_of}
-use Rattle.round_trip.specs.soundness.Joined.{prop}
+use Rattle.round_trip.specs.soundness.mappings.Joined.{prop}
 use Rattle.round_trip.specs.soundness.Lookups.{set_key}
 use Rattle.condition_logic.specs.declared.atoms.Atom.TheVariants as atom
 use Rattle.regions.specs.Atoms.{LiesIn, atom_at}

@@ -10,7 +10,7 @@ use Rattle.emc_base.specs.Lists.{At}
 use Rattle.emc_base.specs.Order.{value_cmp}
 use Rattle.emc_base.proofs.Loops.{take_item}
 use Rattle.round_trip.specs.Words.{AssocId, Hosted, Link, Value}
-use Rattle.schema_laws.proofs.state_demand.Selecting.{Decides-key}
+use Rattle.schema_laws.proofs.state_demand.writings.Selecting.{Decides-key}
 use Rattle.cells.specs.HostedLinks.{host_key, of_key, partner_key}
 use Rattle.cells.specs.host_links.Grouped.{links_at_key}
 

@@ -4,14 +4,14 @@ use Rattle.std.proofs.lemmas.Bool.Decides.{Decides-and, Decides-like, Decides-no
 use Rattle.round_trip.specs.Words.{TableId, ColId, Value, EntityModel}
 use Rattle.condition_logic.specs.declared.atoms.AtomOf.{AtomOf}
 use Rattle.schema_laws.specs.state_demand.Selecting.{same_value}
-use Rattle.schema_laws.proofs.state_demand.Selecting.{Decides-value}
+use Rattle.schema_laws.proofs.state_demand.writings.Selecting.{Decides-value}
 use Rattle.regions.specs.declared.pattern.Symbol.{Symbol}
 use Rattle.regions.specs.declared.pattern.Focus.{Focus}
 use Rattle.regions.specs.Basis.{Basis}
 use Rattle.regions.specs.Patterns.{pattern_of}
 use Rattle.regions.specs.Settled.{Possible, are_one, clashes, multi, possible, single}
 use Rattle.regions.specs.Symbols.{same_symbol}
-use Rattle.regions.proofs.region_laws.Symbols.{Decides-symbol}
+use Rattle.regions.proofs.region_laws.values.Symbols.{Decides-symbol}
 use Rattle.regions.specs.region_laws.pattern.Allowed.{told_of}
 use Rattle.regions.specs.region_laws.pattern.Listed.{Lists}
 use Rattle.region_states.specs.conflicts.Facts.{is_clash, listed_in, lists}

@@ -1,6 +1,6 @@
 -- Where no legal state clashes, no pattern does.
 use Rattle.std.proofs.Common.{◌≡◌, List, Bool, true, false, Contains, IsTrue, refl}
-use Rattle.graphs.proofs.base_chains.Orders.{place_of_member}
+use Rattle.graphs.proofs.base_chains.orders.Orders.{place_of_member}
 use Rattle.emc_base.proofs.Lists.{all_from_members}
 use Rattle.round_trip.specs.Words.{SetId, ColId, State}
 use Rattle.round_trip.specs.declared.FailKind.TheVariants as kind

@@ -7,8 +7,8 @@ use Rattle.std.proofs.lemmas.Option.{slice_get_within}
 use Rattle.emc_base.specs.declared.value.Kind.TheVariants as kind
 use Rattle.emc_base.proofs.Lists.{at_once}
 use Rattle.round_trip.specs.Words.{TableId, ColId, AssocId, PropId, Value, Null, Kind, Assoc, At, key_props}
-use Rattle.round_trip.specs.soundness.Inheritance.{IsKeyProp}
-use Rattle.schema_laws.proofs.state_demand.Lists.{member_cases, none_in_nil}
+use Rattle.round_trip.specs.soundness.models.Inheritance.{IsKeyProp}
+use Rattle.schema_laws.proofs.state_demand.lists.Lists.{member_cases, none_in_nil}
 use Rattle.cells.specs.Limits.{IsWithinLimits}
 use Rattle.regions.specs.declared.region.Region.{Region}
 use Rattle.regions.specs.declared.pattern.Symbol.TheVariants as symbol
@@ -16,20 +16,20 @@ use Rattle.regions.specs.declared.pattern.Focus.TheVariants as focus
 use Rattle.regions.specs.Basis.{Basis, Host}
 use Rattle.regions.specs.Patterns.{pattern_of}
 use Rattle.regions.specs.region_laws.IsBasis.{IsBasis}
-use Rattle.regions.proofs.region_laws.Symbols.{Decides-prop}
+use Rattle.regions.proofs.region_laws.values.Symbols.{Decides-prop}
 use Rattle.regions.specs.region_laws.pattern.Allowed.{end_at}
 use Rattle.regions.specs.region_laws.pattern.Listed.{Lists}
-use Rattle.regions.proofs.region_laws.pattern.Hosting.{assoc_here, end_prop, one_host, the_assoc}
+use Rattle.regions.proofs.region_laws.pattern.symbols.Hosting.{assoc_here, end_prop, one_host, the_assoc}
 use Rattle.regions.proofs.region_laws.pattern.Laws.{listed_from}
-use Rattle.regions.proofs.region_laws.pattern.Standing.{IsEndOf, end_of}
+use Rattle.regions.proofs.region_laws.pattern.symbols.Standing.{IsEndOf, end_of}
 use Rattle.region_states.specs.defaults.Candidates.{letter, number}
 use Rattle.region_states.specs.defaults.Defaults.{default_part, fresh_at, place_in}
 use Rattle.region_states.specs.defaults.Fresh.{IsUse, Use, fresh, partner, partner_key}
-use Rattle.region_states.proofs.defaults.Bounds.{keys_few, place_within}
-use Rattle.region_states.proofs.defaults.Classes.{key_prop}
+use Rattle.region_states.proofs.defaults.indices.Bounds.{keys_few, place_within}
+use Rattle.region_states.proofs.defaults.groups.Classes.{key_prop}
 use Rattle.region_states.proofs.defaults.Defaults.{fresh_is}
 use Rattle.region_states.proofs.defaults.Short.{letter_same, number_same}
-use Rattle.region_states.proofs.defaults.Uses.{one_use}
+use Rattle.region_states.proofs.defaults.indices.Uses.{one_use}
 
 -- a numbered value is a number or a text
 fresh_row : (k : Kind) (i : ℕ) → (fresh k 0 i ≡ number (5 * i + 0 + 7)) ⊎ (fresh k 0 i ≡ letter (5 * i + 0 + 97))

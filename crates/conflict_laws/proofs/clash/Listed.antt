@@ -3,7 +3,7 @@ use Rattle.std.proofs.Common.{◌≡◌, ◌==◌, ◌<◌, ℕ, List, [], find,
 use Rattle.std.specs.Option.{option_map_or}
 use Rattle.std.proofs.lemmas.Bool.Decides.{Decides-eqb, Decides-like}
 use Rattle.round_trip.specs.Words.{TableId, ColId}
-use Rattle.schema_laws.proofs.state_demand.Lists.{Decides-any, any_of, none_in_nil, of_any, same_by_key}
+use Rattle.schema_laws.proofs.state_demand.lists.Lists.{Decides-any, any_of, none_in_nil, of_any, same_by_key}
 use Rattle.regions.specs.declared.pattern.Symbol.{Symbol}
 use Rattle.regions.specs.declared.pattern.PatternRow.{PatternRow}
 use Rattle.regions.specs.declared.pattern.Focus.{Focus}
@@ -11,8 +11,8 @@ use Rattle.regions.specs.Basis.{Basis}
 use Rattle.regions.specs.Patterns.{pattern_of, writings_of}
 use Rattle.regions.specs.Shown.{cell_in}
 use Rattle.regions.specs.Symbols.{same_symbol}
-use Rattle.regions.proofs.region_laws.Rows.{rows_order}
-use Rattle.regions.proofs.region_laws.Symbols.{Decides-symbol}
+use Rattle.regions.proofs.region_laws.writings.Rows.{rows_order}
+use Rattle.regions.proofs.region_laws.values.Symbols.{Decides-symbol}
 use Rattle.regions.specs.region_laws.pattern.Listed.{HasCell, Lists}
 use Rattle.regions.proofs.region_laws.pattern.Choices.{found_passes}
 use Rattle.region_states.specs.conflicts.Facts.{listed_in, lists}

@@ -3,8 +3,8 @@ use Rattle.std.proofs.Common.{◌≡◌, ◌≢◌, ⊎_elim, List, [], ◌∷�
 use Rattle.std.specs.Option.{option_map_or}
 use Rattle.emc_base.proofs.Numbered.{map_contains}
 use Rattle.round_trip.specs.Words.{SetId, TableId, ColId, PropId, Pair, Prop, key_columns}
-use Rattle.schema_laws.proofs.state_demand.Decisions.{value_or_not}
-use Rattle.schema_laws.proofs.state_demand.Lists.{head_stands, member_cases, none_in_nil, tail_stands}
+use Rattle.schema_laws.proofs.state_demand.writings.Decisions.{value_or_not}
+use Rattle.schema_laws.proofs.state_demand.lists.Lists.{head_stands, member_cases, none_in_nil, tail_stands}
 use Rattle.cells.specs.Limits.{IsWithinLimits}
 use Rattle.regions.specs.declared.region.Region.{Region}
 use Rattle.regions.specs.declared.pattern.Symbol.{Symbol}
@@ -18,8 +18,8 @@ use Rattle.regions.specs.region_laws.IsBasis.{IsBasis}
 use Rattle.regions.specs.region_laws.pattern.Listed.{Lists}
 use Rattle.regions.proofs.region_laws.pattern.Keys.{key_cell, owned_here}
 use Rattle.regions.proofs.region_laws.pattern.Laws.{listed_from, part_in_key}
-use Rattle.regions.proofs.region_laws.pattern.Standing.{listed_prop}
-use Rattle.regions.proofs.region_laws.pattern.Types.{declared_above, key_is_part}
+use Rattle.regions.proofs.region_laws.pattern.symbols.Standing.{listed_prop}
+use Rattle.regions.proofs.region_laws.pattern.types.Types.{declared_above, key_is_part}
 use Rattle.region_states.specs.defaults.Admissible.{DifferAt, HasSeveral, IsAdmissible}
 use Rattle.region_states.specs.defaults.Defaults.{alone, changed, default_valuation, one_value, other_value}
 use Rattle.region_states.proofs.defaults.Changes.{differ_at, two_choices}

@@ -5,8 +5,8 @@ use Rattle.std.proofs.lemmas.List.Elements.{All-contains}
 use Rattle.emc_base.proofs.Numbered.{filter_contains}
 use Rattle.round_trip.specs.Words.{SetId, AssocId, PropId, Value, Null, Assoc, Entity, Link, Prop, State, At, HasAllowedNulls, HasProp, HasValuesInDomain, InDomain, IsLegal, entities_in, key_of, key_props, links_in, props_of, value_beside, value_of}
 use Rattle.schema_laws.specs.state_demand.Selecting.{same_key}
-use Rattle.schema_laws.proofs.state_demand.Decisions.{so_or_not}
-use Rattle.schema_laws.proofs.state_demand.Lists.{head_stands, none_in_nil}
+use Rattle.schema_laws.proofs.state_demand.writings.Decisions.{so_or_not}
+use Rattle.schema_laws.proofs.state_demand.lists.Lists.{head_stands, none_in_nil}
 use Rattle.cells.specs.Limits.{IsWithinLimits}
 use Rattle.regions.specs.declared.region.Region.{Region}
 use Rattle.regions.specs.Atoms.{Allows}
@@ -16,12 +16,12 @@ use Rattle.regions.specs.Symbols.{is_linked}
 use Rattle.regions.specs.region_laws.IsBasis.{IsBasis}
 use Rattle.regions.specs.region_laws.Partners.{TellsPartner}
 use Rattle.regions.specs.region_laws.RegionAt.{links_at}
-use Rattle.regions.proofs.region_laws.Symbols.{Decides-assoc}
+use Rattle.regions.proofs.region_laws.values.Symbols.{Decides-assoc}
 use Rattle.regions.specs.region_laws.pattern.Allowed.{HasAllowedParts, IsAllowed, end_at}
-use Rattle.regions.proofs.region_laws.pattern.Allowed.{link_allowed}
-use Rattle.regions.proofs.region_laws.pattern.Hosting.{one_host}
-use Rattle.regions.proofs.region_laws.pattern.Origins.{linked_decided}
-use Rattle.regions.proofs.region_laws.pattern.Regions.{parts_of}
+use Rattle.regions.proofs.region_laws.pattern.values.Allowed.{link_allowed}
+use Rattle.regions.proofs.region_laws.pattern.symbols.Hosting.{one_host}
+use Rattle.regions.proofs.region_laws.pattern.symbols.Origins.{linked_decided}
+use Rattle.regions.proofs.region_laws.pattern.types.Regions.{parts_of}
 use Rattle.region_states.specs.focus.Held.{IsOfRegion}
 use Rattle.region_states.proofs.focus.Flags.{unflagged}
 use Rattle.region_states.specs.defaults.Defaults.{default_part}

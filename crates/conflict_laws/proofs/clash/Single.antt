@@ -3,13 +3,13 @@ use Rattle.std.proofs.Common.{◌≡◌, ⊎_elim, inl, inr, Contains, Option, S
 use Rattle.std.specs.Option.{option_map_or}
 use Rattle.round_trip.specs.Words.{SetId, TableId, ColId, AssocId, PropId, Value, Null, Test, Schema, key_columns}
 use Rattle.edm_types.specs.declared.mapping.Test.TheVariants.{IsNull, Equals}
-use Rattle.round_trip.specs.soundness.Joined.{HostsPartner, Joined, Member, col, prop}
-use Rattle.round_trip.specs.soundness.Joined as joined
+use Rattle.round_trip.specs.soundness.mappings.Joined.{HostsPartner, Joined, Member, col, prop}
+use Rattle.round_trip.specs.soundness.mappings.Joined as joined
 use Rattle.condition_logic.specs.declared.atoms.Atom.{Atom}
 use Rattle.condition_logic.specs.declared.atoms.Atom.TheVariants as atom
 use Rattle.member_groups.specs.Tested.{IsConstant}
 use Rattle.member_groups.proofs.Numbering.{free_member}
-use Rattle.schema_laws.proofs.state_demand.Lists.{none_in_nil}
+use Rattle.schema_laws.proofs.state_demand.lists.Lists.{none_in_nil}
 use Rattle.regions.specs.declared.region.Region.{Region}
 use Rattle.regions.specs.declared.pattern.Symbol.{Symbol}
 use Rattle.regions.specs.declared.pattern.Symbol.TheVariants as symbol
@@ -22,10 +22,10 @@ use Rattle.regions.specs.Settled.{is_nullable, multi, of_atom, possible, single}
 use Rattle.regions.specs.region_laws.IsBasis.{IsBasis}
 use Rattle.regions.specs.region_laws.pattern.Listed.{Lists}
 use Rattle.regions.specs.region_laws.pattern.Plain.{IsPlain}
-use Rattle.regions.proofs.region_laws.pattern.Groups.{is_plain, partner_uncompared}
+use Rattle.regions.proofs.region_laws.pattern.types.Groups.{is_plain, partner_uncompared}
 use Rattle.regions.proofs.region_laws.pattern.Laws.{listed_from, same_group}
-use Rattle.regions.proofs.region_laws.pattern.Origins.{From, GivesSymbol, by_cond, by_end, by_host, by_pair}
-use Rattle.regions.proofs.region_laws.pattern.Standing.{StandsFree, StandsInKey, end_of, end_stands, joined_by, prop_stands}
+use Rattle.regions.proofs.region_laws.pattern.symbols.Origins.{From, GivesSymbol, by_cond, by_end, by_host, by_pair}
+use Rattle.regions.proofs.region_laws.pattern.symbols.Standing.{StandsFree, StandsInKey, end_of, end_stands, joined_by, prop_stands}
 use Rattle.region_states.proofs.defaults.Candidates.{plain_kind}
 use Rattle.region_states.proofs.defaults.Listed.{IsTold, found_told}
 use Rattle.region_states.proofs.defaults.Valued.{atom_tells}

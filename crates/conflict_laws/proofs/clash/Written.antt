@@ -5,15 +5,15 @@ use Rattle.std.proofs.lemmas.List.Elements.{All-contains, Contains-append_left, 
 use Rattle.emc_base.proofs.Lists.{all_from_members}
 use Rattle.emc_base.proofs.Mapped.{contains_filter, contains_map}
 use Rattle.round_trip.specs.Words.{SetId, TypeId, TableId, ColId, AssocId, PropId, Value, Assoc, DemandsCell, Entity, Fragment, Hosted, IsLegal, Link, LinkFragment, Pair, State, Writing, At, IsA, key_of, key_props, links_in, value_beside, value_of}
-use Rattle.round_trip.specs.soundness.Fragments.{WritesEndKey}
+use Rattle.round_trip.specs.soundness.mappings.Fragments.{WritesEndKey}
 use Rattle.schema_laws.specs.state_demand.MadeTables.{given_cells}
 use Rattle.schema_laws.specs.state_demand.Owners.{IsOwned, StandsAt}
 use Rattle.schema_laws.specs.state_demand.Selecting.{same_key}
 use Rattle.schema_laws.specs.state_demand.Writings.{link_writing}
-use Rattle.schema_laws.proofs.state_demand.Given.{gives_cell}
-use Rattle.schema_laws.proofs.state_demand.Lists.{contains_flat_map}
-use Rattle.schema_laws.proofs.state_demand.Owners.{beside_map}
-use Rattle.schema_laws.proofs.state_demand.Selecting.{Decides-key}
+use Rattle.schema_laws.proofs.state_demand.writings.Given.{gives_cell}
+use Rattle.schema_laws.proofs.state_demand.lists.Lists.{contains_flat_map}
+use Rattle.schema_laws.proofs.state_demand.owners.Owners.{beside_map}
+use Rattle.schema_laws.proofs.state_demand.writings.Selecting.{Decides-key}
 use Rattle.schema_laws.proofs.sound_demand.Fitting.{sound_link}
 use Rattle.schema_laws.proofs.sound_demand.Keys.{inherits_keys}
 use Rattle.regions.specs.declared.region.Region.{Region}
@@ -26,14 +26,14 @@ use Rattle.regions.specs.region_laws.Concrete.{AreConcrete, HasSymbol, IsConcret
 use Rattle.regions.specs.region_laws.IsBasis.{IsBasis}
 use Rattle.regions.specs.region_laws.Partners.{TellsPartner}
 use Rattle.regions.specs.region_laws.RegionAt.{links_at}
-use Rattle.regions.proofs.region_laws.Cells.{cells_concrete}
-use Rattle.regions.proofs.region_laws.Concrete.{entity_concrete, link_concrete}
-use Rattle.regions.proofs.region_laws.Listed.{set_is}
-use Rattle.regions.proofs.region_laws.Owned.{row_writings}
-use Rattle.regions.proofs.region_laws.Patterns.{may_host, pairs_at, pairs_beyond}
-use Rattle.regions.proofs.region_laws.Selected.{Decides-selected}
-use Rattle.regions.proofs.region_laws.Symbols.{Decides-assoc}
-use Rattle.regions.proofs.region_laws.pattern.Origins.{linked_decided}
+use Rattle.regions.proofs.region_laws.writings.Cells.{cells_concrete}
+use Rattle.regions.proofs.region_laws.writings.Concrete.{entity_concrete, link_concrete}
+use Rattle.regions.proofs.region_laws.listing.Listed.{set_is}
+use Rattle.regions.proofs.region_laws.writings.Owned.{row_writings}
+use Rattle.regions.proofs.region_laws.writings.Patterns.{may_host, pairs_at, pairs_beyond}
+use Rattle.regions.proofs.region_laws.entities.Selected.{Decides-selected}
+use Rattle.regions.proofs.region_laws.values.Symbols.{Decides-assoc}
+use Rattle.regions.proofs.region_laws.pattern.symbols.Origins.{linked_decided}
 use Rattle.region_states.specs.focus.Held.{ListsValue}
 use Rattle.region_states.proofs.focus.Listed.{has_symbol}
 

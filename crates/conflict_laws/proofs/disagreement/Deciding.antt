@@ -5,11 +5,11 @@ use Rattle.std.specs.Str.{bytes_eq}
 use Rattle.std.proofs.lemmas.Bool.Decides.{Decides-and, Decides-like, Decides-or}
 use Rattle.std.proofs.lemmas.Slice.Eq.{bytes_eq-Decides}
 use Rattle.round_trip.specs.Words.{AssocId, Fragment, LinkFragment}
-use Rattle.schema_laws.proofs.state_demand.Lists.{Decides-any, any_of, of_any}
+use Rattle.schema_laws.proofs.state_demand.lists.Lists.{Decides-any, any_of, of_any}
 use Rattle.regions.specs.declared.region.Region.{Region}
 use Rattle.regions.specs.declared.pattern.Focus.TheVariants as focus
 use Rattle.regions.specs.Basis.{Basis, Host}
-use Rattle.regions.proofs.region_laws.Symbols.{Decides-assoc}
+use Rattle.regions.proofs.region_laws.values.Symbols.{Decides-assoc}
 use Rattle.region_states.specs.conflicts.Facts.{differs_at, differs_at_links, disagrees_at, is_hosted}
 
 -- a test of some item, with the item

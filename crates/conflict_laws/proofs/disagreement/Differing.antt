@@ -3,8 +3,8 @@ use Rattle.std.proofs.Common.{◌≡◌, ◌↔◌, ◌⊎◌, inl, inr, ⊎_eli
 use Rattle.std.proofs.lemmas.List.Elements.{All-contains}
 use Rattle.round_trip.specs.Words.{SetId, TableId, AssocId, PropId, Value, Assoc, DemandsRow, Entity, Fragment, LinkFragment, Pair, Row, Selects, Shows, ShowsLink, State, Table, Tables, At, row_key, rows_in}
 use Rattle.schema_laws.specs.state_demand.Owners.{IsOwned, paired_key}
-use Rattle.schema_laws.proofs.state_demand.Decisions.{link_shown_or_not, shown_or_not, so_or_not}
-use Rattle.schema_laws.proofs.state_demand.Lists.{of_any}
+use Rattle.schema_laws.proofs.state_demand.writings.Decisions.{link_shown_or_not, shown_or_not, so_or_not}
+use Rattle.schema_laws.proofs.state_demand.lists.Lists.{of_any}
 use Rattle.schema_laws.specs.sound_demand.Disagreeing.{IsOneOnly}
 use Rattle.schema_laws.specs.sound_demand.Fragments.{IsHostedFragment, IsOwnedFragment, IsStoredIn}
 use Rattle.schema_laws.specs.sound_demand.ReadBack.{HasLinkOf}
@@ -17,10 +17,10 @@ use Rattle.regions.specs.Patterns.{pattern_of}
 use Rattle.regions.specs.Shown.{shows_link_row, shows_row}
 use Rattle.regions.specs.Symbols.{is_linked, selects_region}
 use Rattle.regions.specs.region_laws.IsBasis.{IsBasis}
-use Rattle.regions.proofs.region_laws.Possible.{linked_hosts}
-use Rattle.regions.proofs.region_laws.Selected.{Decides-selected}
+use Rattle.regions.proofs.region_laws.listing.Possible.{linked_hosts}
+use Rattle.regions.proofs.region_laws.entities.Selected.{Decides-selected}
 use Rattle.regions.specs.region_laws.pattern.Described.{HasNoClashes}
-use Rattle.regions.proofs.region_laws.pattern.Origins.{linked_decided}
+use Rattle.regions.proofs.region_laws.pattern.symbols.Origins.{linked_decided}
 use Rattle.region_states.specs.focus.Agreeing.{IsClearRow, IsRowOfEntity}
 use Rattle.region_states.specs.focus.Held.{HasRow, IsAtRow, IsHeldAt}
 use Rattle.region_states.proofs.focus.Agreeing.{entity_agrees, host_agrees}

@@ -9,7 +9,7 @@ use Rattle.schema_laws.specs.state_demand.Owners.{IsOwned}
 use Rattle.schema_laws.specs.sound_demand.Disagreeing.{keys_in_row}
 use Rattle.schema_laws.specs.sound_demand.Fragments.{IsHostedFragment, IsOwnedFragment, IsStoredIn}
 use Rattle.schema_laws.specs.sound_demand.Made.{tables_for}
-use Rattle.schema_laws.proofs.sound_demand.Disagreeing.{fails_at_entities, tuples_of_hosts}
+use Rattle.schema_laws.proofs.sound_demand.tuples.Disagreeing.{fails_at_entities, tuples_of_hosts}
 use Rattle.schema_laws.proofs.sound_demand.Fitting.{assoc_of}
 use Rattle.schema_laws.proofs.sound_demand.Kept.{clash_shown, tables_there}
 use Rattle.cells.specs.Limits.{IsWithinLimits}
@@ -23,7 +23,7 @@ use Rattle.regions.specs.Shown.{shows_link_row, shows_row}
 use Rattle.regions.specs.Symbols.{is_linked, selects_region}
 use Rattle.regions.specs.region_laws.IsBasis.{IsBasis}
 use Rattle.regions.specs.region_laws.pattern.Described.{HasNoClashes}
-use Rattle.regions.proofs.region_laws.pattern.Regions.{parts_of}
+use Rattle.regions.proofs.region_laws.pattern.types.Regions.{parts_of}
 use Rattle.region_states.specs.focus.Held.{HasRow, IsHeldAt}
 use Rattle.region_states.proofs.focus.Listed.{row_owned}
 use Rattle.region_states.specs.defaults.Admissible.{IsAdmissible}

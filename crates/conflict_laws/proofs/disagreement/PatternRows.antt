@@ -6,7 +6,7 @@ use Rattle.std.proofs.lemmas.Bool.Decides.{Decides-and, Decides-eqb}
 use Rattle.std.proofs.lemmas.List.Elements.{Contains-append_left, Contains-append_right}
 use Rattle.emc_base.proofs.Mapped.{contains_filter, contains_map}
 use Rattle.round_trip.specs.Words.{SetId, TableId, AssocId, Fragment, LinkFragment}
-use Rattle.schema_laws.proofs.state_demand.Lists.{Decides-any, any_of, contains_flat_map, of_any, same_by_key}
+use Rattle.schema_laws.proofs.state_demand.lists.Lists.{Decides-any, any_of, contains_flat_map, of_any, same_by_key}
 use Rattle.regions.specs.declared.region.Region.{Region}
 use Rattle.regions.specs.declared.pattern.PatternRow.{PatternRow}
 use Rattle.regions.specs.declared.pattern.Focus.{Focus}
@@ -15,9 +15,9 @@ use Rattle.regions.specs.Basis.{Basis, Host}
 use Rattle.regions.specs.Patterns.{pattern_of, writings_of}
 use Rattle.regions.specs.Symbols.{SymbolWriting, fragment_writing, fragments_of, host_writings, is_linked, link_fragment_writing, link_fragments_of, region_writings, selects_region}
 use Rattle.regions.specs.region_laws.IsBasis.{IsBasis}
-use Rattle.regions.proofs.region_laws.Cells.{Decides-table, Decides-written}
-use Rattle.regions.proofs.region_laws.Rows.{rows_order}
-use Rattle.regions.proofs.region_laws.Symbols.{Decides-assoc}
+use Rattle.regions.proofs.region_laws.writings.Cells.{Decides-table, Decides-written}
+use Rattle.regions.proofs.region_laws.writings.Rows.{rows_order}
+use Rattle.regions.proofs.region_laws.values.Symbols.{Decides-assoc}
 use Rattle.region_states.specs.focus.Held.{HasRow}
 use Rattle.region_states.proofs.focus.Listed.{has_row}
 

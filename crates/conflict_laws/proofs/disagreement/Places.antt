@@ -6,10 +6,10 @@ use Rattle.emc_base.specs.Lists.{AreApart}
 use Rattle.emc_base.proofs.Lists.{all_from_members}
 use Rattle.emc_base.proofs.Mapped.{contains_map}
 use Rattle.round_trip.specs.Words.{Fragment, LinkFragment, Schema}
-use Rattle.round_trip.specs.soundness.Mappings.{IsSoundSchema}
-use Rattle.schema_laws.proofs.state_demand.Lists.{member_cases, none_in_nil, same_by_key}
-use Rattle.schema_laws.proofs.state_demand.Owners.{pairs_from_map}
-use Rattle.schema_laws.proofs.state_demand.Permutations.{head_apart, rest_apart}
+use Rattle.round_trip.specs.soundness.mappings.Mappings.{IsSoundSchema}
+use Rattle.schema_laws.proofs.state_demand.lists.Lists.{member_cases, none_in_nil, same_by_key}
+use Rattle.schema_laws.proofs.state_demand.owners.Owners.{pairs_from_map}
+use Rattle.schema_laws.proofs.state_demand.lists.Permutations.{head_apart, rest_apart}
 
 module _ {X : Type 0} where
   -- the parts of a list without repeats have none

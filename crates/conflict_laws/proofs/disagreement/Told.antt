@@ -5,14 +5,14 @@ use Rattle.std.proofs.lemmas.Bool.Decides.{Decides-eqb}
 use Rattle.emc_base.proofs.Lists.{item_at}
 use Rattle.round_trip.specs.Words.{SetId, Assoc, Entity, Fragment, IsLegal, IsShownLinkTuple, IsShownTuple, IsWrittenLinkTuple, IsWrittenTuple, LinkFragment, Pair, Place, Row, State, Table, TableId, Tables, Value, At, entities_in, key_of, place_at}
 use Rattle.round_trip.specs.FailsAt.{Disagrees, IsHostedAt, IsInOneOnly, element_of, key_in_tuple, keys_in_tuple}
-use Rattle.round_trip.specs.soundness.Owners.{LinkMaps, Owns}
+use Rattle.round_trip.specs.soundness.mappings.Owners.{LinkMaps, Owns}
 use Rattle.round_trip.specs.declared.FailKind.TheVariants as kind
 use Rattle.schema_laws.specs.state_demand.Owners.{IsOwned}
 use Rattle.schema_laws.specs.sound_demand.Disagreeing.{DisagreesAtEntity, DisagreesAtHost}
 use Rattle.schema_laws.specs.sound_demand.Fragments.{IsHostedFragment, IsOwnedFragment, IsStoredIn}
-use Rattle.schema_laws.proofs.sound_demand.Disagreeing.{tuples_of_entities, tuples_of_hosts}
+use Rattle.schema_laws.proofs.sound_demand.tuples.Disagreeing.{tuples_of_entities, tuples_of_hosts}
 use Rattle.schema_laws.proofs.sound_demand.Fitting.{link_ids, sound_fragment}
-use Rattle.schema_laws.proofs.sound_demand.Owned.{owned}
+use Rattle.schema_laws.proofs.sound_demand.owners.Owned.{owned}
 use Rattle.cells.specs.Limits.{IsWithinLimits}
 use Rattle.regions.specs.declared.region.Region.{Region}
 use Rattle.regions.specs.declared.pattern.Focus.TheVariants as focus
@@ -25,9 +25,9 @@ use Rattle.regions.specs.region_laws.IsBasis.{IsBasis}
 use Rattle.regions.specs.region_laws.Partners.{HasFewPartners, part_by}
 use Rattle.regions.specs.region_laws.pattern.Allowed.{end_at}
 use Rattle.regions.specs.region_laws.pattern.Described.{HasNoClashes}
-use Rattle.regions.proofs.region_laws.pattern.Hosting.{assoc_here, host_set, hosted_side, the_assoc}
-use Rattle.regions.proofs.region_laws.pattern.Origins.{side}
-use Rattle.regions.proofs.region_laws.pattern.Regions.{parts_of}
+use Rattle.regions.proofs.region_laws.pattern.symbols.Hosting.{assoc_here, host_set, hosted_side, the_assoc}
+use Rattle.regions.proofs.region_laws.pattern.symbols.Origins.{side}
+use Rattle.regions.proofs.region_laws.pattern.types.Regions.{parts_of}
 use Rattle.region_states.specs.focus.Agreeing.{IsRowOfEntity}
 use Rattle.region_states.specs.focus.Held.{IsHeldAt}
 use Rattle.region_states.proofs.focus.Flags.{held_at, some_region}

@@ -3,15 +3,15 @@ use Rattle.std.proofs.Common.{◌≡◌, ◌==◌, Decides, refl}
 use Rattle.std.proofs.lemmas.Bool.Decides.{Decides-like}
 use Rattle.round_trip.specs.Words.{ColId, Column, Table, TableId}
 use Rattle.round_trip.specs.FailsAt.{HasColumn}
-use Rattle.schema_laws.proofs.state_demand.Lists.{Decides-any, any_of, of_any}
+use Rattle.schema_laws.proofs.state_demand.lists.Lists.{Decides-any, any_of, of_any}
 use Rattle.regions.specs.declared.pattern.Focus.{Focus}
 use Rattle.regions.specs.declared.pattern.Pattern.{Pattern}
 use Rattle.regions.specs.declared.pattern.PatternRow.{PatternRow}
 use Rattle.regions.specs.Basis.{Basis}
 use Rattle.regions.specs.Patterns.{cell_symbols, pattern_of, pattern_row, writings_of}
 use Rattle.regions.specs.region_laws.IsBasis.{IsBasis}
-use Rattle.regions.proofs.region_laws.Cells.{Decides-table}
-use Rattle.regions.proofs.region_laws.Rows.{row_cells, rows_all}
+use Rattle.regions.proofs.region_laws.writings.Cells.{Decides-table}
+use Rattle.regions.proofs.region_laws.writings.Rows.{row_cells, rows_all}
 use Rattle.regions.specs.region_laws.pattern.Listed.{HasCell}
 use Rattle.region_states.specs.focus.Held.{HasRow}
 use Rattle.region_states.proofs.focus.Listed.{has_row as row_written}

@@ -4,11 +4,11 @@ use Rattle.std.specs.Option.{option_map_or}
 use Rattle.std.proofs.lemmas.Bool.{and_parts, cond_both}
 use Rattle.emc_base.proofs.Lists.{at_once}
 use Rattle.round_trip.specs.Words.{ColId, Null, Prop, PropId, SetId, TableId, Value, At, key_props}
-use Rattle.round_trip.specs.soundness.Inheritance.{IsKeyProp}
+use Rattle.round_trip.specs.soundness.models.Inheritance.{IsKeyProp}
 use Rattle.condition_logic.specs.declared.atoms.Atom.{Atom}
 use Rattle.condition_logic.specs.declared.atoms.Atom.TheVariants as atom
-use Rattle.schema_laws.proofs.state_demand.Lists.{head_stands, none_in_nil}
-use Rattle.schema_laws.proofs.state_demand.Selecting.{Decides-value}
+use Rattle.schema_laws.proofs.state_demand.lists.Lists.{head_stands, none_in_nil}
+use Rattle.schema_laws.proofs.state_demand.writings.Selecting.{Decides-value}
 use Rattle.cells.specs.Limits.{IsWithinLimits}
 use Rattle.regions.specs.declared.region.Region.{Region}
 use Rattle.regions.specs.declared.pattern.Focus.{Focus}
@@ -24,10 +24,10 @@ use Rattle.regions.specs.region_laws.IsBasis.{IsBasis}
 use Rattle.regions.specs.region_laws.pattern.Allowed.{CanBe, told_of}
 use Rattle.regions.specs.region_laws.pattern.Listed.{Lists}
 use Rattle.regions.proofs.region_laws.pattern.Laws.{symbol_possible}
-use Rattle.regions.proofs.region_laws.pattern.Possible.{null_of_nullable}
+use Rattle.regions.proofs.region_laws.pattern.values.Possible.{null_of_nullable}
 use Rattle.region_states.specs.defaults.Defaults.{declared_value, default_valuation, default_value, is_among, place_in, some_value, value_by}
 use Rattle.region_states.specs.defaults.Fresh.{focus_key, fresh}
-use Rattle.region_states.proofs.defaults.Classes.{key_prop}
+use Rattle.region_states.proofs.defaults.groups.Classes.{key_prop}
 use Rattle.region_states.proofs.defaults.Defaults.{Decides-among, default_admissible}
 use Rattle.region_states.specs.conflicts.Facts.{can_be_null, lists, stands_for_null}
 use Rattle.conflict_laws.proofs.clash.Listed.{Decides-lists}

@@ -7,16 +7,16 @@ use Rattle.emc_base.specs.declared.value.Value.TheVariants as value
 use Rattle.emc_base.specs.declared.value.Kind.TheVariants as kind
 use Rattle.round_trip.specs.Words.{SetId, TableId, ColId, PropId, Value, Null, Whole, EntityModel, Prop, Test, InDomain, key_columns}
 use Rattle.edm_types.specs.declared.mapping.Test.TheVariants.{IsNull, Equals}
-use Rattle.round_trip.specs.soundness.Joined.{Joined, col, prop}
-use Rattle.round_trip.specs.soundness.Joined as joined
+use Rattle.round_trip.specs.soundness.mappings.Joined.{Joined, col, prop}
+use Rattle.round_trip.specs.soundness.mappings.Joined as joined
 use Rattle.condition_logic.specs.declared.atoms.Atom.TheVariants as atom
 use Rattle.condition_logic.specs.declared.atoms.AtomOf.{AtomOf}
 use Rattle.member_groups.specs.Tested.{IsMember, IsTested}
 use Rattle.member_groups.proofs.Numbering.{free_member}
 use Rattle.schema_laws.specs.state_demand.Selecting.{same_value}
-use Rattle.schema_laws.proofs.state_demand.Decisions.{value_or_not}
-use Rattle.schema_laws.proofs.state_demand.Lists.{head_stands}
-use Rattle.schema_laws.proofs.state_demand.Selecting.{Decides-value}
+use Rattle.schema_laws.proofs.state_demand.writings.Decisions.{value_or_not}
+use Rattle.schema_laws.proofs.state_demand.lists.Lists.{head_stands}
+use Rattle.schema_laws.proofs.state_demand.writings.Selecting.{Decides-value}
 use Rattle.regions.specs.declared.region.Region.{Region}
 use Rattle.regions.specs.declared.pattern.Symbol.{Symbol}
 use Rattle.regions.specs.declared.pattern.Symbol.TheVariants as symbol
@@ -29,14 +29,14 @@ use Rattle.regions.specs.region_laws.IsBasis.{IsBasis}
 use Rattle.regions.specs.region_laws.pattern.Allowed.{IsAllowed}
 use Rattle.regions.specs.region_laws.pattern.Described.{value_in}
 use Rattle.regions.specs.region_laws.pattern.Listed.{HasCell, IsTelling}
-use Rattle.regions.proofs.region_laws.pattern.Groups.{compared_constant, is_tested, joined_tested, no_key_asked, told_tested}
+use Rattle.regions.proofs.region_laws.pattern.types.Groups.{compared_constant, is_tested, joined_tested, no_key_asked, told_tested}
 use Rattle.regions.proofs.region_laws.pattern.Laws.{listed_from, telling_tested}
-use Rattle.regions.proofs.region_laws.pattern.Origins.{From, GivesSymbol, by_cond, by_end, by_host, by_pair}
-use Rattle.regions.proofs.region_laws.pattern.Regions.{atom_there, lies_in}
-use Rattle.regions.proofs.region_laws.pattern.Standing.{StandsFree, StandsInKey, joined_by, listed_prop, prop_stands}
-use Rattle.regions.proofs.region_laws.pattern.Types.{part_of_type}
+use Rattle.regions.proofs.region_laws.pattern.symbols.Origins.{From, GivesSymbol, by_cond, by_end, by_host, by_pair}
+use Rattle.regions.proofs.region_laws.pattern.types.Regions.{atom_there, lies_in}
+use Rattle.regions.proofs.region_laws.pattern.symbols.Standing.{StandsFree, StandsInKey, joined_by, listed_prop, prop_stands}
+use Rattle.regions.proofs.region_laws.pattern.types.Types.{part_of_type}
 use Rattle.region_states.proofs.defaults.Candidates.{IsPlainKind}
-use Rattle.region_states.proofs.defaults.Classes.{at_class, class_at, class_of, joined_class}
+use Rattle.region_states.proofs.defaults.groups.Classes.{at_class, class_at, class_of, joined_class}
 use Rattle.region_states.proofs.defaults.Listed.{IsTold, found_told, tested_no_key}
 use Rattle.region_states.proofs.defaults.Valued.{Tells, atom_tells}
 use Rattle.region_states.specs.conflicts.SameFacts.{are_compatible}

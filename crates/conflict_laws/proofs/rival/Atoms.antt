@@ -4,8 +4,8 @@ use Rattle.std.specs.Option.{option_map_or}
 use Rattle.emc_base.specs.declared.value.EnumKind.{EnumKind}
 use Rattle.emc_base.specs.declared.value.Kind.TheVariants as kind
 use Rattle.round_trip.specs.Words.{PropId, Value, Null, Kind, EntityModel, Schema}
-use Rattle.round_trip.specs.soundness.Joined.{Joined, Member, prop}
-use Rattle.round_trip.specs.soundness.Joined as joined
+use Rattle.round_trip.specs.soundness.mappings.Joined.{Joined, Member, prop}
+use Rattle.round_trip.specs.soundness.mappings.Joined as joined
 use Rattle.round_trip.specs.soundness.Kinds.{IsEnum}
 use Rattle.condition_logic.specs.declared.atoms.Atom.{Atom}
 use Rattle.condition_logic.specs.declared.atoms.Atom.TheVariants as atom
@@ -17,7 +17,7 @@ use Rattle.regions.specs.Basis.{Basis}
 use Rattle.regions.specs.Settled.{is_nullable, multi, of_atom, possible, single}
 use Rattle.regions.specs.region_laws.IsBasis.{IsBasis}
 use Rattle.region_states.proofs.defaults.Candidates.{IsPlainKind}
-use Rattle.region_states.proofs.defaults.Classes.{class_of}
+use Rattle.region_states.proofs.defaults.groups.Classes.{class_of}
 
 module _ (model : EntityModel) (atoms : List AtomOf) (p : PropId) where
   -- a property that may have several values is told no atom, or the last

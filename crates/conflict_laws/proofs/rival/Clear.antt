@@ -4,9 +4,9 @@ use Rattle.std.proofs.lemmas.List.Elements.{All-contains, All-head}
 use Rattle.emc_base.proofs.Mapped.{contains_at}
 use Rattle.round_trip.specs.Words.{SetId, TableId, ColId, EntityModel, Value, Null}
 use Rattle.condition_logic.specs.declared.atoms.AtomOf.{AtomOf}
-use Rattle.schema_laws.proofs.state_demand.Decisions.{so_or_not}
-use Rattle.schema_laws.proofs.state_demand.Lists.{head_stands, none_in_nil}
-use Rattle.schema_laws.proofs.state_demand.Selecting.{Decides-value}
+use Rattle.schema_laws.proofs.state_demand.writings.Decisions.{so_or_not}
+use Rattle.schema_laws.proofs.state_demand.lists.Lists.{head_stands, none_in_nil}
+use Rattle.schema_laws.proofs.state_demand.writings.Selecting.{Decides-value}
 use Rattle.regions.specs.declared.region.Region.{Region}
 use Rattle.regions.specs.declared.pattern.Symbol.{Symbol}
 use Rattle.regions.specs.declared.pattern.Focus.TheVariants as focus
@@ -16,7 +16,7 @@ use Rattle.regions.specs.Regions.{regions_of}
 use Rattle.regions.specs.Settled.{Possible, Settled, free, has_clash, known, multi, possible, settle, settled_by, single}
 use Rattle.regions.specs.Symbols.{same_symbol}
 use Rattle.regions.specs.region_laws.IsBasis.{IsBasis}
-use Rattle.regions.proofs.region_laws.Symbols.{Decides-symbol}
+use Rattle.regions.proofs.region_laws.values.Symbols.{Decides-symbol}
 use Rattle.regions.specs.region_laws.pattern.Allowed.{IsAllowed}
 use Rattle.regions.specs.region_laws.pattern.Described.{value_in}
 use Rattle.regions.specs.region_laws.pattern.Listed.{HasCell}

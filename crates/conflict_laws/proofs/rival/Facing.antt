@@ -3,15 +3,15 @@ use Rattle.std.proofs.Common.{◌≡◌, ⊎_elim, inl, inr, List, [], ◌∷◌
 use Rattle.std.proofs.lemmas.Bool.{and_parts, cases_Bool}
 use Rattle.emc_base.proofs.Lists.{at_once, only_stands}
 use Rattle.round_trip.specs.Words.{SetId, PropId, TableId, ColId, Value, Null, Kind, EntityModel, Pair, Prop, At, key_props}
-use Rattle.round_trip.specs.soundness.Inheritance.{IsKeyProp}
-use Rattle.round_trip.specs.soundness.Joined.{IsNoKey, Joined, col, prop}
-use Rattle.round_trip.specs.soundness.Joined as joined
+use Rattle.round_trip.specs.soundness.models.Inheritance.{IsKeyProp}
+use Rattle.round_trip.specs.soundness.mappings.Joined.{IsNoKey, Joined, col, prop}
+use Rattle.round_trip.specs.soundness.mappings.Joined as joined
 use Rattle.round_trip.specs.soundness.Kinds.{IsEnum}
 use Rattle.condition_logic.specs.declared.atoms.Atom.TheVariants as atom
 use Rattle.member_groups.specs.Tested.{IsTested}
 use Rattle.schema_laws.specs.state_demand.Owners.{IsOwned}
 use Rattle.schema_laws.specs.state_demand.Selecting.{same_value}
-use Rattle.schema_laws.proofs.state_demand.Selecting.{Decides-value}
+use Rattle.schema_laws.proofs.state_demand.writings.Selecting.{Decides-value}
 use Rattle.cells.specs.Limits.{IsWithinLimits}
 use Rattle.regions.specs.declared.region.Region.{Region}
 use Rattle.regions.specs.declared.pattern.Symbol.{Symbol}
@@ -24,13 +24,13 @@ use Rattle.regions.specs.Settled.{Settled, free, known, multi, possible, settle}
 use Rattle.regions.specs.region_laws.IsBasis.{IsBasis}
 use Rattle.regions.specs.region_laws.pattern.Described.{value_in}
 use Rattle.regions.specs.region_laws.pattern.Listed.{HasCell}
-use Rattle.regions.proofs.region_laws.pattern.Groups.{told_tested}
+use Rattle.regions.proofs.region_laws.pattern.types.Groups.{told_tested}
 use Rattle.regions.proofs.region_laws.pattern.Keys.{key_cell}
 use Rattle.regions.proofs.region_laws.pattern.Laws.{listed_from, untested_once}
-use Rattle.regions.proofs.region_laws.pattern.Possible.{null_of_nullable}
-use Rattle.regions.proofs.region_laws.pattern.Regions.{atom_there}
-use Rattle.regions.proofs.region_laws.pattern.Standing.{StandsFree, listed_prop}
-use Rattle.regions.proofs.region_laws.pattern.Types.{key_is_part, key_prop}
+use Rattle.regions.proofs.region_laws.pattern.values.Possible.{null_of_nullable}
+use Rattle.regions.proofs.region_laws.pattern.types.Regions.{atom_there}
+use Rattle.regions.proofs.region_laws.pattern.symbols.Standing.{StandsFree, listed_prop}
+use Rattle.regions.proofs.region_laws.pattern.types.Types.{key_is_part, key_prop}
 use Rattle.region_states.specs.defaults.Defaults.{changed, default_valuation, default_value}
 use Rattle.region_states.specs.defaults.Admissible.{IsAdmissible}
 use Rattle.region_states.proofs.defaults.Candidates.{IsPlainKind}

@@ -3,7 +3,7 @@ use Rattle.std.proofs.Common.{◌≡◌, ◌++◌, ◌==◌, List, filter, flat_
 use Rattle.std.proofs.lemmas.List.Elements.{Contains-append_left, Contains-append_right}
 use Rattle.emc_base.proofs.Mapped.{contains_filter, contains_map}
 use Rattle.round_trip.specs.Words.{SetId, TableId, ColId, AssocId, PropId, LinkFragment, Pair}
-use Rattle.schema_laws.proofs.state_demand.Lists.{contains_flat_map}
+use Rattle.schema_laws.proofs.state_demand.lists.Lists.{contains_flat_map}
 use Rattle.regions.specs.declared.region.Region.{Region}
 use Rattle.regions.specs.declared.pattern.Symbol.{Symbol}
 use Rattle.regions.specs.declared.pattern.Symbol.TheVariants as symbol
@@ -13,13 +13,13 @@ use Rattle.regions.specs.Patterns.{cell_symbols, pattern_of}
 use Rattle.regions.specs.Regions.{regions_of}
 use Rattle.regions.specs.Symbols.{SymbolWriting, conds_symbols, end_symbols, fragment_writing, fragments_of, host_writings, is_linked, link_fragment_writing, link_fragments_of, region_writings}
 use Rattle.regions.specs.region_laws.IsBasis.{IsBasis}
-use Rattle.regions.proofs.region_laws.Symbols.{Decides-assoc}
+use Rattle.regions.proofs.region_laws.values.Symbols.{Decides-assoc}
 use Rattle.regions.specs.region_laws.pattern.Listed.{HasCell, Lists}
 use Rattle.regions.proofs.region_laws.pattern.Cells.{cell_of as made_cell, written_listed}
 use Rattle.regions.proofs.region_laws.pattern.Laws.{listed_from}
-use Rattle.regions.proofs.region_laws.pattern.Origins.{linked_decided, side}
-use Rattle.regions.proofs.region_laws.pattern.Regions.{parts_of}
-use Rattle.regions.proofs.region_laws.pattern.Standing.{IsEndOf, end_of}
+use Rattle.regions.proofs.region_laws.pattern.symbols.Origins.{linked_decided, side}
+use Rattle.regions.proofs.region_laws.pattern.types.Regions.{parts_of}
+use Rattle.regions.proofs.region_laws.pattern.symbols.Standing.{IsEndOf, end_of}
 
 -- where one end hosts, each pair of the other gives its column an end
 end_given : (hosts first : Bool) (fragment : LinkFragment) (pair : Pair) → first ≡ not hosts → Contains (side first fragment) pair

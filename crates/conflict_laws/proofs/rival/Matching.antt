@@ -3,8 +3,8 @@ use Rattle.std.proofs.Common.{◌≡◌, ⊎_elim, ℕ, zero, suc, ◌<◌, List
 use Rattle.std.proofs.lemmas.Bool.{and_from, and_parts}
 use Rattle.std.proofs.lemmas.List.Elements.{All-contains}
 use Rattle.emc_base.specs.Lists.{At}
-use Rattle.schema_laws.proofs.state_demand.Lists.{head_stands, member_cases, none_in_nil, tail_stands}
-use Rattle.regions.proofs.region_laws.Choices.{pairs_head, pairs_tail}
+use Rattle.schema_laws.proofs.state_demand.lists.Lists.{head_stands, member_cases, none_in_nil, tail_stands}
+use Rattle.regions.proofs.region_laws.lists.Choices.{pairs_head, pairs_tail}
 use Rattle.region_states.specs.conflicts.SameFacts.{match_all}
 
 module _ {X : Type 0} (m : X → X → Bool) where

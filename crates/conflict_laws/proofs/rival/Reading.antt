@@ -6,8 +6,8 @@ use Rattle.std.proofs.lemmas.Bool.Decides.{Decides-and, Decides-like}
 use Rattle.emc_base.proofs.Mapped.{contains_at, contains_enumerated}
 use Rattle.emc_base.proofs.Numbered.{enumerated_at}
 use Rattle.round_trip.specs.Words.{TableId, ColId, PropId, EntityModel, Null}
-use Rattle.schema_laws.proofs.state_demand.Lists.{Decides-any, any_of, of_any}
-use Rattle.schema_laws.proofs.state_demand.Selecting.{Decides-value}
+use Rattle.schema_laws.proofs.state_demand.lists.Lists.{Decides-any, any_of, of_any}
+use Rattle.schema_laws.proofs.state_demand.writings.Selecting.{Decides-value}
 use Rattle.schema_laws.specs.state_demand.Selecting.{same_value}
 use Rattle.regions.specs.declared.region.Region.{Region}
 use Rattle.regions.specs.declared.pattern.Symbol.{Symbol}
@@ -20,8 +20,8 @@ use Rattle.regions.specs.Patterns.{cell_symbols, pattern_of}
 use Rattle.regions.specs.Settled.{Settled, free, known, multi, possible, settle}
 use Rattle.regions.specs.Symbols.{region_writings, same_symbol}
 use Rattle.regions.specs.region_laws.IsBasis.{IsBasis}
-use Rattle.regions.proofs.region_laws.Found.{place_of}
-use Rattle.regions.proofs.region_laws.Symbols.{Decides-symbol}
+use Rattle.regions.proofs.region_laws.lists.Found.{place_of}
+use Rattle.regions.proofs.region_laws.values.Symbols.{Decides-symbol}
 use Rattle.regions.specs.region_laws.pattern.Listed.{HasCell, Lists}
 use Rattle.region_states.specs.conflicts.Facts.{listed_in, lists}
 use Rattle.region_states.specs.conflicts.SameFacts.{are_compatible, lists_anywhere}

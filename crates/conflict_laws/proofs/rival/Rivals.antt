@@ -15,11 +15,11 @@ use Rattle.regions.specs.Basis.{Basis}
 use Rattle.regions.specs.Patterns.{pattern_of}
 use Rattle.regions.specs.Settled.{Possible, multi, possible, single}
 use Rattle.regions.specs.region_laws.IsBasis.{IsBasis}
-use Rattle.regions.proofs.region_laws.Owning.{declared_above}
+use Rattle.regions.proofs.region_laws.entities.Owning.{declared_above}
 use Rattle.regions.specs.region_laws.pattern.Listed.{Lists}
 use Rattle.regions.proofs.region_laws.pattern.Laws.{listed_from}
-use Rattle.regions.proofs.region_laws.pattern.Regions.{key_is, parts_of}
-use Rattle.regions.proofs.region_laws.pattern.Standing.{listed_prop}
+use Rattle.regions.proofs.region_laws.pattern.types.Regions.{key_is, parts_of}
+use Rattle.regions.proofs.region_laws.pattern.symbols.Standing.{listed_prop}
 use Rattle.region_states.specs.defaults.Fresh.{focus_key, fresh}
 use Rattle.region_states.specs.defaults.Defaults.{changed, declared_value, default_valuation, default_value, is_among, place_in, value_by}
 use Rattle.region_states.specs.defaults.Admissible.{AreChoices, HasSeveral, IsAdmissible, IsChoice}

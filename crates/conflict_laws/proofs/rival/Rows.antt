@@ -8,7 +8,7 @@ use Rattle.std.proofs.lemmas.List.{length-map}
 use Rattle.std.proofs.lemmas.List.FromFn.{length-enumerate_from}
 use Rattle.emc_base.proofs.Lists.{at_once}
 use Rattle.round_trip.specs.Words.{TableId, ColId, Column, StoreModel, Table, At}
-use Rattle.schema_laws.proofs.state_demand.Lists.{same_by_key}
+use Rattle.schema_laws.proofs.state_demand.lists.Lists.{same_by_key}
 use Rattle.regions.specs.declared.region.Region.{Region}
 use Rattle.regions.specs.declared.pattern.Symbol.{Symbol}
 use Rattle.regions.specs.declared.pattern.Pattern.{Pattern}
@@ -20,7 +20,7 @@ use Rattle.regions.specs.Settled.{settle}
 use Rattle.regions.specs.Shown.{cell_in}
 use Rattle.regions.specs.Symbols.{SymbolWriting, region_writings}
 use Rattle.regions.specs.region_laws.IsBasis.{IsBasis}
-use Rattle.regions.proofs.region_laws.Rows.{row_cells, rows_all, rows_only, rows_order}
+use Rattle.regions.proofs.region_laws.writings.Rows.{row_cells, rows_all, rows_only, rows_order}
 use Rattle.regions.specs.region_laws.pattern.Listed.{HasCell}
 use Rattle.regions.proofs.region_laws.pattern.Cells.{cell_of as made_cell}
 use Rattle.regions.proofs.region_laws.pattern.Choices.{found_passes, none_passes}

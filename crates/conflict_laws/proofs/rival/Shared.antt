@@ -15,10 +15,10 @@ use Rattle.emc_base.specs.declared.value.Under.{Under}
 use Rattle.emc_base.specs.declared.value.Kind.TheVariants as kind
 use Rattle.emc_base.specs.declared.value.Under.TheVariants as under
 use Rattle.round_trip.specs.Words.{SetId, PropId, TypeId, GroupId, Value, Kind, EntityType, Prop, At, props_of}
-use Rattle.round_trip.specs.soundness.Joined.{IsDependent, prop}
+use Rattle.round_trip.specs.soundness.mappings.Joined.{IsDependent, prop}
 use Rattle.round_trip.specs.soundness.Kinds.{IsEnum, IsKeyKind, under_kind}
 use Rattle.member_groups.specs.Tested.{AreInOneGroup}
-use Rattle.schema_laws.proofs.state_demand.Lists.{of_any}
+use Rattle.schema_laws.proofs.state_demand.lists.Lists.{of_any}
 use Rattle.cells.specs.Limits.{IsSmallModel, IsWithinLimits, most_props}
 use Rattle.regions.specs.declared.region.Region.{Region}
 use Rattle.regions.specs.Basis.{Basis}
@@ -30,12 +30,12 @@ use Rattle.region_states.specs.defaults.Fresh.{first_shared, fresh, most_indices
 use Rattle.region_states.specs.defaults.Defaults.{is_dependent}
 use Rattle.region_states.specs.defaults.Admissible.{HasSeveral, IsChoice}
 use Rattle.region_states.proofs.defaults.Changes.{free_choice, short_choice}
-use Rattle.region_states.proofs.defaults.Classes.{at_class, class_at, class_of, dependent_is, joined_class, joined_key_kind}
-use Rattle.region_states.proofs.defaults.Constants.{dependent_none}
+use Rattle.region_states.proofs.defaults.groups.Classes.{at_class, class_at, class_of, dependent_is, joined_class, joined_key_kind}
+use Rattle.region_states.proofs.defaults.groups.Constants.{dependent_none}
 use Rattle.region_states.proofs.defaults.Defaults.{Decides-dependent, open_two}
-use Rattle.region_states.proofs.defaults.Shared.{first_shared as free_shared}
+use Rattle.region_states.proofs.defaults.groups.Shared.{first_shared as free_shared}
 use Rattle.region_states.proofs.defaults.Short.{fresh_short, fresh_sort, one_scalar}
-use Rattle.region_states.proofs.defaults.Uses.{index_below}
+use Rattle.region_states.proofs.defaults.indices.Uses.{index_below}
 use Rattle.conflict_laws.specs.rival.RivalValues.{group_place, same_group, shared_index, shared_value, tells_other}
 use Rattle.conflict_laws.proofs.rival.Atoms.{open_atom}
 

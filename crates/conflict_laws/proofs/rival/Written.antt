@@ -3,11 +3,11 @@ use Rattle.std.proofs.Common.{◌≡◌, ◌⊎◌, ⊎_elim, inl, inr, ◌==◌
 use Rattle.emc_base.proofs.Lists.{only_member, only_stands}
 use Rattle.emc_base.proofs.Numbered.{map_contains}
 use Rattle.round_trip.specs.Words.{SetId, PropId, TableId, ColId, EntityModel, Pair, Prop}
-use Rattle.round_trip.specs.soundness.Joined.{IsNoKey, Joined, col, prop}
-use Rattle.round_trip.specs.soundness.Joined as joined
+use Rattle.round_trip.specs.soundness.mappings.Joined.{IsNoKey, Joined, col, prop}
+use Rattle.round_trip.specs.soundness.mappings.Joined as joined
 use Rattle.round_trip.specs.soundness.Kinds.{IsEnum}
-use Rattle.schema_laws.proofs.state_demand.Decisions.{so_or_not}
-use Rattle.schema_laws.proofs.state_demand.Selecting.{Decides-value}
+use Rattle.schema_laws.proofs.state_demand.writings.Decisions.{so_or_not}
+use Rattle.schema_laws.proofs.state_demand.writings.Selecting.{Decides-value}
 use Rattle.cells.specs.Limits.{IsWithinLimits}
 use Rattle.regions.specs.declared.region.Region.{Region}
 use Rattle.regions.specs.declared.pattern.Symbol.{Symbol}
@@ -17,15 +17,15 @@ use Rattle.regions.specs.Basis.{Basis}
 use Rattle.regions.specs.Patterns.{Valuation, pattern_of, value_under}
 use Rattle.regions.specs.Settled.{Settled, free, known, multi, possible, settle}
 use Rattle.regions.specs.region_laws.IsBasis.{IsBasis}
-use Rattle.regions.proofs.region_laws.Symbols.{Decides-prop}
+use Rattle.regions.proofs.region_laws.values.Symbols.{Decides-prop}
 use Rattle.regions.specs.region_laws.pattern.Allowed.{IsAllowed}
 use Rattle.regions.specs.region_laws.pattern.Described.{value_in}
 use Rattle.regions.specs.region_laws.pattern.Listed.{HasCell}
 use Rattle.regions.proofs.region_laws.pattern.Keys.{owned_here}
 use Rattle.regions.proofs.region_laws.pattern.Laws.{listed_from, same_group}
-use Rattle.regions.proofs.region_laws.pattern.Origins.{From}
-use Rattle.regions.proofs.region_laws.pattern.Standing.{Stands, StandsFree, StandsInKey, joined_by, listed_prop, prop_stands}
-use Rattle.regions.proofs.region_laws.pattern.Types.{part_of_type}
+use Rattle.regions.proofs.region_laws.pattern.symbols.Origins.{From}
+use Rattle.regions.proofs.region_laws.pattern.symbols.Standing.{Stands, StandsFree, StandsInKey, joined_by, listed_prop, prop_stands}
+use Rattle.regions.proofs.region_laws.pattern.types.Types.{part_of_type}
 use Rattle.region_states.specs.conflicts.SameFacts.{are_compatible}
 use Rattle.conflict_laws.specs.rival.Alike.{AreComparable, AreWrittenAlike, PatternsMatch}
 use Rattle.conflict_laws.specs.rival.RivalValues.{first_values, second_values}

@@ -5,11 +5,11 @@ use Rattle.emc_base.specs.Lists.{AreApart}
 use Rattle.emc_base.proofs.Lists.{same_place}
 use Rattle.emc_base.proofs.Mapped.{contains_at, contains_map}
 use Rattle.round_trip.specs.Words.{AssocId, Assoc, EntityModel, EntitySet, SetId, At}
-use Rattle.round_trip.specs.soundness.Models.{IsSoundModel}
-use Rattle.schema_laws.proofs.state_demand.Lists.{member_cases, none_in_nil}
-use Rattle.schema_laws.proofs.state_demand.Owners.{pairs_from_map}
-use Rattle.schema_laws.proofs.state_demand.Permutations.{head_apart, rest_apart}
-use Rattle.schema_laws.proofs.sound_demand.Pairing.{apart_first}
+use Rattle.round_trip.specs.soundness.models.Models.{IsSoundModel}
+use Rattle.schema_laws.proofs.state_demand.lists.Lists.{member_cases, none_in_nil}
+use Rattle.schema_laws.proofs.state_demand.owners.Owners.{pairs_from_map}
+use Rattle.schema_laws.proofs.state_demand.lists.Permutations.{head_apart, rest_apart}
+use Rattle.schema_laws.proofs.sound_demand.owners.Pairing.{apart_first}
 
 -- nothing stands in both parts of a list without repeats
 apart_between : {X : Type 0} (xs ys : List X) (x : X) → AreApart (xs ++ ys) → Contains xs x → Contains ys x → ⊥

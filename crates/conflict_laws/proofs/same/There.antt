@@ -6,7 +6,7 @@ use Rattle.regions.specs.declared.region.Region.{Region}
 use Rattle.regions.specs.Basis.{Basis}
 use Rattle.regions.specs.Patterns.{Valuation}
 use Rattle.regions.specs.Regions.{regions_of}
-use Rattle.regions.proofs.region_laws.pattern.Regions.{PartsOf, parts_of}
+use Rattle.regions.proofs.region_laws.pattern.types.Regions.{PartsOf, parts_of}
 use Rattle.region_states.specs.conflicts.Conflicts.{IsConflictAt}
 use Rattle.region_states.specs.conflicts.SameFacts.{is_absent, is_lost}
 use Rattle.region_states.specs.conflicts.There.{FailsThere}
@@ -14,10 +14,10 @@ use Rattle.region_states.specs.declared.conflicts.conflict.Conflict.{Conflict}
 use Rattle.region_states.specs.declared.conflicts.conflict.Conflict.TheVariants as conflict
 use Rattle.conflict_laws.specs.same.SameValues.{first_several}
 use Rattle.conflict_laws.specs.same.States.{HasStates}
-use Rattle.conflict_laws.proofs.same.Absent.{several_lost}
-use Rattle.conflict_laws.proofs.same.LeftOut.{absent_fails}
-use Rattle.conflict_laws.proofs.same.Lost.{lost_fails, lost_told}
-use Rattle.conflict_laws.proofs.same.RivalsFail.{rivals_fail}
+use Rattle.conflict_laws.proofs.same.lost.Absent.{several_lost}
+use Rattle.conflict_laws.proofs.same.lost.LeftOut.{absent_fails}
+use Rattle.conflict_laws.proofs.same.lost.Lost.{lost_fails, lost_told}
+use Rattle.conflict_laws.proofs.same.rivals.RivalsFail.{rivals_fail}
 
 module _ (basis : Basis) (state : Region → Valuation → State) (rivals : Region → Valuation → Region → Valuation → State × State)
     (leaving : Region → Valuation → State × State) (has : HasStates basis state rivals leaving) (s : SetId) where

@@ -3,8 +3,8 @@ use Rattle.std.proofs.Common.{◌≡◌, ◌≢◌, ⊎_elim, [], ◌∷◌, Lis
 use Rattle.std.specs.List.{list_any}
 use Rattle.round_trip.specs.Words.{SetId, AssocId, PropId, Entity, EntitySet, State, Tables, Value, At, entities_in, key_of}
 use Rattle.round_trip.specs.declared.FailKind.TheVariants as kind
-use Rattle.schema_laws.proofs.state_demand.Decisions.{key_or_not}
-use Rattle.schema_laws.proofs.state_demand.Lists.{any_or_none, head_stands}
+use Rattle.schema_laws.proofs.state_demand.writings.Decisions.{key_or_not}
+use Rattle.schema_laws.proofs.state_demand.lists.Lists.{any_or_none, head_stands}
 use Rattle.regions.specs.declared.region.Region.{Region}
 use Rattle.regions.specs.declared.pattern.Focus.TheVariants as focus
 use Rattle.regions.specs.declared.pattern.PatternRow.{PatternRow}
@@ -13,7 +13,7 @@ use Rattle.regions.specs.Patterns.{pattern_of}
 use Rattle.regions.specs.Regions.{regions_of}
 use Rattle.regions.specs.region_laws.IsBasis.{IsBasis}
 use Rattle.regions.specs.region_laws.Partners.{HasFewPartners, part_by}
-use Rattle.regions.proofs.region_laws.Listed.{set_is}
+use Rattle.regions.proofs.region_laws.listing.Listed.{set_is}
 use Rattle.region_states.specs.focus.Held.{IsHeldAt}
 use Rattle.region_states.proofs.focus.Flags.{held_at, some_region}
 use Rattle.region_states.specs.conflicts.Conflicts.{IsConflictAt}
@@ -22,10 +22,10 @@ use Rattle.region_states.specs.declared.conflicts.conflict.Conflict.{Conflict}
 use Rattle.region_states.specs.declared.conflicts.conflict.Conflict.TheVariants as conflict
 use Rattle.conflict_laws.specs.rival.Alike.{IsClear}
 use Rattle.conflict_laws.proofs.rival.Told.{told_same}
-use Rattle.conflict_laws.proofs.same.Rows.{HaveSameTables, entity_too, row_of_pattern}
-use Rattle.conflict_laws.proofs.same.Together.{HasLinksToo, StandTogether, stand_together}
-use Rattle.conflict_laws.proofs.same.LostTold.{lost_told}
-use Rattle.conflict_laws.proofs.same.RivalTold.{rival_told}
+use Rattle.conflict_laws.proofs.same.rows.Rows.{HaveSameTables, entity_too, row_of_pattern}
+use Rattle.conflict_laws.proofs.same.rows.Together.{HasLinksToo, StandTogether, stand_together}
+use Rattle.conflict_laws.proofs.same.lost.LostTold.{lost_told}
+use Rattle.conflict_laws.proofs.same.rivals.RivalTold.{rival_told}
 
 -- a conflict of the set, of this kind
 abbrev pub IsTold : Basis → SetId → Type 0

@@ -9,11 +9,11 @@ use Rattle.regions.specs.Patterns.{Valuation}
 use Rattle.regions.specs.region_laws.IsBasis.{IsHostOf}
 use Rattle.region_states.specs.conflicts.There.{FailsThere, NoneFailsBy}
 use Rattle.conflict_laws.specs.same.States.{HasStates}
-use Rattle.conflict_laws.proofs.same.Links.{link_too}
+use Rattle.conflict_laws.proofs.same.states.Links.{link_too}
 use Rattle.conflict_laws.proofs.same.Names.{no_assoc, one_set}
-use Rattle.conflict_laws.proofs.same.Rows.{HaveSameTables, turned}
-use Rattle.conflict_laws.proofs.same.States.{is_clear}
-use Rattle.conflict_laws.proofs.same.Together.{HasLinksToo}
+use Rattle.conflict_laws.proofs.same.rows.Rows.{HaveSameTables, turned}
+use Rattle.conflict_laws.proofs.same.states.States.{is_clear}
+use Rattle.conflict_laws.proofs.same.rows.Together.{HasLinksToo}
 use Rattle.conflict_laws.proofs.same.Told.{IsTold, entity_told}
 
 module _ (basis : Basis) (state : Region → Valuation → State) (rivals : Region → Valuation → Region → Valuation → State × State)

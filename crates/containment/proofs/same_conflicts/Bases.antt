@@ -2,10 +2,10 @@
 use Rattle.cells.specs.declared.parts.Parts.{Parts}
 use Rattle.cells.specs.Parts.{AreParts, schema_in}
 use Rattle.regions.specs.region_laws.IsBasis.{IsBasis}
-use Rattle.regions.proofs.region_laws.Domains.{decides_domains}
-use Rattle.cells.specs.region_basis.BasisOf.{basis_of}
-use Rattle.cells.proofs.region_basis.Groups.{constants_told, tested_told}
-use Rattle.cells.proofs.region_basis.Hosts.{hosted_is, hosts_in_order, is_hosted}
+use Rattle.regions.proofs.region_laws.values.Domains.{decides_domains}
+use Rattle.region_states.specs.region_basis.BasisOf.{basis_of}
+use Rattle.region_states.proofs.region_basis.Groups.{constants_told, tested_told}
+use Rattle.region_states.proofs.region_basis.Hosts.{hosted_is, hosts_in_order, is_hosted}
 use Rattle.schema_laws.proofs.sound_demand.Deriving.{decides_types}
 
 pub basis_is : (parts : Parts) → AreParts parts → IsBasis (basis_of parts)

@@ -11,14 +11,14 @@ use Rattle.emc_base.proofs.Lists.{item_at}
 use Rattle.emc_base.proofs.Mapped.{contains_at}
 use Rattle.emc_base.proofs.Numbered.{enumerated_at}
 use Rattle.round_trip.specs.Words.{SetId, TableId, ColId, PropId, Null, EntityModel}
-use Rattle.round_trip.specs.soundness.Joined.{IsNoKey, col, prop}
-use Rattle.round_trip.specs.soundness.Joined as joined
+use Rattle.round_trip.specs.soundness.mappings.Joined.{IsNoKey, col, prop}
+use Rattle.round_trip.specs.soundness.mappings.Joined as joined
 use Rattle.round_trip.specs.soundness.Stores.{IsColId}
 use Rattle.condition_logic.specs.declared.atoms.Atom.TheVariants as atom
 use Rattle.member_groups.proofs.joined_groups.Grouping.{joined_free}
 use Rattle.schema_laws.specs.state_demand.Selecting.{same_value}
-use Rattle.schema_laws.proofs.state_demand.Lists.{head_stands}
-use Rattle.schema_laws.proofs.state_demand.Selecting.{Decides-value}
+use Rattle.schema_laws.proofs.state_demand.lists.Lists.{head_stands}
+use Rattle.schema_laws.proofs.state_demand.writings.Selecting.{Decides-value}
 use Rattle.regions.specs.declared.region.Region.{Region}
 use Rattle.regions.specs.declared.pattern.Symbol.{Symbol}
 use Rattle.regions.specs.declared.pattern.Symbol.TheVariants as symbol
@@ -34,10 +34,10 @@ use Rattle.regions.specs.region_laws.IsBasis.{IsBasis}
 use Rattle.symbolic_rows.proofs.Placed.{number_is, same_images}
 use Rattle.regions.specs.region_laws.pattern.Listed.{HasCell}
 use Rattle.regions.proofs.region_laws.pattern.Cells.{cell_of as made_cell}
-use Rattle.regions.proofs.region_laws.pattern.Groups.{is_tested, joined_tested, told_tested}
+use Rattle.regions.proofs.region_laws.pattern.types.Groups.{is_tested, joined_tested, told_tested}
 use Rattle.regions.proofs.region_laws.pattern.Laws.{listed_from}
-use Rattle.regions.proofs.region_laws.pattern.Regions.{atom_there}
-use Rattle.regions.proofs.region_laws.pattern.Standing.{StandsFree, StandsInKey, joined_by, listed_prop, prop_stands}
+use Rattle.regions.proofs.region_laws.pattern.types.Regions.{atom_there}
+use Rattle.regions.proofs.region_laws.pattern.symbols.Standing.{StandsFree, StandsInKey, joined_by, listed_prop, prop_stands}
 use Rattle.region_states.specs.conflicts.SameFacts.{are_compatible, match_all, rows_match, settled_cells}
 use Rattle.conflict_laws.specs.rival.Alike.{PatternsMatch}
 use Rattle.conflict_laws.proofs.rival.Atoms.{open_atom}

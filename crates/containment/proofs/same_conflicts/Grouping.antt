@@ -12,7 +12,7 @@ use Rattle.emc_base.proofs.Lists.{all_from_members, at_once, item_at}
 use Rattle.emc_base.proofs.Mapped.{contains_at}
 use Rattle.emc_base.proofs.Numbered.{all_pairs_map, filter_contains, map_contains}
 use Rattle.regions.specs.Basis.{Basis}
-use Rattle.regions.proofs.region_laws.Found.{place_of}
+use Rattle.regions.proofs.region_laws.lists.Found.{place_of}
 use Rattle.containment.specs.declared.same_conflicts.forms.Form.{Form}
 use Rattle.containment.specs.declared.same_conflicts.forms.Held.{Held}
 use Rattle.containment.specs.declared.same_conflicts.written.Written.{Written}

@@ -7,7 +7,7 @@ use Rattle.std.proofs.lemmas.Option.{get_or_from_slice_get, slice_get_within}
 use Rattle.emc_base.specs.Lists.{At}
 use Rattle.emc_base.proofs.Lists.{at_once}
 use Rattle.emc_base.proofs.Loops.{at_enumerated, take_item}
-use Rattle.regions.proofs.region_laws.Found.{place_of}
+use Rattle.regions.proofs.region_laws.lists.Found.{place_of}
 
 -- what is not so is false
 pub not_so : (b : Bool) → (b ≡ true → ⊥) → b ≡ false

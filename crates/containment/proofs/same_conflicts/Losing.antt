@@ -9,8 +9,8 @@ use Rattle.regions.specs.declared.pattern.Focus.TheVariants as focus
 use Rattle.regions.specs.Basis.{Basis}
 use Rattle.regions.specs.Patterns.{pattern_of}
 use Rattle.regions.specs.Settled.{possible}
-use Rattle.regions.proofs.region_laws.Symbols.{Decides-prop}
-use Rattle.schema_laws.proofs.state_demand.Lists.{Decides-any, any_of, of_any}
+use Rattle.regions.proofs.region_laws.values.Symbols.{Decides-prop}
+use Rattle.schema_laws.proofs.state_demand.lists.Lists.{Decides-any, any_of, of_any}
 use Rattle.regions.proofs.region_laws.pattern.Choices.{found_passes, none_passes}
 use Rattle.region_states.specs.conflicts.SameFacts.{is_lost, is_multi, is_one_of, lists_anywhere}
 use Rattle.containment.specs.declared.same_conflicts.written.Written.{Written}

@@ -18,10 +18,10 @@ use Rattle.regions.specs.Basis.{Basis}
 use Rattle.regions.specs.Patterns.{pattern_of}
 use Rattle.regions.specs.Regions.{regions_of}
 use Rattle.regions.specs.region_laws.IsBasis.{IsBasis}
-use Rattle.regions.proofs.region_laws.Apart.{regions_apart}
-use Rattle.regions.proofs.region_laws.Found.{place_of}
-use Rattle.regions.proofs.region_laws.Symbols.{Decides-assoc}
-use Rattle.regions.proofs.region_laws.pattern.Regions.{parts_of}
+use Rattle.regions.proofs.region_laws.listing.Apart.{regions_apart}
+use Rattle.regions.proofs.region_laws.lists.Found.{place_of}
+use Rattle.regions.proofs.region_laws.values.Symbols.{Decides-assoc}
+use Rattle.regions.proofs.region_laws.pattern.types.Regions.{parts_of}
 use Rattle.region_states.specs.conflicts.SameFacts.{are_compatible, are_rivals, match_all, rows_match, same_region, settled_cells}
 use Rattle.conflict_laws.proofs.rival.Clear.{compatible_back}
 use Rattle.conflict_laws.proofs.rival.Matching.{match_same}

@@ -4,7 +4,7 @@ use Rattle.std.proofs.lemmas.Bool.{and_from, and_parts, cases_eq}
 use Rattle.std.proofs.lemmas.Option.{slice_get_within}
 use Rattle.emc_base.proofs.Lists.{at_once}
 use Rattle.emc_base.specs.Lists.{At}
-use Rattle.schema_laws.proofs.state_demand.Lists.{head_stands, tail_stands}
+use Rattle.schema_laws.proofs.state_demand.lists.Lists.{head_stands, tail_stands}
 use Rattle.regions.specs.Settled.{Settled, known, free}
 use Rattle.region_states.specs.conflicts.SameFacts.{are_compatible, match_all}
 use Rattle.containment.specs.same_conflicts.Matching.{can_be_same, held_by}

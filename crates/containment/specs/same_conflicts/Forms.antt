@@ -4,7 +4,7 @@ use Rattle.std.specs.Prelude.{ℕ, List, ◌<◌, length, map, if◌then◌else�
 use Rattle.std.specs.List.{enumerate_from}
 use Rattle.std.specs.declared.cmp.Ordering.{Ordering}
 use Rattle.round_trip.specs.Words.{TableId, StoreModel}
-use Rattle.round_trip.specs.soundness.Joined.{col}
+use Rattle.round_trip.specs.soundness.mappings.Joined.{col}
 use Rattle.round_trip.specs.soundness.Stores.{IsColId}
 use Rattle.condition_logic.specs.declared.atoms.AtomOf.{AtomOf}
 use Rattle.regions.specs.declared.region.Region.{Region}

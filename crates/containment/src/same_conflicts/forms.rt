@@ -2,9 +2,9 @@ ghost use Rattle.std.specs.Prelude.{◌≡◌, ◌<◌, Contains, IfOk, length, 
 ghost use Rattle.std.specs.List.{enumerate_from};
 ghost use Rattle.cells.specs.Parts.{AreParts};
 ghost use Rattle.regions.specs.Settled.{settle};
-ghost use Rattle.round_trip.specs.soundness.Joined.{col};
+ghost use Rattle.round_trip.specs.soundness.mappings.Joined.{col};
 ghost use Rattle.round_trip.specs.soundness.Stores.{IsColId};
-ghost use Rattle.cells.specs.region_basis.BasisOf.{basis_of};
+ghost use Rattle.region_states.specs.region_basis.BasisOf.{basis_of};
 ghost use Rattle.containment.specs.same_conflicts.Forms.{HasColumns, form_of, held, held_at, row_form, shown_form, shown_row};
 ghost use Rattle.containment.specs.same_conflicts.Written.{IsWritten};
 

@@ -2,7 +2,7 @@ ghost use Rattle.std.specs.Prelude.{◌≡◌, ◌==◌, ◌&&◌, All, Contains
 ghost use Rattle.std.specs.List.{list_any};
 ghost use Rattle.round_trip.specs.Words.{PropId, key_props, props_of};
 ghost use Rattle.cells.specs.Parts.{AreParts};
-ghost use Rattle.cells.specs.region_basis.BasisOf.{basis_of};
+ghost use Rattle.region_states.specs.region_basis.BasisOf.{basis_of};
 ghost use Rattle.symbolic_rows.specs.settled_cells.Lent.{shown_possible};
 ghost use Rattle.region_states.specs.conflicts.Facts.{lists};
 ghost use Rattle.region_states.specs.conflicts.SameFacts.{is_lost, is_multi, is_one_of, lists_anywhere};

@@ -1,6 +1,6 @@
 ghost use Rattle.std.specs.Prelude.{◌≡◌, ◌&&◌, ◌==◌};
 ghost use Rattle.regions.specs.Settled.{settle, single};
-ghost use Rattle.cells.specs.region_basis.BasisOf.{basis_of};
+ghost use Rattle.region_states.specs.region_basis.BasisOf.{basis_of};
 ghost use Rattle.symbolic_rows.specs.settled_cells.Lent.{shown_possible};
 ghost use Rattle.containment.specs.same_conflicts.Matching.{can_be_same, cells_match, held_by, rows_alike};
 

@@ -1,7 +1,7 @@
 ghost use Rattle.std.specs.Prelude.{◌≡◌, ◌<◌, ℕ, All, AllPairs, Contains, IfNone, IfOk, IfSome, IsTrue, false, length, map};
 ghost use Rattle.cells.specs.Parts.{AreParts};
 ghost use Rattle.regions.specs.declared.region.Region.{Region};
-ghost use Rattle.cells.specs.region_basis.BasisOf.{basis_of};
+ghost use Rattle.region_states.specs.region_basis.BasisOf.{basis_of};
 ghost use Rattle.region_states.specs.conflicts.SameFacts.{are_rivals};
 ghost use Rattle.containment.specs.same_conflicts.Matching.{rows_alike};
 ghost use Rattle.emc_base.specs.Lists.{At};

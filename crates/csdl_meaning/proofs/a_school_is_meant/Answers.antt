@@ -1,5 +1,5 @@
 use Rattle.std.proofs.Common.{refl}
-use Rattle.csdl_meaning.proofs.SchoolKeeps.{school_keeps}
+use Rattle.csdl_meaning.proofs.examples.SchoolKeeps.{school_keeps}
 use Rattle.csdl_meaning.proofs.a_school_is_meant.Goals as goal
 
 pub returns : goal.returns

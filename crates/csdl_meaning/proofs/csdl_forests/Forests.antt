@@ -7,8 +7,8 @@ use Rattle.emc_base.specs.Lists.{At}
 use Rattle.emc_base.proofs.Lists.{item_at}
 use Rattle.round_trip.specs.Words.{EntityType, TypeId, TypeNode}
 use Rattle.edm_types.specs.Forest.{HoldsEachType, IsForest, IsNodeOf, IsTypeNode, node_type, type_numbered, types_based_on}
-use Rattle.round_trip.specs.soundness.Inheritance.{HasNoCircle}
-use Rattle.round_trip.specs.soundness.ModelIds.{IsTypeId}
+use Rattle.round_trip.specs.soundness.models.Inheritance.{HasNoCircle}
+use Rattle.round_trip.specs.soundness.models.ModelIds.{IsTypeId}
 use Rattle.schema_laws.proofs.sound_forests.Whole.{holds_each}
 use Rattle.graphs.proofs.base_chains.Depths.{HasDepth, depth_never}
 use Rattle.csdl_names.specs.declared.csdl_lists.raw.RawModel.{RawModel}
@@ -16,9 +16,9 @@ use Rattle.csdl_names.specs.declared.csdl_lists.raw.RawType.{RawType}
 use Rattle.csdl_meaning.specs.Meaning.{IsMeant, base_in, forest_in, is_abstract_at, is_base, is_top, node_upto, type_of, type_places}
 use Rattle.csdl_meaning.specs.ModelMeaning.{meaning}
 use Rattle.csdl_meaning.specs.SoundTypes.{KeepsTypeRules}
-use Rattle.csdl_meaning.proofs.Bases.{above as above_types, above_inside, no_circle, raw_at, type_at}
-use Rattle.csdl_meaning.proofs.Ids.{bases_inside}
-use Rattle.csdl_meaning.proofs.KeptTypes.{none_above_itself}
+use Rattle.csdl_meaning.proofs.types.Bases.{above as above_types, above_inside, no_circle, raw_at, type_at}
+use Rattle.csdl_meaning.proofs.types.Ids.{bases_inside}
+use Rattle.csdl_meaning.proofs.kept.KeptTypes.{none_above_itself}
 use Rattle.csdl_meaning.proofs.csdl_forests.Nodes.{children_of, flag_of, id_of, node_stands}
 use Rattle.csdl_meaning.proofs.csdl_forests.Places.{based_on, tops}
 

@@ -6,11 +6,11 @@ use Rattle.edm_types.specs.declared.model.TypeNode.TheViews.{out-roll-TypeNode}
 use Rattle.edm_types.specs.Forest.{IsNodeOf, below, node_type, nodes_below, top, type_numbered}
 use Rattle.graphs.specs.base_chains.Chains.{IsAncestor, chain_upto}
 use Rattle.graphs.proofs.base_chains.Chains.{closed_ancestors, in_chain}
-use Rattle.graphs.proofs.base_chains.Members.{in_map}
+use Rattle.emc_base.proofs.Members.{in_map}
 use Rattle.graphs.proofs.base_chains.Depths.{HasDepth, depth_root, depth_up, few_deep}
 use Rattle.csdl_names.specs.declared.csdl_lists.raw.RawModel.{RawModel}
 use Rattle.csdl_meaning.specs.Meaning.{base_in, forest_in, is_abstract_at, is_base, is_top, node_upto, type_places}
-use Rattle.csdl_meaning.proofs.Bases.{base_inside}
+use Rattle.csdl_meaning.proofs.types.Bases.{base_inside}
 use Rattle.csdl_meaning.proofs.csdl_forests.Places.{base_is, place_inside, place_passes, top_base}
 
 module _ (raw : RawModel) where

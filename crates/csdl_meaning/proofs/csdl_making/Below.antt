@@ -11,7 +11,7 @@ use Rattle.emc_base.specs.Lists.{At}
 use Rattle.csdl_names.specs.declared.csdl_lists.raw.RawModel.{RawModel}
 use Rattle.csdl_meaning.specs.Meaning.{base_in, is_base, type_places}
 use Rattle.csdl_meaning.specs.csdl_making.Making.{AreChildren, list_at}
-use Rattle.csdl_meaning.proofs.csdl_making.Places.{at_set, kept_more, range_inside}
+use Rattle.emc_base.proofs.Turns.{at_set, kept_more, range_inside}
 
 module _ (raw : RawModel) where
   -- there is a list for each type, and each holds the types that are based on one, of the first so many

@@ -12,7 +12,7 @@ use Rattle.emc_base.proofs.Mapped.{contains_at}
 use Rattle.graphs.specs.base_chains.Chains.{StaysWithin, chain}
 use Rattle.graphs.specs.base_chains.Walks.{IsBasesFirst}
 use Rattle.graphs.proofs.base_chains.Chains.{Ends, chain_root, chain_step}
-use Rattle.graphs.proofs.base_chains.Orders.{earlier_place, ends_by_order, place_of_member}
+use Rattle.graphs.proofs.base_chains.orders.Orders.{earlier_place, ends_by_order, place_of_member}
 use Rattle.csdl_meaning.specs.csdl_making.Making.{chain_list, list_at}
 
 module _ {X : Type 0} (base : ℕ → Option ℕ) (count : ℕ) (own : List (List X)) where

@@ -11,7 +11,7 @@ use Rattle.emc_base.proofs.Loops.{take_item}
 use Rattle.round_trip.specs.Words.{PropId}
 use Rattle.graphs.specs.base_chains.Chains.{IsAncestor, base_at}
 use Rattle.graphs.proofs.base_chains.Chains.{closed_ancestors, in_chain}
-use Rattle.graphs.proofs.base_chains.Members.{contains_head, contains_tail}
+use Rattle.emc_base.proofs.Members.{contains_head, contains_tail}
 use Rattle.groupings.specs.name_places.GivenNames.{first_place}
 use Rattle.csdl_names.specs.declared.csdl_lists.raw.RawModel.{RawModel}
 use Rattle.csdl_names.specs.declared.csdl_lists.raw.RawType.{RawType}
@@ -19,7 +19,7 @@ use Rattle.csdl_names.specs.csdl_lists.References.{names_in}
 use Rattle.csdl_names.specs.PropPlaces.{own_prop, place_of_prop, prop_of_type, prop_upto}
 use Rattle.csdl_names.specs.declared.lookups.PropPlace.{PropPlace}
 use Rattle.csdl_meaning.specs.Meaning.{base_in, chain_in, declared_before, own_key, own_props, prop_named, type_of}
-use Rattle.csdl_meaning.proofs.Bases.{base_inside}
+use Rattle.csdl_meaning.proofs.types.Bases.{base_inside}
 use Rattle.csdl_meaning.specs.csdl_making.Making.{AreInherited, AreStarts, chain_list, id_of_place, list_at, type_with}
 
 module _ (raw : RawModel) where

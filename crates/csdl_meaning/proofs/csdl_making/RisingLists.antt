@@ -14,10 +14,10 @@ use Rattle.std.proofs.lemmas.List.Elements.{All-contains, All-contains_itself, A
 use Rattle.std.proofs.lemmas.List.Filters.{dedup_is}
 use Rattle.std.proofs.lemmas.List.Kept.{AllPairs-cons, Contains-dedup, Contains-from_dedup, IsStrictlySortedBy-dedup}
 use Rattle.std.proofs.lemmas.List.Sorted.{Contains-permutation, IsPermutation-sym}
-use Rattle.graphs.proofs.base_chains.Members.{contains_cons_cases, contains_head, contains_nil, contains_tail}
+use Rattle.emc_base.proofs.Members.{contains_cons_cases, contains_head, contains_nil, contains_tail}
 use Rattle.csdl_meaning.specs.Rising.{rising, with_number}
-use Rattle.csdl_meaning.proofs.Lists.{pairs_head, pairs_tail}
-use Rattle.csdl_meaning.proofs.Rising.{rising_all, rising_rises}
+use Rattle.emc_base.proofs.Joined.{pairs_head, pairs_tail}
+use Rattle.csdl_meaning.proofs.lists.Rising.{rising_all, rising_rises}
 
 -- the numbers rise
 abbrev pub Rises : List ℤ → Type 0

@@ -5,7 +5,7 @@ use Rattle.std.specs.List.{flat_map, range_with_len}
 use Rattle.emc_base.specs.Lists.{At}
 use Rattle.round_trip.specs.Words.{EntityType, PropId}
 use Rattle.edm_types.specs.Forest.{type_numbered}
-use Rattle.round_trip.specs.soundness.Inheritance.{prop_numbered}
+use Rattle.round_trip.specs.soundness.models.Inheritance.{prop_numbered}
 use Rattle.graphs.specs.base_chains.Chains.{chain}
 use Rattle.csdl_names.specs.declared.csdl_lists.raw.RawModel.{RawModel}
 use Rattle.csdl_names.specs.declared.csdl_lists.raw.RawType.{RawType}

@@ -5,7 +5,7 @@ ghost use Rattle.csdl_meaning.specs.ModelMeaning.{set_numbered};
 ghost use Rattle.csdl_meaning.specs.csdl_making.Making.{AreStarts, id_of_place};
 
 use csdl_names::{Lookups, PropPlace, RawModel};
-use emc_base::{Memory, PropId, Seq, SetId, TypeId};
+use emc_base::{Memory, PropId, Seq, SetId, TypeId, narrow};
 use std::alloc::Global;
 
 /// The id of the type at a place. A place past the ids counts as want of memory.
@@ -85,15 +85,5 @@ fn sum_of(one: usize, other: usize) -> Result<usize, Memory>
     match one.checked_add(other) {
         None => Err(Memory),
         Some(sum) => Ok(sum),
-    }
-}
-
-/// A place in 32 bits. One that is past these counts as want of memory.
-pub fn narrow(place: usize) -> Result<u32, Memory>
-    ensures { IfOk result (λ index. index ≡ place) }
-{
-    match u32::try_from(place) {
-        Ok(index) => Ok(index),
-        Err(_) => Err(Memory),
     }
 }

@@ -9,16 +9,6 @@ use emc_base::{Memory, PropId, Seq};
 use std::alloc::Global;
 use std::mem;
 
-/// Puts what was found at the end of a list.
-pub fn put_found<T: Drop>(list: &mut Seq<T>, found: Option<T>) -> Result<(), Memory>
-    ensures { OnOk result (list.new ≡ list.old ++ cons_option found []) }
-{
-    match found {
-        None => Ok(()),
-        Some(item) => list.push(item),
-    }
-}
-
 /// Puts a place at the end of a list, where it is kept.
 pub(super) fn put_kept(list: &mut Seq<usize>, place: usize, keep: bool) -> Result<(), Memory>
     ensures { OnOk result (list.new ≡ list.old ++ (if keep then place ∷ [] else [])) }

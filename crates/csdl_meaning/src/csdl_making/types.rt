@@ -7,10 +7,10 @@ ghost use Rattle.csdl_meaning.specs.Meaning.{declared_by, nav_of, own_key, own_p
 ghost use Rattle.csdl_meaning.specs.csdl_making.Making.{AddInherited, AreInherited, AreStarts, type_with};
 
 use crate::csdl_making::ids::{base_id, found_id, prop_id};
-use crate::csdl_making::lists::{inherited, put_found, take_at};
+use crate::csdl_making::lists::{inherited, take_at};
 use csdl_names::{Lookups, PropPlace, RawModel, RawNav, RawType};
 use edm_types::{EntityType, Nav};
-use emc_base::{Memory, PropId, Seq, Txt};
+use emc_base::{Memory, PropId, Seq, Txt, put_found};
 use std::alloc::Global;
 
 /// The types, by where the properties of each begin, and by an order in which each follows its base.

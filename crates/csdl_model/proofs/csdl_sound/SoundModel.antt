@@ -1,15 +1,15 @@
 -- What a document means is a sound model where it breaks no rule.
-use Rattle.round_trip.specs.soundness.Models.{IsSoundModel}
+use Rattle.round_trip.specs.soundness.models.Models.{IsSoundModel}
 use Rattle.csdl_names.specs.declared.csdl_lists.raw.RawModel.{RawModel}
 use Rattle.csdl_meaning.specs.ModelMeaning.{meaning}
-use Rattle.csdl_meaning.proofs.Sound.{sound}
+use Rattle.csdl_meaning.proofs.types.Sound.{sound}
 use Rattle.csdl_meaning.proofs.csdl_forests.Forests.{ids_inside, is_forest}
 use Rattle.csdl_model.specs.csdl_sound.SoundMeaning.{KeepsRules}
-use Rattle.csdl_model.proofs.csdl_sound.MeantTypes.{meant}
-use Rattle.csdl_model.proofs.csdl_sound.SetIds.{constraints_inside, elements_concrete, elements_inside, ends_inside}
-use Rattle.csdl_model.proofs.csdl_sound.SetNames.{distinct_names}
-use Rattle.csdl_model.proofs.csdl_sound.SoundArrows.{no_circle}
-use Rattle.csdl_model.proofs.csdl_sound.SoundAssocs.{sound_assocs}
+use Rattle.csdl_model.proofs.csdl_sound.types.MeantTypes.{meant}
+use Rattle.csdl_model.proofs.csdl_sound.associations.SetIds.{constraints_inside, elements_concrete, elements_inside, ends_inside}
+use Rattle.csdl_model.proofs.csdl_sound.associations.SetNames.{distinct_names}
+use Rattle.csdl_model.proofs.csdl_sound.constraints.SoundArrows.{no_circle}
+use Rattle.csdl_model.proofs.csdl_sound.associations.SoundAssocs.{sound_assocs}
 
 -- its parts, joined
 pub sound_model : (raw : RawModel) → KeepsRules raw → IsSoundModel (meaning raw)

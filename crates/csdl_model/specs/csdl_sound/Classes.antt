@@ -5,7 +5,7 @@ use Rattle.std.specs.Prelude.{pos, List, [], ◌∷◌, Some, None, true, false,
 use Rattle.round_trip.specs.Words.{Assoc, EntitySet, TypeNode}
 use Rattle.edm_types.specs.Forest.{type_numbered}
 use Rattle.edm_types.specs.declared.model.Mult.TheVariants.{Many, One, ZeroOrOne}
-use Rattle.round_trip.specs.soundness.Inheritance.{prop_numbered}
+use Rattle.round_trip.specs.soundness.models.Inheritance.{prop_numbered}
 use Rattle.csdl_names.specs.declared.csdl_lists.raw.RawAssociation.{RawAssociation}
 use Rattle.csdl_names.specs.declared.csdl_lists.raw.RawAssociationSet.{RawAssociationSet}
 use Rattle.csdl_names.specs.declared.csdl_lists.raw.RawBound.TheVariants.{Max, Number}

@@ -5,7 +5,8 @@ use Rattle.groupings.specs.name_places.GivenNames.{first_place}
 use Rattle.groupings.specs.name_places.PlacesIn.{place_in}
 use Rattle.csdl_names.specs.declared.csdl_lists.raw.RawModel.{RawModel}
 use Rattle.csdl_names.specs.declared.csdl_lists.scope.Scope.{Scope}
-use Rattle.csdl_names.specs.csdl_lists.References.{local_name, rest_after, rest_of}
+use Rattle.csdl_names.specs.csdl_lists.References.{local_name}
+use Rattle.groupings.specs.name_places.Fronts.{rest_after, rest_of}
 use Rattle.csdl_names.specs.csdl_lists.Scopes.{IsScopeOf, local_in}
 
 -- what follows the alias, with its dot put before

@@ -1,8 +1,8 @@
 -- What the references and names in a CSDL document stand for: places in its lists.
 -- Source: CSDL version 3, Namespace, Alias, and the names of types, associations and sets.
-use Rattle.std.specs.Prelude.{ℕ, List, [], ◌∷◌, ◌++◌, length, drop, Option, Some, None, if◌then◌else◌, slice_get, ◌==◌}
+use Rattle.std.specs.Prelude.{ℕ, List, Option, slice_get}
 use Rattle.std.specs.Option.{option_and_then, option_or}
-use Rattle.std.specs.List.{starts_with}
+use Rattle.groupings.specs.name_places.Fronts.{rest_of}
 use Rattle.groupings.specs.name_places.GivenNames.{first_place}
 use Rattle.csdl_names.specs.declared.csdl_lists.raw.RawModel.{RawModel}
 
@@ -16,14 +16,6 @@ pub record Names : Type 0 where
   pub association_named : List ℕ → Option ℕ
   -- the entity set of a name
   pub set_named : List ℕ → Option ℕ
-
--- what follows a text at the front of another
-abbrev pub rest_after : List ℕ → List ℕ → Option (List ℕ)
-rest_after front text = if starts_with (λ one other. one == other) text front then Some (drop (length front) text) else None
-
--- what follows the name of a schema and a dot
-abbrev pub rest_of : List ℕ → List ℕ → Option (List ℕ)
-rest_of schema text = rest_after (schema ++ 46 ∷ []) text
 
 -- the name that a reference gives: it follows the Namespace, or else the Alias, and a dot
 abbrev pub local_name : RawModel → List ℕ → Option (List ℕ)

@@ -5,7 +5,8 @@ use Rattle.groupings.specs.name_places.GivenNames.{first_place}
 use Rattle.groupings.specs.name_places.PlacesIn.{place_in}
 use Rattle.csdl_names.specs.declared.csdl_lists.raw.RawModel.{RawModel}
 use Rattle.csdl_names.specs.declared.csdl_lists.scope.Scope.{Scope}
-use Rattle.csdl_names.specs.csdl_lists.References.{Names, names_in, rest_after}
+use Rattle.csdl_names.specs.csdl_lists.References.{Names, names_in}
+use Rattle.groupings.specs.name_places.Fronts.{rest_after}
 
 -- the name that a reference gives, by the Namespace and the Alias that are known
 abbrev pub local_in : Scope → List ℕ → Option (List ℕ)

@@ -1,10 +1,9 @@
 ghost use Rattle.std.specs.Prelude.{◌≡◌, ◌∷◌, ◌++◌, [], IfOk, option_map, string_bytes};
-ghost use Rattle.csdl_names.specs.csdl_lists.References.{rest_after};
 ghost use Rattle.csdl_names.specs.csdl_lists.Scopes.{IsScopeOf, local_in, names_of};
 
 use crate::csdl_lists::raw::RawModel;
 use emc_base::{Memory, Txt};
-use groupings::{Places, first_places};
+use groupings::{Places, first_places, rest_after};
 use std::alloc::Global;
 
 /// What the names in a model stand for: places in its lists, counted from 0.
@@ -95,11 +94,4 @@ fn dotted_alias(alloc: Global, alias: &Option<Txt>) -> Result<Option<String>, Me
             Ok(Some(dotted))
         }
     }
-}
-
-/// What follows a text at the front of another.
-pub fn rest_after<'a>(front: &str, text: &'a str) -> Option<&'a str>
-    ensures { option_map (λ rest. rest.now) result ≡ rest_after front.now text.now }
-{
-    text.strip_prefix(front)
 }

@@ -9,8 +9,8 @@ use Rattle.emc_base.proofs.Lists.{item_at}
 use Rattle.emc_base.proofs.Mapped.{contains_at}
 use Rattle.emc_base.proofs.Numbered.{all_pairs_map}
 use Rattle.round_trip.specs.Words.{EntityModel, EntityType, Prop, PropId, TypeId, Assoc, StoreModel, Table, At, props_of}
-use Rattle.round_trip.specs.soundness.ModelIds.{IsPropId}
-use Rattle.round_trip.specs.soundness.Models.{IsSoundModel}
+use Rattle.round_trip.specs.soundness.models.ModelIds.{IsPropId}
+use Rattle.round_trip.specs.soundness.models.Models.{IsSoundModel}
 use Rattle.round_trip.specs.soundness.Stores.{IsSoundStore}
 use Rattle.schema_laws.specs.sound_types.PropNames.{HaveOtherNames}
 use Rattle.schema_laws.proofs.sound_types.Once.{names_once}

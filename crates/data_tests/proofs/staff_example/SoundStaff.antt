@@ -19,13 +19,13 @@ use Rattle.edm_types.specs.Forest.{IsForest, IsTypeNode, node_type, nodes_below,
 use Rattle.edm_types.specs.IsA.{same, base, chain}
 use Rattle.edm_types.proofs.Nodes.{each_node}
 use Rattle.round_trip.specs.Words.{TypeId, PropId, SetId, EntityType, EntitySet, Assoc, Prop, TypeNode, At, HasBase, InDomain, IsA, Whole}
-use Rattle.round_trip.specs.soundness.Constraints.{HasArrow, IsSoundAssoc, Leads, arrow, further}
-use Rattle.round_trip.specs.soundness.Inheritance.{IsKeyProp, declared_props, prop_numbered}
+use Rattle.round_trip.specs.soundness.models.Constraints.{HasArrow, IsSoundAssoc, Leads, arrow, further}
+use Rattle.round_trip.specs.soundness.models.Inheritance.{IsKeyProp, declared_props, prop_numbered}
 use Rattle.round_trip.specs.soundness.Kinds.{IsSoundKind}
 use Rattle.round_trip.specs.soundness.Lookups.{HasConcrete, IsAncestor}
-use Rattle.round_trip.specs.soundness.ModelIds.{HasEndIds, HasModelIds, IsPropId, IsTypeId}
-use Rattle.round_trip.specs.soundness.ModelNames.{HasDistinctNames, own_names}
-use Rattle.round_trip.specs.soundness.Models.{IsSoundModel, IsSoundType}
+use Rattle.round_trip.specs.soundness.models.ModelIds.{HasEndIds, HasModelIds, IsPropId, IsTypeId}
+use Rattle.round_trip.specs.soundness.models.ModelNames.{HasDistinctNames, own_names}
+use Rattle.round_trip.specs.soundness.models.Models.{IsSoundModel, IsSoundType}
 use Rattle.data_tests.specs.staff_example.Staff.{bonus_kind, bosses, employee, employee_node, employee_type, manager, manager_node, manager_type, person, person_node, person_type, prop_of, set_of, staff, staff_props, staff_sets, staff_types}
 
 -- names that differ, by tests that compute

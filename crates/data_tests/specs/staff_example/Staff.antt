@@ -6,7 +6,7 @@ use Rattle.edm_types.specs.declared.model.Mult.TheVariants.{Many, ZeroOrOne}
 use Rattle.edm_types.specs.declared.model.TypeNode.{roll-TypeNode}
 use Rattle.edm_types.specs.Forest.{type_numbered}
 use Rattle.round_trip.specs.Words.{TypeId, Kind, EntityModel, EntityType, Prop, TypeNode, EntitySet, Assoc, End, Mult, StoreModel, Table, Column}
-use Rattle.round_trip.specs.soundness.Inheritance.{prop_numbered}
+use Rattle.round_trip.specs.soundness.models.Inheritance.{prop_numbered}
 
 -- a type whose key is the second property, by its name, base and properties
 abbrev pub type_of : List ℕ → Option TypeId → List ℕ → EntityType

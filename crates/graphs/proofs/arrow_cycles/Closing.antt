@@ -4,7 +4,7 @@ use Rattle.std.proofs.lemmas.Bool.{cases_lt}
 use Rattle.std.proofs.lemmas.List.{length-take}
 use Rattle.std.proofs.lemmas.Option.{slice_get_within}
 use Rattle.emc_base.specs.Lists.{At}
-use Rattle.graphs.proofs.base_chains.Orders.{place_of_member}
+use Rattle.graphs.proofs.base_chains.orders.Orders.{place_of_member}
 use Rattle.graphs.specs.arrow_cycles.Numbers.{Reaches}
 use Rattle.graphs.specs.arrow_cycles.Searches.{AreClosed, IsBeside, IsHeeded, IsSearch, IsTogether, IsTop, complete, later, onward}
 use Rattle.graphs.specs.declared.arrow_cycles.search.Group.{Group}

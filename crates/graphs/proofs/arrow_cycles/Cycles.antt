@@ -4,7 +4,7 @@ use Rattle.std.specs.Option.{option_and_then}
 use Rattle.emc_base.specs.Lists.{At}
 use Rattle.emc_base.proofs.Lists.{at_once}
 use Rattle.graphs.specs.base_chains.Walks.{IsFirst}
-use Rattle.graphs.proofs.base_chains.Turns.{first_same}
+use Rattle.graphs.proofs.base_chains.walks.Turns.{first_same}
 use Rattle.graphs.specs.arrow_cycles.Arrows.{IsArrow, IsOnCycle, Leads, StayWithin, arrow, further}
 use Rattle.graphs.specs.arrow_cycles.Ends.{EndWithin, GoesTo, IsEnds}
 use Rattle.graphs.specs.arrow_cycles.Numbers.{AreComponents, IsInside, IsInsideAt, number_at, number_in}

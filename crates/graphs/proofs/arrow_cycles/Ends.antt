@@ -6,7 +6,7 @@ use Rattle.std.proofs.lemmas.List.Elements.{Contains-append_left, Contains-push,
 use Rattle.std.proofs.lemmas.Option.{slice_get-get_or}
 use Rattle.emc_base.specs.Lists.{At}
 use Rattle.emc_base.proofs.Lists.{at_once}
-use Rattle.graphs.proofs.base_chains.Members.{at_push_cases, contains_nil}
+use Rattle.emc_base.proofs.Members.{at_push_cases, contains_nil}
 use Rattle.graphs.specs.arrow_cycles.Arrows.{IsArrow, StayWithin}
 use Rattle.graphs.specs.arrow_cycles.Ends.{GoesTo, IsEnds, IsFrom, with_arrow}
 use Rattle.graphs.specs.declared.arrow_cycles.arrow.Arrow.{Arrow}

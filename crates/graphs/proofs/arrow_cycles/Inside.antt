@@ -4,7 +4,7 @@ use Rattle.std.proofs.lemmas.List.Elements.{All-contains}
 use Rattle.emc_base.specs.Lists.{At}
 use Rattle.emc_base.proofs.Lists.{all_from_members}
 use Rattle.emc_base.proofs.Mapped.{contains_at}
-use Rattle.graphs.proofs.base_chains.Orders.{place_of_member}
+use Rattle.graphs.proofs.base_chains.orders.Orders.{place_of_member}
 use Rattle.graphs.specs.arrow_cycles.Arrows.{IsWithin, StayWithin}
 use Rattle.graphs.specs.declared.arrow_cycles.arrow.Arrow.{Arrow}
 

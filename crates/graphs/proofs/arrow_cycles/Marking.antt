@@ -5,8 +5,8 @@ use Rattle.std.proofs.lemmas.List.Elements.{Contains-append_left, Contains-push}
 use Rattle.std.proofs.lemmas.Option.{slice_get_within}
 use Rattle.emc_base.specs.Lists.{At}
 use Rattle.emc_base.proofs.Lists.{all_from_members, item_at}
-use Rattle.graphs.proofs.base_chains.Members.{at_push_cases}
-use Rattle.graphs.proofs.base_chains.Orders.{place_of_member}
+use Rattle.emc_base.proofs.Members.{at_push_cases}
+use Rattle.graphs.proofs.base_chains.orders.Orders.{place_of_member}
 use Rattle.graphs.specs.arrow_cycles.Numbers.{AreComponents}
 use Rattle.graphs.specs.arrow_cycles.Searches.{AreClosed, IsSearch, left_marks}
 use Rattle.graphs.specs.declared.arrow_cycles.search.Group.{Group}

@@ -3,8 +3,8 @@ use Rattle.std.proofs.Common.{◌≡◌, ◌≢◌, inl, inr, ℕ, ◌+◌, ◌<
 use Rattle.std.proofs.lemmas.List.{length-append}
 use Rattle.std.proofs.lemmas.Option.{slice_get_within}
 use Rattle.emc_base.specs.Lists.{At}
-use Rattle.graphs.proofs.base_chains.Members.{at_push_cases}
-use Rattle.graphs.proofs.base_chains.Orders.{place_of_member}
+use Rattle.emc_base.proofs.Members.{at_push_cases}
+use Rattle.graphs.proofs.base_chains.orders.Orders.{place_of_member}
 use Rattle.graphs.specs.arrow_cycles.Numbers.{Reaches}
 use Rattle.graphs.specs.arrow_cycles.Searches.{IsBeside, IsHeeded, IsSearch, IsTogether, complete, later, onward}
 use Rattle.graphs.specs.declared.arrow_cycles.search.Group.{Group}

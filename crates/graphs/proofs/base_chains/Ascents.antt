@@ -6,7 +6,7 @@ use Rattle.std.proofs.lemmas.List.Elements.{Contains-append_left, Contains-get_o
 use Rattle.std.proofs.lemmas.List.Quantifiers.{all_pairs_push}
 use Rattle.graphs.specs.base_chains.Chains.{IsAncestor, direct, further, StandAbove, StaysWithin, chain}
 use Rattle.graphs.proofs.base_chains.Chains.{chain_root, chain_step, ends}
-use Rattle.graphs.proofs.base_chains.Members.{contains_nil}
+use Rattle.emc_base.proofs.Members.{contains_nil}
 
 module _ (base : ℕ → Option ℕ) where
   -- a place is the next one, or stands above it

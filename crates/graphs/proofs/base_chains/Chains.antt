@@ -10,7 +10,7 @@ use Rattle.std.proofs.lemmas.Map.Steps.{length-le_from_distinct_below}
 use Rattle.std.proofs.lemmas.Map.Views.{Contains-from_any}
 use Rattle.std.proofs.lemmas.Bool.Decides.{Decides-eqb}
 use Rattle.graphs.specs.base_chains.Chains.{IsAncestor, direct, further, StaysWithin, base_at, chain, chain_upto}
-use Rattle.graphs.proofs.base_chains.Members.{contains_nil}
+use Rattle.emc_base.proofs.Members.{contains_nil}
 
 -- the base at a place, as it is read
 pub base_read : (bases : List (Option ℕ)) (i : ℕ) → get_or bases i None ≡ base_at bases i

@@ -6,7 +6,7 @@ use Rattle.std.proofs.lemmas.List.Elements.{Contains-push_cases, Contains-get_or
 use Rattle.std.proofs.lemmas.List.Quantifiers.{all_pairs_push}
 use Rattle.graphs.specs.base_chains.Chains.{IsAncestor, direct, further, chain_upto}
 use Rattle.graphs.proofs.base_chains.Chains.{few_apart}
-use Rattle.graphs.proofs.base_chains.Members.{contains_nil}
+use Rattle.emc_base.proofs.Members.{contains_nil}
 
 module _ (base : ℕ → Option ℕ) where
   -- just so many places stand in the chain of a place, which ends

@@ -6,7 +6,7 @@ use Rattle.graphs.specs.base_chains.Chains.{IsAncestor, direct, further, IsUpFro
 use Rattle.graphs.specs.base_chains.Jumps.{IsForest, IsJump, IsNoDeeper, KnowsDepths, depth}
 use Rattle.graphs.specs.base_chains.Walks.{IsBasesFirst}
 use Rattle.graphs.proofs.base_chains.Chains.{Ends, above_above, chain_apart, chain_root, chain_step, closed_ancestors, ends, few_apart, in_chain}
-use Rattle.graphs.proofs.base_chains.Orders.{none_above_itself, stays_within}
+use Rattle.graphs.proofs.base_chains.orders.Orders.{none_above_itself, stays_within}
 
 -- bases for which there is an order make a forest
 pub forest_by_order : (bases : List (Option ℕ)) (order : List ℕ) → IsBasesFirst (base_at bases) (length bases) order → IsForest (base_at bases) (length bases)

@@ -6,7 +6,7 @@ use Rattle.std.proofs.lemmas.List.Elements.{All-contains}
 use Rattle.std.proofs.lemmas.List.Sorted.{Contains-permutation, IsPermutation-sym}
 use Rattle.std.proofs.lemmas.Slice.Zip.{AllZip-left, AllZip-right}
 use Rattle.emc_base.proofs.Mapped.{contains_at}
-use Rattle.schema_laws.proofs.state_demand.Places.{map_agree}
+use Rattle.schema_laws.proofs.state_demand.lists.Places.{map_agree}
 use Rattle.round_trip.specs.Words.{TableId, ColId, Value, StoreModel, Table, Row, Tables, At, IsErasedRow, cell_of, row_key, rows_in}
 use Rattle.table_files.specs.InOrder.{AreToldApartBy}
 use Rattle.keyed_rows.specs.row_differences.Differences.{IsRowAt, RowsDiffer}

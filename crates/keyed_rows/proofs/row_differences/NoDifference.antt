@@ -9,7 +9,7 @@ use Rattle.std.proofs.lemmas.Option.{slice_get_past, unwrap_or-slice_get}
 use Rattle.emc_base.proofs.Lists.{item_at}
 use Rattle.emc_base.proofs.Mapped.{contains_map}
 use Rattle.emc_base.proofs.Numbered.{all_pairs_map, map_contains}
-use Rattle.schema_laws.proofs.state_demand.Permutations.{same_members_permute}
+use Rattle.schema_laws.proofs.state_demand.lists.Permutations.{same_members_permute}
 use Rattle.round_trip.specs.Words.{TableId, ColId, Value, Null, StoreModel, Table, Column, Row, Tables, At, AreTables, cell_of, cells_of, key_columns, row_key, rows_in}
 use Rattle.table_files.specs.InOrder.{AreToldApartBy}
 use Rattle.keyed_rows.specs.row_differences.Differences.{DifferAt, IsRowAt}

@@ -6,12 +6,12 @@ use Rattle.std.proofs.lemmas.List.Elements.{All-append, All-contains, All-nil, C
 use Rattle.emc_base.proofs.Lists.{all_from_members, only_member}
 use Rattle.emc_base.proofs.Mapped.{contains_at}
 use Rattle.case_laws.proofs.filled_rows.Pairs.{pairs_append}
-use Rattle.regions.proofs.region_laws.Choices.{pairs_nil}
+use Rattle.regions.proofs.region_laws.lists.Choices.{pairs_nil}
 use Rattle.round_trip.specs.Words.{SetId, TableId, Value, Pair, Row, Schema, Table, Tables, At, AreLegalTables, cells_of, rows_in, row_key, value_beside}
 use Rattle.round_trip.specs.soundness.Lookups.{set_key}
-use Rattle.round_trip.specs.soundness.Mappings.{IsSoundSchema}
-use Rattle.schema_laws.proofs.state_demand.Fitting.{key_is}
-use Rattle.schema_laws.proofs.state_demand.Lists.{head_stands, same_by_key}
+use Rattle.round_trip.specs.soundness.mappings.Mappings.{IsSoundSchema}
+use Rattle.schema_laws.proofs.state_demand.writings.Fitting.{key_is}
+use Rattle.schema_laws.proofs.state_demand.lists.Lists.{head_stands, same_by_key}
 use Rattle.case_laws.specs.region_cases.Meets.{StandsAtKey}
 use Rattle.table_files.specs.Lists.{HasKey, IsFirstOf}
 use Rattle.table_owners.specs.declared.table_writers.writer.Owner.{Owner}

@@ -17,8 +17,8 @@ use Rattle.groupings.proofs.item_groups.Keyed.{is_equal}
 use Rattle.round_trip.specs.Words.{SetId, TableId, Value, Row, Schema, Tables}
 use Rattle.round_trip.specs.soundness.Lookups.{set_key}
 use Rattle.case_laws.specs.region_cases.Meets.{StandsAtKey}
-use Rattle.schema_laws.proofs.state_demand.Lists.{head_stands}
-use Rattle.schema_laws.proofs.state_demand.Owners.{pairs_from_map}
+use Rattle.schema_laws.proofs.state_demand.lists.Lists.{head_stands}
+use Rattle.schema_laws.proofs.state_demand.owners.Owners.{pairs_from_map}
 use Rattle.case_laws.specs.candidates.Rows.{AreRowsAt, HasRows, shown_row, shown_rows}
 use Rattle.case_laws.specs.declared.candidates.placed.PlacedRow.{PlacedRow}
 use Rattle.keyed_rows.specs.row_groups.KeyGroups.{AreKeyGroups, with_key}

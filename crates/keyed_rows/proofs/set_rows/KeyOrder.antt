@@ -12,18 +12,18 @@ use Rattle.emc_base.proofs.Mapped.{contains_at, contains_map}
 use Rattle.emc_base.proofs.Numbered.{map_contains}
 use Rattle.round_trip.specs.Words.{SetId, TableId, ColId, PropId, Value, Pair, Row, Schema, Table, Tables, At, cell_of, cells_of, row_key, rows_in, value_beside, key_columns}
 use Rattle.round_trip.specs.soundness.Lookups.{set_key}
-use Rattle.round_trip.specs.soundness.Mappings.{IsSoundSchema}
+use Rattle.round_trip.specs.soundness.mappings.Mappings.{IsSoundSchema}
 use Rattle.case_laws.specs.region_cases.Meets.{StandsAtKey}
 use Rattle.schema_laws.specs.state_demand.Owners.{props_in}
 use Rattle.schema_laws.specs.state_demand.WellWritten.{cols_of}
-use Rattle.schema_laws.proofs.state_demand.Fitting.{key_is}
-use Rattle.schema_laws.proofs.state_demand.Lists.{head_stands, same_by_key, tail_stands}
-use Rattle.schema_laws.proofs.state_demand.Owners.{pairs_from_map}
-use Rattle.schema_laws.proofs.state_demand.Places.{map_agree}
+use Rattle.schema_laws.proofs.state_demand.writings.Fitting.{key_is}
+use Rattle.schema_laws.proofs.state_demand.lists.Lists.{head_stands, same_by_key, tail_stands}
+use Rattle.schema_laws.proofs.state_demand.owners.Owners.{pairs_from_map}
+use Rattle.schema_laws.proofs.state_demand.lists.Places.{map_agree}
 use Rattle.schema_laws.proofs.sound_demand.Keys.{keys_apart}
-use Rattle.schema_laws.proofs.sound_demand.OneOwner.{one_owner, whole_key}
-use Rattle.schema_laws.proofs.sound_demand.Pairing.{key_of_set}
-use Rattle.case_laws.proofs.Beside.{same_beside}
+use Rattle.schema_laws.proofs.sound_demand.owners.OneOwner.{one_owner, whole_key}
+use Rattle.schema_laws.proofs.sound_demand.owners.Pairing.{key_of_set}
+use Rattle.case_laws.proofs.lists.Beside.{same_beside}
 use Rattle.case_laws.proofs.Keys.{key_cells}
 use Rattle.keyed_rows.specs.set_rows.Owning.{IsBeside, IsKeyOrder, IsTableKey, Owning}
 use Rattle.keyed_rows.proofs.set_rows.Zips.{beside_zip, zip_first, zip_second, zip_turned}

@@ -2,13 +2,13 @@
 use Rattle.std.proofs.Common.{◌≡◌, ◌↔◌, inl, inr, ◌<◌, List, length, Option, Some, None, ap, subst, sym}
 use Rattle.emc_base.proofs.Lists.{item_at}
 use Rattle.round_trip.specs.Words.{SetId, AssocId, TableId, Fragment, LinkFragment, Pair, Schema, IsWritten}
-use Rattle.round_trip.specs.soundness.Mappings.{IsSoundSchema}
-use Rattle.round_trip.specs.soundness.Owners.{Owns}
-use Rattle.round_trip.specs.soundness.Owners as sound_owner
+use Rattle.round_trip.specs.soundness.mappings.Mappings.{IsSoundSchema}
+use Rattle.round_trip.specs.soundness.mappings.Owners.{Owns}
+use Rattle.round_trip.specs.soundness.mappings.Owners as sound_owner
 use Rattle.schema_laws.specs.state_demand.Owners.{IsOwned}
-use Rattle.schema_laws.proofs.state_demand.Lists.{any_of}
-use Rattle.schema_laws.proofs.sound_demand.OneOwner.{one_owner, owned_or_joined}
-use Rattle.schema_laws.proofs.sound_demand.Owned.{joined_to, one_set, owned}
+use Rattle.schema_laws.proofs.state_demand.lists.Lists.{any_of}
+use Rattle.schema_laws.proofs.sound_demand.owners.OneOwner.{one_owner, owned_or_joined}
+use Rattle.schema_laws.proofs.sound_demand.owners.Owned.{joined_to, one_set, owned}
 use Rattle.table_owners.specs.declared.table_writers.writer.Owner.{Owner}
 use Rattle.table_owners.specs.declared.table_writers.writer.Owner.TheVariants as told
 use Rattle.table_owners.specs.Owners.{TellOwners, TellsOwner}

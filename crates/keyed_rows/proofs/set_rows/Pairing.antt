@@ -5,13 +5,13 @@ use Rattle.std.proofs.lemmas.List.Elements.{All-contains, All-head, All-tail, Co
 use Rattle.emc_base.specs.Lists.{AreApart}
 use Rattle.emc_base.proofs.Lists.{all_from_members}
 use Rattle.round_trip.specs.Words.{SetId, TableId, ColId, PropId, Assoc, Fragment, LinkFragment, Pair, Schema}
-use Rattle.round_trip.specs.soundness.Mappings.{IsSoundSchema}
-use Rattle.round_trip.specs.soundness.Owners.{Owns}
+use Rattle.round_trip.specs.soundness.mappings.Mappings.{IsSoundSchema}
+use Rattle.round_trip.specs.soundness.mappings.Owners.{Owns}
 use Rattle.schema_laws.specs.state_demand.Owners.{IsHostAt, IsHosted, IsOfOwner, IsOwned, props_in}
 use Rattle.schema_laws.specs.state_demand.WellWritten.{cols_of}
-use Rattle.schema_laws.proofs.state_demand.Lists.{same_by_key}
-use Rattle.schema_laws.proofs.state_demand.Owners.{pairs_from_map}
-use Rattle.schema_laws.proofs.sound_demand.OneOwner.{hosted_at}
+use Rattle.schema_laws.proofs.state_demand.lists.Lists.{same_by_key}
+use Rattle.schema_laws.proofs.state_demand.owners.Owners.{pairs_from_map}
+use Rattle.schema_laws.proofs.sound_demand.owners.OneOwner.{hosted_at}
 use Rattle.table_owners.specs.Pairings.{IsPairedWith, TellsPairing}
 use Rattle.keyed_rows.specs.set_rows.Owning.{IsOwnedBy}
 

@@ -10,12 +10,12 @@ use Rattle.emc_base.proofs.Lists.{all_from_members}
 use Rattle.emc_base.proofs.Mapped.{contains_map}
 use Rattle.emc_base.proofs.Numbered.{all_pairs_map}
 use Rattle.case_laws.proofs.filled_rows.Pairs.{pairs_append}
-use Rattle.regions.proofs.region_laws.Choices.{pairs_nil}
+use Rattle.regions.proofs.region_laws.lists.Choices.{pairs_nil}
 use Rattle.round_trip.specs.Words.{SetId, TableId, ColId, Row, Schema, Table, Tables, At, AreLegalTables, rows_in, cells_of, key_columns}
-use Rattle.round_trip.specs.soundness.Mappings.{IsSoundSchema}
+use Rattle.round_trip.specs.soundness.mappings.Mappings.{IsSoundSchema}
 use Rattle.table_owners.specs.declared.table_writers.writer.Owner.{Owner}
 use Rattle.table_owners.specs.Owners.{TellsOwner}
-use Rattle.schema_laws.proofs.state_demand.Fitting.{key_is}
+use Rattle.schema_laws.proofs.state_demand.writings.Fitting.{key_is}
 use Rattle.table_files.proofs.Rising.{rising_apart}
 use Rattle.table_files.specs.InOrder.{AreToldApartBy}
 use Rattle.keyed_rows.specs.set_rows.Owning.{IsOwnedBy, IsKeyOrder}

@@ -4,7 +4,7 @@ use Rattle.std.specs.Prelude.{◌≡◌, ℕ, List, map, Contains}
 use Rattle.std.specs.List.{AllZip}
 use Rattle.round_trip.specs.Words.{SetId, TableId, PropId, ColId, Value, Pair, Schema, At, IsWritten, value_beside}
 use Rattle.round_trip.specs.soundness.Lookups.{set_key}
-use Rattle.round_trip.specs.soundness.Owners.{IsOwner, set}
+use Rattle.round_trip.specs.soundness.mappings.Owners.{IsOwner, set}
 use Rattle.schema_laws.specs.state_demand.Owners.{IsOwned, props_in}
 
 -- the column stands at a place where the property does

@@ -5,7 +5,7 @@ use Rattle.emc_base.specs.Lists.{At}
 use Rattle.emc_base.proofs.Mapped.{contains_at}
 use Rattle.emc_base.specs.declared.memory.Memory.{Memory}
 use Rattle.round_trip.specs.Words.{Place, Table}
-use Rattle.schema_laws.proofs.state_demand.Lists.{any_of}
+use Rattle.schema_laws.proofs.state_demand.lists.Lists.{any_of}
 use Rattle.mapping_core.specs.Words.{IsStateText, Loads, Schema, State, Tables}
 use Rattle.mapping_core.specs.declared.loading.LoadFault.{LoadFault}
 use Rattle.mapping_core.specs.declared.loading.LoadFault.TheVariants as load

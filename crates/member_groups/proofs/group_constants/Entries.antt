@@ -6,7 +6,7 @@ use Rattle.emc_base.specs.declared.value.EnumKind.{EnumKind}
 use Rattle.emc_base.specs.declared.value.Kind.TheVariants.{Byte, Int16, Int32, Int64, Boolean, Text, Binary, Enum}
 use Rattle.emc_base.proofs.Lists.{at_once}
 use Rattle.round_trip.specs.Words.{GroupId, EntityModel, Kind, Prop, Value, At}
-use Rattle.round_trip.specs.soundness.Joined.{prop}
+use Rattle.round_trip.specs.soundness.mappings.Joined.{prop}
 use Rattle.member_groups.specs.mapping_asks.Adding.{Each, HasKey, Tells}
 use Rattle.member_groups.specs.declared.group_numbers.numbered.Numbered.{Numbered}
 use Rattle.member_groups.specs.group_numbers.Joint.{joint_in}

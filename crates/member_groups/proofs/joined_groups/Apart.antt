@@ -5,7 +5,7 @@ use Rattle.std.proofs.lemmas.Bool.{cases_eq, cases_lt}
 use Rattle.std.proofs.lemmas.List.Sums.{sum_by-cons}
 use Rattle.std.proofs.lemmas.Option.{slice_get_within}
 use Rattle.round_trip.specs.Words.{ColId, PropId, Schema, Table, TableId, At}
-use Rattle.round_trip.specs.soundness.Joined.{IsNoKey, Member, col, prop}
+use Rattle.round_trip.specs.soundness.mappings.Joined.{IsNoKey, Member, col, prop}
 use Rattle.member_groups.specs.joined_groups.Places.{place_in, start_of}
 use Rattle.member_groups.proofs.joined_groups.Placed.{table_of}
 

@@ -4,8 +4,8 @@ use Rattle.std.specs.Prelude.{option_and_then}
 use Rattle.std.proofs.lemmas.Option.{same_Some}
 use Rattle.round_trip.specs.Words.{Fragment, Pair, Schema}
 use Rattle.emc_base.proofs.Lists.{item_at}
-use Rattle.round_trip.specs.soundness.Joined.{IsNoKey, Joined, Member, col, prop}
-use Rattle.round_trip.specs.soundness.Joined as joined
+use Rattle.round_trip.specs.soundness.mappings.Joined.{IsNoKey, Joined, Member, col, prop}
+use Rattle.round_trip.specs.soundness.mappings.Joined as joined
 use Rattle.groupings.specs.declared.linked_places.classes.Classes.{Classes}
 use Rattle.groupings.specs.declared.linked_places.classes.Link.{Link}
 use Rattle.groupings.specs.linked_places.Links.{IsClasses, IsLink, Linked}

@@ -9,7 +9,7 @@ use Rattle.std.proofs.lemmas.Bool.Decides.{Decides-and, Decides-eqb}
 use Rattle.std.proofs.lemmas.Cmp.{nat_cmp_total, tied_itself}
 use Rattle.std.proofs.lemmas.Map.Lookups.{exact_pairs, exact_unsigned}
 use Rattle.round_trip.specs.Words.{Schema}
-use Rattle.round_trip.specs.soundness.Joined.{Joined, Member, col, prop}
+use Rattle.round_trip.specs.soundness.mappings.Joined.{Joined, Member, col, prop}
 use Rattle.member_groups.specs.declared.joined_groups.groups.Groups.{Groups}
 use Rattle.member_groups.specs.joined_groups.Groups.{AreGroups, group_of}
 use Rattle.member_groups.proofs.joined_groups.Grouping.{joined_free}

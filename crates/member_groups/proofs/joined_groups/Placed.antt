@@ -6,7 +6,7 @@ use Rattle.std.proofs.lemmas.Option.{slice_get_cases, slice_get_within}
 use Rattle.round_trip.specs.Words.{ColId, Column, EntityModel, Mapping, Prop, PropId, Schema, StoreModel, Table, TableId, At, key_columns, key_props}
 use Rattle.emc_base.proofs.Lists.{at_once, item_at}
 use Rattle.round_trip.specs.soundness.Lookups.{columns_of}
-use Rattle.round_trip.specs.soundness.Joined.{IsNoKey, Member, col, prop}
+use Rattle.round_trip.specs.soundness.mappings.Joined.{IsNoKey, Member, col, prop}
 use Rattle.member_groups.specs.declared.joined_groups.places.Places.{Places}
 use Rattle.member_groups.specs.joined_groups.Places.{ArePlaces, ArePlacesUpTo, IsColumnOfKey, IsPropOfKey, held_at, place_in, place_of, start_of}
 use Rattle.member_groups.proofs.joined_groups.Placing.{held_only, held_some}

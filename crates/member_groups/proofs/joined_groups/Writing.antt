@@ -4,7 +4,7 @@ use Rattle.std.specs.Prelude.{option_and_then, option_map}
 use Rattle.std.proofs.lemmas.List.Elements.{Contains-append_left, Contains-push, Contains-push_cases}
 use Rattle.std.proofs.lemmas.Option.{same_Some}
 use Rattle.round_trip.specs.Words.{Fragment, Pair, TableId}
-use Rattle.round_trip.specs.soundness.Joined.{col, prop}
+use Rattle.round_trip.specs.soundness.mappings.Joined.{col, prop}
 use Rattle.groupings.specs.declared.linked_places.classes.Link.{Link}
 use Rattle.member_groups.specs.declared.joined_groups.places.Places.{Places}
 use Rattle.member_groups.specs.joined_groups.Places.{place_of}

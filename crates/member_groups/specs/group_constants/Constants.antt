@@ -5,7 +5,7 @@ use Rattle.std.specs.List.Sorted.{IsStrictlySortedBy}
 use Rattle.round_trip.specs.Words.{GroupId, Value, Whole, Kind, EntityModel, Prop, At}
 use Rattle.emc_base.specs.Order.{value_cmp}
 use Rattle.emc_base.specs.declared.value.Kind.TheVariants as kind
-use Rattle.round_trip.specs.soundness.Joined.{prop}
+use Rattle.round_trip.specs.soundness.mappings.Joined.{prop}
 use Rattle.member_groups.specs.declared.mapping_asks.asks.Ask.{Ask}
 use Rattle.member_groups.specs.declared.group_numbers.numbered.Numbered.{Numbered}
 use Rattle.member_groups.specs.mapping_asks.Adding.{Adds, Each, EachBelow, HasKey}

@@ -1,7 +1,7 @@
 -- The numbers of groups of what is no part of a key.
 use Rattle.std.specs.Prelude.{◌≡◌, ℕ, Option, Some, option_and_then}
 use Rattle.round_trip.specs.Words.{GroupId}
-use Rattle.round_trip.specs.soundness.Joined.{Member}
+use Rattle.round_trip.specs.soundness.mappings.Joined.{Member}
 use Rattle.member_groups.specs.joined_groups.Groups.{group_of}
 use Rattle.member_groups.specs.declared.group_numbers.numbered.Numbered.{Numbered}
 use Rattle.member_groups.specs.group_numbers.Numbers.{number_in}

@@ -2,7 +2,7 @@
 use Rattle.std.specs.Prelude.{◌≡◌, ℕ, List, length, slice_get, Option, option_and_then}
 use Rattle.std.specs.List.{IsDistinct}
 use Rattle.round_trip.specs.Words.{GroupId, EntityModel, StoreModel, Table, At}
-use Rattle.round_trip.specs.soundness.Joined.{Member, prop, col}
+use Rattle.round_trip.specs.soundness.mappings.Joined.{Member, prop, col}
 use Rattle.member_groups.specs.declared.joined_groups.groups.Groups.{Groups}
 use Rattle.member_groups.specs.declared.joined_groups.labels.Label.{Label}
 use Rattle.member_groups.specs.joined_groups.Labels.{label_eq, label_of}

@@ -2,7 +2,7 @@
 -- Source: the groups of properties and columns of this project's profile, over MSL version 3, ScalarProperty.
 use Rattle.std.specs.Prelude.{◌≡◌, ◌↔◌, ℕ, List, slice_get, Option, option_and_then, IsSome}
 use Rattle.round_trip.specs.Words.{EntityModel, StoreModel, Mapping, Fragment, Schema}
-use Rattle.round_trip.specs.soundness.Joined.{Member, IsNoKey, Joined}
+use Rattle.round_trip.specs.soundness.mappings.Joined.{Member, IsNoKey, Joined}
 use Rattle.member_groups.specs.declared.joined_groups.groups.Groups.{Groups}
 use Rattle.member_groups.specs.joined_groups.Places.{place_of}
 

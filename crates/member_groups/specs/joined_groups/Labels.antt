@@ -2,7 +2,7 @@
 use Rattle.std.specs.Prelude.{Bool}
 use Rattle.std.specs.Option.{option_map_or}
 use Rattle.std.specs.declared.cmp.Ordering.{Ordering}
-use Rattle.round_trip.specs.soundness.Joined.{Member, prop, col}
+use Rattle.round_trip.specs.soundness.mappings.Joined.{Member, prop, col}
 use Rattle.member_groups.specs.declared.joined_groups.groups.Groups.{Groups}
 use Rattle.member_groups.specs.joined_groups.Groups.{group_of}
 use Rattle.member_groups.specs.contracts.joined_groups.labels.LabelOrd.TheImpl as label_ord

@@ -1,7 +1,7 @@
 -- A place for each property and each column that is no part of a key: the properties come first, then the columns of one table after another.
 use Rattle.std.specs.Prelude.{◌≡◌, ◌+◌, ℕ, ◌<◌, List, [], ◌∷◌, ◌++◌, length, take, slice_get, sum_by, Contains, Option, Some, None, unwrap_or, IsSome}
 use Rattle.round_trip.specs.Words.{EntityModel, StoreModel, Prop, Table, Mapping, Schema, At, key_props}
-use Rattle.round_trip.specs.soundness.Joined.{Member, IsNoKey, prop, col}
+use Rattle.round_trip.specs.soundness.mappings.Joined.{Member, IsNoKey, prop, col}
 use Rattle.member_groups.specs.declared.joined_groups.places.Places.{Places}
 
 -- the property at a number is part of its type's key

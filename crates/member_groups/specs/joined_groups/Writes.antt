@@ -1,7 +1,7 @@
 -- The links between places that entity fragments give: from the property of each pair to its column.
 use Rattle.std.specs.Prelude.{◌≡◌, ◌⊎◌, ◌↔◌, List, Contains, Option, Some, option_and_then, option_map}
 use Rattle.round_trip.specs.Words.{TableId, Fragment, Pair}
-use Rattle.round_trip.specs.soundness.Joined.{prop, col}
+use Rattle.round_trip.specs.soundness.mappings.Joined.{prop, col}
 use Rattle.groupings.specs.declared.linked_places.classes.Link.{Link}
 use Rattle.member_groups.specs.declared.joined_groups.places.Places.{Places}
 use Rattle.member_groups.specs.joined_groups.Places.{place_of}

@@ -3,7 +3,7 @@
 use Rattle.std.specs.Prelude.{◌≡◌, ◌⊎◌, Option, Some, None}
 use Rattle.round_trip.specs.Words.{TableId, Value, Mapping, Fragment, Pair, LinkFragment, Cond, Test}
 use Rattle.edm_types.specs.declared.mapping.Test.TheVariants as test
-use Rattle.round_trip.specs.soundness.Joined.{Member, prop, col, member_of}
+use Rattle.round_trip.specs.soundness.mappings.Joined.{Member, prop, col, member_of}
 use Rattle.member_groups.specs.declared.mapping_asks.asks.Ask.{Ask}
 use Rattle.member_groups.specs.declared.mapping_asks.member.MemberId.{MemberId}
 use Rattle.member_groups.specs.declared.mapping_asks.member.MemberId.TheVariants.{Prop, Column}

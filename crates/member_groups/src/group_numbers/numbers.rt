@@ -1,5 +1,5 @@
 ghost use Rattle.std.specs.Prelude.{◌≡◌, IfOk, length};
-ghost use Rattle.round_trip.specs.soundness.Joined.{prop, col};
+ghost use Rattle.round_trip.specs.soundness.mappings.Joined.{prop, col};
 ghost use Rattle.member_groups.specs.joined_groups.Labels.{label_of};
 ghost use Rattle.member_groups.specs.group_numbers.Numbers.{AreNumbered, AreNumbers, AreTables, Grows, Notes, number_in};
 

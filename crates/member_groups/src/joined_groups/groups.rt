@@ -1,5 +1,5 @@
 ghost use Rattle.std.specs.Prelude.{◌≡◌, IfOk};
-ghost use Rattle.round_trip.specs.soundness.Joined.{prop, col};
+ghost use Rattle.round_trip.specs.soundness.mappings.Joined.{prop, col};
 ghost use Rattle.member_groups.specs.joined_groups.Groups.{TellsGroups, group_of};
 
 use crate::joined_groups::links::links_of;

@@ -1,5 +1,5 @@
 ghost use Rattle.std.specs.Prelude.{◌≡◌};
-ghost use Rattle.round_trip.specs.soundness.Joined.{prop, col};
+ghost use Rattle.round_trip.specs.soundness.mappings.Joined.{prop, col};
 ghost use Rattle.member_groups.specs.joined_groups.Labels.{label_of};
 
 use crate::joined_groups::groups::Groups;

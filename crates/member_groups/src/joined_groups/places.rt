@@ -1,6 +1,6 @@
 ghost use Rattle.std.specs.Prelude.{◌≡◌, ◌+◌, ◌<◌, ◌^◌, ◌↔◌, length, Contains, IfOk, IsTrue};
 ghost use Rattle.round_trip.specs.Words.{key_props};
-ghost use Rattle.round_trip.specs.soundness.Joined.{prop, col};
+ghost use Rattle.round_trip.specs.soundness.mappings.Joined.{prop, col};
 ghost use Rattle.member_groups.specs.joined_groups.Places.{ArePlacesOf, HavePlaces, IsAdded, IsColumnOfKey, IsPropOfKey, place_of};
 
 use edm_types::{EntityModel, StoreModel, Table};

@@ -1,5 +1,5 @@
 ghost use Rattle.std.specs.Prelude.{◌≡◌};
-ghost use Rattle.round_trip.specs.soundness.Joined.{member_of};
+ghost use Rattle.round_trip.specs.soundness.mappings.Joined.{member_of};
 ghost use Rattle.member_groups.specs.mapping_asks.Asks.{id_of};
 
 use edm_types::CondOn;

@@ -5,7 +5,7 @@ use Rattle.std.specs.Ordering.{is_eq}
 use Rattle.std.proofs.lemmas.List.Elements.{Contains-append_left, Contains-push, Contains-push_cases}
 use Rattle.emc_base.specs.Lists.{At}
 use Rattle.emc_base.proofs.Loops.{take_item}
-use Rattle.round_trip.specs.soundness.Joined.{Member}
+use Rattle.round_trip.specs.soundness.mappings.Joined.{Member}
 use Rattle.member_groups.specs.declared.joined_groups.groups.Groups.{Groups}
 use Rattle.msl_checks.specs.barred_members.Added.{Adds, Each}
 use Rattle.member_groups.specs.joined_groups.Labels.{label_cmp, label_of}

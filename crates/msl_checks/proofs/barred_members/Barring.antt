@@ -7,7 +7,7 @@ use Rattle.emc_base.proofs.Mapped.{contains_map}
 use Rattle.emc_base.proofs.Numbered.{map_contains}
 use Rattle.round_trip.specs.Words.{ColId, LinkFragment, Pair, Schema, TableId}
 use Rattle.round_trip.specs.FailsAt.{IsHostedAt}
-use Rattle.round_trip.specs.soundness.Joined.{Member, TellsOther, col, prop}
+use Rattle.round_trip.specs.soundness.mappings.Joined.{Member, TellsOther, col, prop}
 use Rattle.member_groups.specs.declared.joined_groups.groups.Groups.{Groups}
 use Rattle.member_groups.specs.joined_groups.Groups.{AreGroups}
 use Rattle.msl_checks.specs.barred_members.Added.{Adds, Constrains, Each, Hosts, HostsAt}

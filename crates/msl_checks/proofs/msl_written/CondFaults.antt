@@ -6,7 +6,7 @@ use Rattle.layouts.specs.declared.fault.Fault.{Fault}
 use Rattle.layouts.specs.declared.rule.Rule.TheVariants.{ConditionForm, ConditionValue, ForeignValue, KeyCondition}
 use Rattle.layouts.specs.rule_places.Places.{IsAt}
 use Rattle.round_trip.specs.Words.{Cond, CondOn, PropId}
-use Rattle.round_trip.specs.soundness.Joined.{ComparesNoBarred}
+use Rattle.round_trip.specs.soundness.mappings.Joined.{ComparesNoBarred}
 use Rattle.msl_rules.specs.declared.msl_lists.raw.RawCond.{RawCond}
 use Rattle.msl_rules.specs.Found.{on_in, test_of}
 use Rattle.msl_rules.specs.FragmentRules.{IsIllFormed, IsOfKey}

@@ -8,7 +8,7 @@ use Rattle.std.specs.Option.{is_some, option_map}
 use Rattle.msl_rules.specs.condition_values.Spelled.{spelled}
 use Rattle.edm_types.specs.declared.mapping.Test.TheVariants.{Equals}
 use Rattle.round_trip.specs.Words.{CondOn, Kind, Schema, TableId, Test, Value}
-use Rattle.round_trip.specs.soundness.Joined.{ComparesNoBarred, IsBarred, Member, member_of}
+use Rattle.round_trip.specs.soundness.mappings.Joined.{ComparesNoBarred, IsBarred, Member, member_of}
 use Rattle.msl_checks.specs.declared.barred_members.barred.Barred.{Barred}
 use Rattle.msl_checks.specs.barred_members.Told.{TellsBarred, is_told}
 use Rattle.msl_rules.specs.Found.{test_of}

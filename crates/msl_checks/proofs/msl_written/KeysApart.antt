@@ -9,9 +9,9 @@ use Rattle.emc_base.proofs.Lists.{item_at}
 use Rattle.emc_base.proofs.Mapped.{contains_at}
 use Rattle.edm_types.specs.Forest.{type_numbered}
 use Rattle.round_trip.specs.Words.{EntityModel, EntityType, TypeId, key_props}
-use Rattle.round_trip.specs.soundness.Inheritance.{IsRootKey}
-use Rattle.round_trip.specs.soundness.ModelIds.{IsTypeId}
-use Rattle.round_trip.specs.soundness.Models.{IsSoundModel}
+use Rattle.round_trip.specs.soundness.models.Inheritance.{IsRootKey}
+use Rattle.round_trip.specs.soundness.models.ModelIds.{IsTypeId}
+use Rattle.round_trip.specs.soundness.models.Models.{IsSoundModel}
 use Rattle.schema_names.specs.Inherited.{base_place}
 use Rattle.schema_names.proofs.Inherits.{fewer_left, sound_inherits, types_left}
 

@@ -3,7 +3,7 @@ use Rattle.std.specs.Prelude.{◌≡◌, ◌⊎◌, ◌↔◌, List, Contains, I
 use Rattle.std.specs.BTreeSet.{contains}
 use Rattle.round_trip.specs.Words.{PropId, TableId, Assoc, Constraint, Pair, LinkFragment, Schema}
 use Rattle.round_trip.specs.FailsAt.{IsHostedAt}
-use Rattle.round_trip.specs.soundness.Joined.{Member, prop, col}
+use Rattle.round_trip.specs.soundness.mappings.Joined.{Member, prop, col}
 use Rattle.member_groups.specs.declared.joined_groups.groups.Groups.{Groups}
 use Rattle.member_groups.specs.joined_groups.Labels.{label_cmp, label_of}
 use Rattle.msl_checks.specs.declared.barred_members.barred.Barred.{Barred}

@@ -3,7 +3,7 @@
 use Rattle.std.specs.Prelude.{◌↔◌, IsTrue, Bool}
 use Rattle.std.specs.BTreeSet.{contains}
 use Rattle.round_trip.specs.Words.{Schema}
-use Rattle.round_trip.specs.soundness.Joined.{Member, IsBarred}
+use Rattle.round_trip.specs.soundness.mappings.Joined.{Member, IsBarred}
 use Rattle.member_groups.specs.joined_groups.Labels.{label_cmp, label_of}
 use Rattle.msl_checks.specs.declared.barred_members.barred.Barred.{Barred}
 

@@ -3,8 +3,8 @@
 use Rattle.std.specs.Prelude.{◌≡◌, ℕ, List, MatchOption, Option, Some}
 use Rattle.round_trip.specs.Words.{PropId, TableId, ColId, Value, Kind, Pair, CondOn, Schema, key_columns}
 use Rattle.msl_rules.specs.condition_values.Spelled.{IsSpelled}
-use Rattle.round_trip.specs.soundness.Joined.{ComparesNoBarred}
-use Rattle.table_owners.specs.link_places.Between.{schema_of}
+use Rattle.round_trip.specs.soundness.mappings.Joined.{ComparesNoBarred}
+use Rattle.round_trip.specs.Between.{schema_of}
 use Rattle.msl_rules.specs.declared.msl_lists.raw.RawPair.{RawPair}
 use Rattle.msl_rules.specs.declared.msl_lists.raw.RawCond.{RawCond}
 use Rattle.msl_rules.specs.Found.{table_numbered, pair_in, kind_on, test_of}

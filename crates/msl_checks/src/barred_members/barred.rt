@@ -1,7 +1,7 @@
 ghost use Rattle.std.specs.Prelude.{◌≡◌, IfOk};
 ghost use Rattle.round_trip.specs.Words.{EntityModel, Mapping};
-ghost use Rattle.round_trip.specs.soundness.Joined.{Member, prop, col};
-ghost use Rattle.table_owners.specs.link_places.Between.{schema_of};
+ghost use Rattle.round_trip.specs.soundness.mappings.Joined.{Member, prop, col};
+ghost use Rattle.round_trip.specs.Between.{schema_of};
 ghost use Rattle.msl_checks.specs.barred_members.Told.{TellsBarred, is_told};
 ghost use Rattle.msl_checks.specs.barred_members.Added.{Adds, Each, IsProp, IsColumn, Constrains, HostsAt, Hosts};
 

@@ -1,7 +1,7 @@
 ghost use Rattle.std.specs.Prelude.{ℕ};
 ghost use Rattle.emc_base.specs.Lists.{AreApart, At};
 ghost use Rattle.round_trip.specs.Words.{EntityType};
-ghost use Rattle.table_owners.specs.link_places.Between.{schema_of};
+ghost use Rattle.round_trip.specs.Between.{schema_of};
 ghost use Rattle.msl_checks.specs.barred_members.Told.{TellsBarred};
 
 use crate::barred_members::Barred;

@@ -4,8 +4,8 @@ ghost use Rattle.groupings.specs.least_fault.Least.{IsLeast};
 ghost use Rattle.layouts.specs.Faults.{fault_cmp};
 ghost use Rattle.layouts.specs.declared.rule.Rule.TheVariants.{WrittenOnce};
 ghost use Rattle.layouts.specs.rule_places.Places.{InList, IsAt};
-ghost use Rattle.round_trip.specs.soundness.Fragments.{WritesToFitting};
-ghost use Rattle.round_trip.specs.soundness.Joined.{WritesNoBarredEnum};
+ghost use Rattle.round_trip.specs.soundness.mappings.Fragments.{WritesToFitting};
+ghost use Rattle.round_trip.specs.soundness.mappings.Joined.{WritesNoBarredEnum};
 ghost use Rattle.msl_rules.specs.FragmentRules.{IsEnumFault, IsUnfitFault, IsWrittenBefore};
 ghost use Rattle.msl_checks.specs.msl_written.Within.{meant_in, named_in, schema_in, table_in};
 ghost use Rattle.msl_checks.specs.msl_written.MeantAt.{meant_at};
@@ -14,9 +14,8 @@ use crate::msl_written::kinds::{column_kind, corresponds, is_enum, prop_kind};
 use crate::msl_written::repeats::first_twice_written;
 use crate::msl_written::rising::is_rising;
 use crate::msl_written::writing::Writing;
-use csdl_meaning::put_found;
 use edm_types::{CondOn, Pair};
-use emc_base::{Memory, Seq};
+use emc_base::{Memory, Seq, put_found};
 use groupings::Finder;
 use layouts::{Fault, Rule, fault_here_if, first_at};
 use msl_rules::RawPair;
@@ -145,7 +144,7 @@ impl<'a> Finder<RawPair, Fault> for Unfit<'a> {
     ghost use Rattle.std.specs.Prelude.{[], MatchOption};
     ghost use Rattle.layouts.specs.declared.rule.Rule.TheVariants.{Corresponds};
     ghost use Rattle.layouts.specs.rule_places.Places.{IsAt};
-    ghost use Rattle.round_trip.specs.soundness.Fragments.{WritesToFitting};
+    ghost use Rattle.round_trip.specs.soundness.mappings.Fragments.{WritesToFitting};
     ghost use Rattle.msl_checks.specs.msl_written.Within.{schema_in, table_in};
     ghost use Rattle.msl_checks.specs.msl_written.MeantAt.{meant_at};
 
@@ -182,7 +181,7 @@ impl<'a> Finder<RawPair, Fault> for ForeignEnums<'a> {
     ghost use Rattle.std.specs.Prelude.{[], MatchOption};
     ghost use Rattle.layouts.specs.declared.rule.Rule.TheVariants.{ForeignValue};
     ghost use Rattle.layouts.specs.rule_places.Places.{IsAt};
-    ghost use Rattle.round_trip.specs.soundness.Joined.{WritesNoBarredEnum};
+    ghost use Rattle.round_trip.specs.soundness.mappings.Joined.{WritesNoBarredEnum};
     ghost use Rattle.msl_checks.specs.msl_written.Within.{schema_in};
     ghost use Rattle.msl_checks.specs.msl_written.MeantAt.{meant_at};
 

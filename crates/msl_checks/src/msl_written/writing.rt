@@ -1,7 +1,7 @@
 ghost use Rattle.std.specs.Prelude.{◌≡◌, ◌↔◌, IsSome, IsTrue, option_map, slice_get};
 ghost use Rattle.edm_types.specs.declared.mapping.CondOn.TheVariants.{Col};
-ghost use Rattle.round_trip.specs.soundness.Joined.{IsBarred, member_of};
-ghost use Rattle.round_trip.specs.soundness.Joined.Member.{col as col_member};
+ghost use Rattle.round_trip.specs.soundness.mappings.Joined.{IsBarred, member_of};
+ghost use Rattle.round_trip.specs.soundness.mappings.Joined.Member.{col as col_member};
 ghost use Rattle.msl_checks.specs.msl_written.Within.{found_in, key_in, kind_in, schema_in, table_in};
 
 use crate::msl_written::between::Between;

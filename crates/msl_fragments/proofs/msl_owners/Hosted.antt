@@ -9,7 +9,7 @@ use Rattle.std.proofs.lemmas.List.Sums.{AllPass-from_list_all, list_all-from_All
 use Rattle.round_trip.specs.Words.{ColId, TableId, Assoc, LinkFragment, Mult, Pair, Schema, key_columns}
 use Rattle.round_trip.specs.FailsAt.{IsHostedAt}
 use Rattle.edm_types.specs.declared.model.Mult.TheVariants.{One, ZeroOrOne, Many}
-use Rattle.round_trip.specs.soundness.Owners.{IsJoined}
+use Rattle.round_trip.specs.soundness.mappings.Owners.{IsJoined}
 use Rattle.msl_rules.specs.OwnerRules.{are_exactly, is_among_cols, is_one}
 
 -- two tests of one fact answer alike

@@ -6,10 +6,11 @@ use Rattle.graphs.proofs.base_chains.Chains.{above_above}
 use Rattle.edm_types.specs.Forest.{type_numbered}
 use Rattle.edm_types.specs.IsA.{same, base, chain}
 use Rattle.round_trip.specs.Words.{EntityModel, EntityType, HasBase, IsA, TypeId}
-use Rattle.round_trip.specs.soundness.Models.{IsSoundModel}
+use Rattle.round_trip.specs.soundness.models.Models.{IsSoundModel}
 use Rattle.schema_names.specs.Inherited.{base_place}
 use Rattle.schema_names.proofs.Inherits.{has_base, sound_inherits}
-use Rattle.csdl_meaning.proofs.Stable.{settled, up_or_not}
+use Rattle.graphs.proofs.base_chains.Settled.{up_or_not}
+use Rattle.emc_base.proofs.Stable.{settled}
 
 -- up from what is up
 up_up : (above : ℕ → Option ℕ) (i j k : ℕ) → IsUpFrom above i j → IsUpFrom above j k → IsUpFrom above i k

@@ -4,7 +4,7 @@ use Rattle.std.specs.Option.{option_and_then}
 use Rattle.std.proofs.lemmas.Option.{same_Some}
 use Rattle.emc_base.proofs.Lists.{all_from_members}
 use Rattle.emc_base.specs.declared.value.Kind.TheVariants as kind
-use Rattle.graphs.proofs.base_chains.Orders.{place_of_member}
+use Rattle.graphs.proofs.base_chains.orders.Orders.{place_of_member}
 use Rattle.json_form.specs.declared.pointer.Step.{Step}
 use Rattle.json_form.specs.declared.pointer.Step.TheVariants.{Item, Member}
 use Rattle.layouts.specs.declared.rule.Rule.{Rule}
@@ -12,17 +12,15 @@ use Rattle.layouts.specs.declared.rule.Rule.TheVariants as rule
 use Rattle.edm_types.specs.declared.mapping.CondOn.TheVariants as on
 use Rattle.edm_types.specs.declared.mapping.Test.TheVariants.{Equals}
 use Rattle.round_trip.specs.Words.{Cond, CondOn, EntityModel, Kind, InDomain, PropId, Schema, StoreModel, Test, Value}
-use Rattle.round_trip.specs.soundness.Conditions.{AskOf, AskOfNoKeyColumn, AskOfNoKeyProp, ComparesInDomain, kind_of}
-use Rattle.round_trip.specs.soundness.Joined.{ComparesNoBarred}
+use Rattle.round_trip.specs.soundness.mappings.Conditions.{AskOf, AskOfNoKeyColumn, AskOfNoKeyProp, ComparesInDomain, kind_of}
+use Rattle.round_trip.specs.soundness.mappings.Joined.{ComparesNoBarred}
 use Rattle.round_trip.specs.soundness.Kinds.{IsBinary}
 use Rattle.round_trip.specs.soundness.Lookups.{set_key}
-use Rattle.round_trip.specs.soundness.Mappings.{IsCondId}
+use Rattle.round_trip.specs.soundness.mappings.Mappings.{IsCondId}
 use Rattle.msl_rules.specs.condition_values.Spelled.{IsSpelled, spelled}
-use Rattle.csdl_meaning.proofs.Bases.{and_then_some}
-use Rattle.csdl_meaning.proofs.FaultPlaces.{fault_at, in_list}
-use Rattle.csdl_meaning.proofs.FoundItems.{member_of}
-use Rattle.csdl_meaning.proofs.Keys.{map_some}
-use Rattle.csdl_meaning.proofs.Lists.{in_found}
+use Rattle.emc_base.proofs.FoundItems.{and_then_some, member_of, map_some}
+use Rattle.layouts.proofs.rule_places.FaultPlaces.{fault_at, in_list}
+use Rattle.emc_base.proofs.Joined.{in_found}
 use Rattle.schema_names.specs.SchemaNames.{column_named}
 use Rattle.msl_rules.specs.declared.msl_lists.raw.RawCond.{RawCond}
 use Rattle.msl_rules.specs.declared.msl_lists.raw.RawMapping.{RawMapping}

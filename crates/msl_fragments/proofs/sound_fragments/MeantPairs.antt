@@ -3,22 +3,20 @@ use Rattle.std.proofs.Common.{◌≡◌, ◌≢◌, inl, inr, ℕ, List, [], ◌
 use Rattle.emc_base.specs.Lists.{At}
 use Rattle.emc_base.proofs.Lists.{all_from_members}
 use Rattle.emc_base.proofs.Numbered.{all_pairs_map}
-use Rattle.graphs.proofs.base_chains.Orders.{place_of_member}
+use Rattle.graphs.proofs.base_chains.orders.Orders.{place_of_member}
 use Rattle.json_form.specs.declared.pointer.Step.TheVariants.{Item, Member}
 use Rattle.layouts.specs.declared.rule.Rule.TheVariants as rule
 use Rattle.layouts.specs.rule_places.Places.{IsAt}
 use Rattle.round_trip.specs.Words.{EntityModel, Pair, PropId, Schema, StoreModel, key_columns}
-use Rattle.round_trip.specs.soundness.Fragments.{WritesOnce, WritesToFitting}
-use Rattle.round_trip.specs.soundness.Joined.{WritesNoBarredEnum}
+use Rattle.round_trip.specs.soundness.mappings.Fragments.{WritesOnce, WritesToFitting}
+use Rattle.round_trip.specs.soundness.mappings.Joined.{WritesNoBarredEnum}
 use Rattle.round_trip.specs.soundness.Lookups.{set_key}
-use Rattle.round_trip.specs.soundness.Mappings.{HasPairIds}
+use Rattle.round_trip.specs.soundness.mappings.Mappings.{HasPairIds}
 use Rattle.table_owners.specs.key_matching.Matchings.{Matches}
 use Rattle.groupings.proofs.name_places.FirstPlaces.{names_apart}
-use Rattle.csdl_meaning.proofs.Bases.{and_then_some}
-use Rattle.csdl_meaning.proofs.FaultPlaces.{fault_at, in_list}
-use Rattle.csdl_meaning.proofs.FoundItems.{pairs_found}
-use Rattle.csdl_meaning.proofs.Keys.{map_some}
-use Rattle.csdl_meaning.proofs.Lists.{in_found}
+use Rattle.emc_base.proofs.FoundItems.{and_then_some, pairs_found, map_some}
+use Rattle.layouts.proofs.rule_places.FaultPlaces.{fault_at, in_list}
+use Rattle.emc_base.proofs.Joined.{in_found}
 use Rattle.schema_names.specs.SchemaNames.{column_named}
 use Rattle.msl_rules.specs.declared.msl_lists.raw.RawMapping.{RawMapping}
 use Rattle.msl_rules.specs.declared.msl_lists.raw.RawPair.{RawPair}

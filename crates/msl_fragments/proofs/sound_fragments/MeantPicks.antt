@@ -6,18 +6,17 @@ use Rattle.std.proofs.lemmas.Option.{same_Some}
 use Rattle.emc_base.specs.Lists.{At}
 use Rattle.emc_base.proofs.Lists.{all_from_members}
 use Rattle.emc_base.proofs.Mapped.{contains_at}
-use Rattle.graphs.proofs.base_chains.Orders.{place_of_member}
+use Rattle.graphs.proofs.base_chains.orders.Orders.{place_of_member}
 use Rattle.json_form.specs.declared.pointer.Step.TheVariants.{Item, Member}
 use Rattle.layouts.specs.declared.rule.Rule.TheVariants.{SharedProperty}
 use Rattle.edm_types.specs.Forest.{type_numbered}
 use Rattle.round_trip.specs.Words.{EntityModel, EntitySet, IsA, Pick, PropId, StoreModel, props_of}
 use Rattle.round_trip.specs.soundness.Lookups.{IsUnderElement}
-use Rattle.round_trip.specs.soundness.ModelIds.{IsTypeId}
+use Rattle.round_trip.specs.soundness.models.ModelIds.{IsTypeId}
 use Rattle.groupings.proofs.name_places.FirstPlaces.{first_has}
-use Rattle.csdl_meaning.proofs.FaultPlaces.{fault_at, in_list}
-use Rattle.csdl_meaning.proofs.FoundItems.{some_member}
-use Rattle.csdl_meaning.proofs.Keys.{map_some}
-use Rattle.csdl_meaning.proofs.Lists.{in_found}
+use Rattle.layouts.proofs.rule_places.FaultPlaces.{fault_at, in_list}
+use Rattle.emc_base.proofs.FoundItems.{some_member, map_some}
+use Rattle.emc_base.proofs.Joined.{in_found}
 use Rattle.schema_names.specs.SchemaNames.{prop_named, type_named}
 use Rattle.msl_rules.specs.declared.msl_lists.raw.RawCond.{RawCond}
 use Rattle.msl_rules.specs.declared.msl_lists.raw.RawMapping.{RawMapping}

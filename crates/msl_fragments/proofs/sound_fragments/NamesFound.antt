@@ -6,13 +6,13 @@ use Rattle.std.proofs.lemmas.Option.{same_Some, slice_get_within}
 use Rattle.std.proofs.lemmas.Slice.Eq.{bytes_eq-Decides}
 use Rattle.emc_base.specs.Lists.{At}
 use Rattle.emc_base.proofs.Lists.{at_once}
-use Rattle.graphs.proofs.base_chains.Members.{contains_head, contains_tail}
+use Rattle.emc_base.proofs.Members.{contains_head, contains_tail}
 use Rattle.edm_types.specs.Forest.{type_numbered}
 use Rattle.round_trip.specs.Words.{Column, EntityModel, Prop, PropId, StoreModel, Table, props_of}
 use Rattle.round_trip.specs.soundness.Lookups.{columns_of}
 use Rattle.groupings.specs.name_places.GivenNames.{first_place}
 use Rattle.groupings.proofs.name_places.FirstPlaces.{first_has}
-use Rattle.csdl_meaning.proofs.Bases.{and_then_some}
+use Rattle.emc_base.proofs.FoundItems.{and_then_some}
 use Rattle.schema_names.specs.SchemaNames.{column_named, has_name, local_name, prop_named, type_named}
 use Rattle.msl_rules.specs.declared.msl_lists.raw.RawPick.{RawPick}
 use Rattle.msl_rules.specs.Found.{prop_of_picks, table_numbered}

@@ -5,10 +5,10 @@ use Rattle.emc_base.proofs.Lists.{all_from_members}
 use Rattle.edm_types.specs.declared.mapping.CondOn.TheVariants as on
 use Rattle.groupings.proofs.name_places.FirstPlaces.{first_has}
 use Rattle.round_trip.specs.Words.{Cond, EntityModel, Pair, PropId, StoreModel, key_columns, props_of}
-use Rattle.round_trip.specs.soundness.Fragments.{NamesSharedProps, WritesKey}
+use Rattle.round_trip.specs.soundness.mappings.Fragments.{NamesSharedProps, WritesKey}
 use Rattle.round_trip.specs.soundness.Lookups.{set_key}
-use Rattle.round_trip.specs.soundness.Mappings.{HasFragmentIds, IsSoundFragment}
-use Rattle.csdl_meaning.proofs.FoundItems.{member_of}
+use Rattle.round_trip.specs.soundness.mappings.Mappings.{HasFragmentIds, IsSoundFragment}
+use Rattle.emc_base.proofs.FoundItems.{member_of}
 use Rattle.msl_rules.specs.declared.msl_lists.raw.RawMapping.{RawMapping}
 use Rattle.msl_rules.specs.Found.{prop_of_picks}
 use Rattle.msl_rules.specs.KeepsMapping.{KeepsMappingRules}

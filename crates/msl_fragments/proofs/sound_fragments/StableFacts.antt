@@ -11,11 +11,11 @@ use Rattle.std.proofs.lemmas.Map.Made.{is_member-Decides}
 use Rattle.emc_base.specs.Lists.{HoldsEachOnce}
 use Rattle.emc_base.proofs.Lists.{all_from_members}
 use Rattle.emc_base.proofs.Mapped.{contains_map}
-use Rattle.graphs.proofs.base_chains.Members.{in_map}
+use Rattle.emc_base.proofs.Members.{in_map}
 use Rattle.round_trip.specs.Words.{ColId, Pair, PropId}
 use Rattle.table_owners.specs.key_matching.Matchings.{Matches}
-use Rattle.csdl_meaning.proofs.FoundItems.{some_member}
-use Rattle.csdl_meaning.proofs.Stable.{stable}
+use Rattle.emc_base.proofs.FoundItems.{some_member}
+use Rattle.emc_base.proofs.Stable.{stable}
 
 -- tests of ids
 abbrev same_prop : PropId → PropId → Bool

@@ -16,7 +16,7 @@ use Rattle.emc_base.specs.declared.value.Under.TheVariants as under
 use Rattle.emc_base.specs.declared.value.Value.TheVariants as value
 use Rattle.round_trip.specs.Words.{InDomain, Kind, Value}
 use Rattle.round_trip.specs.soundness.Kinds.{Corresponds, IsNoSmaller, under_kind}
-use Rattle.csdl_meaning.proofs.Stable.{stable}
+use Rattle.emc_base.proofs.Stable.{stable}
 
 -- a number for each kind without parts, and larger ones for the others
 abbrev number_of : Kind → ℕ

@@ -4,7 +4,7 @@ use Rattle.std.proofs.Common.{◌≡◌, inl, inr, ℕ, List, [], ◌∷◌, Con
 use Rattle.std.specs.List.{Any, enumerate_from}
 use Rattle.emc_base.specs.Lists.{At}
 use Rattle.emc_base.proofs.Numbered.{enumerated_at}
-use Rattle.graphs.proofs.base_chains.Members.{in_map}
+use Rattle.emc_base.proofs.Members.{in_map}
 use Rattle.json_form.specs.declared.pointer.Step.{Step}
 use Rattle.json_form.specs.declared.pointer.Step.TheVariants.{Item, Member}
 use Rattle.json_form.specs.Pointers.{pointer_of}
@@ -13,10 +13,9 @@ use Rattle.layouts.specs.declared.rule.Rule.{Rule}
 use Rattle.layouts.specs.declared.rule.Rule.TheVariants.{PickedType}
 use Rattle.layouts.specs.rule_places.Places.{InList}
 use Rattle.round_trip.specs.Words.{EntityModel, EntitySet, Fragment, StoreModel}
-use Rattle.csdl_meaning.proofs.Bases.{and_then_some}
-use Rattle.csdl_meaning.proofs.FaultPlaces.{fault_at, in_list}
-use Rattle.csdl_meaning.proofs.Keys.{map_some}
-use Rattle.csdl_meaning.proofs.Lists.{in_flat_map, in_found}
+use Rattle.emc_base.proofs.FoundItems.{and_then_some, map_some}
+use Rattle.layouts.proofs.rule_places.FaultPlaces.{fault_at, in_list}
+use Rattle.emc_base.proofs.Joined.{in_flat_map, in_found}
 use Rattle.schema_names.specs.SchemaNames.{set_named, table_named}
 use Rattle.msl_rules.specs.declared.msl_lists.raw.RawFragment.{RawFragment}
 use Rattle.msl_rules.specs.declared.msl_lists.raw.RawMapping.{RawMapping}

@@ -8,18 +8,18 @@ use Rattle.std.proofs.lemmas.Option.{slice_get_within}
 use Rattle.emc_base.specs.Lists.{At, AreApart}
 use Rattle.emc_base.proofs.Lists.{all_from_members, at_once}
 use Rattle.emc_base.proofs.Mapped.{contains_at, contains_map}
-use Rattle.graphs.proofs.base_chains.Members.{in_map}
-use Rattle.graphs.proofs.base_chains.Orders.{place_of_member}
+use Rattle.emc_base.proofs.Members.{in_map}
+use Rattle.graphs.proofs.base_chains.orders.Orders.{place_of_member}
 use Rattle.json_form.specs.declared.pointer.Step.TheVariants.{Item, Member}
 use Rattle.layouts.specs.declared.rule.Rule.TheVariants as rule
 use Rattle.layouts.specs.rule_places.Places.{IsAt}
 use Rattle.round_trip.specs.Words.{ColId, End, EntityModel, Pair, PropId, StoreModel, key_props}
-use Rattle.round_trip.specs.soundness.Fragments.{WritesEndKey, WritesLinkOnce, WritesToFitting}
-use Rattle.round_trip.specs.soundness.Mappings.{HasPairIds}
+use Rattle.round_trip.specs.soundness.mappings.Fragments.{WritesEndKey, WritesLinkOnce, WritesToFitting}
+use Rattle.round_trip.specs.soundness.mappings.Mappings.{HasPairIds}
 use Rattle.groupings.proofs.name_places.FirstPlaces.{names_apart}
 use Rattle.schema_names.specs.SchemaNames.{column_named, prop_named}
-use Rattle.csdl_meaning.proofs.FaultPlaces.{fault_at, in_list}
-use Rattle.csdl_meaning.proofs.Lists.{apart-append, in_found}
+use Rattle.layouts.proofs.rule_places.FaultPlaces.{fault_at, in_list}
+use Rattle.emc_base.proofs.Joined.{apart-append, in_found}
 use Rattle.msl_rules.specs.declared.msl_lists.raw.RawEndMapping.{RawEndMapping}
 use Rattle.msl_rules.specs.declared.msl_lists.raw.RawMapping.{RawMapping}
 use Rattle.msl_rules.specs.declared.msl_lists.raw.RawPair.{RawPair}

@@ -6,10 +6,9 @@ use Rattle.edm_types.specs.declared.mapping.CondOn.TheVariants as on
 use Rattle.edm_types.specs.declared.mapping.Test.TheVariants.{Equals}
 use Rattle.emc_base.specs.declared.value.Kind.TheVariants as kinds
 use Rattle.round_trip.specs.Words.{Cond, CondOn, InDomain, Kind, PropId, Schema, Test, Value}
-use Rattle.round_trip.specs.soundness.Conditions.{ComparesInDomain, kind_of}
+use Rattle.round_trip.specs.soundness.mappings.Conditions.{ComparesInDomain, kind_of}
 use Rattle.round_trip.specs.soundness.Kinds.{IsBinary}
-use Rattle.csdl_meaning.proofs.Bases.{and_then_some}
-use Rattle.csdl_meaning.proofs.Keys.{map_some}
+use Rattle.emc_base.proofs.FoundItems.{and_then_some, map_some}
 use Rattle.msl_rules.specs.declared.msl_lists.raw.RawCond.{RawCond}
 use Rattle.msl_rules.specs.Found.{cond_in, kind_on, on_in, table_numbered, test_of}
 use Rattle.msl_rules.specs.FragmentRules.{IsNoValue}

@@ -7,14 +7,12 @@ use Rattle.emc_base.proofs.Lists.{all_from_members}
 use Rattle.emc_base.proofs.Numbered.{all_pairs_map}
 use Rattle.round_trip.specs.Words.{ColId, Column, Pair, PropId, Schema, StoreModel, Table}
 use Rattle.round_trip.specs.soundness.Lookups.{columns_of}
-use Rattle.round_trip.specs.soundness.Mappings.{HasPairIds}
-use Rattle.round_trip.specs.soundness.ModelIds.{IsPropId}
+use Rattle.round_trip.specs.soundness.mappings.Mappings.{HasPairIds}
+use Rattle.round_trip.specs.soundness.models.ModelIds.{IsPropId}
 use Rattle.groupings.proofs.name_places.FirstPlaces.{first_has}
 use Rattle.schema_names.specs.SchemaNames.{column_named}
-use Rattle.csdl_meaning.proofs.Bases.{and_then_some}
-use Rattle.csdl_meaning.proofs.FoundItems.{pairs_found}
-use Rattle.csdl_meaning.proofs.Keys.{map_some}
-use Rattle.csdl_meaning.proofs.Lists.{in_found}
+use Rattle.emc_base.proofs.FoundItems.{and_then_some, pairs_found, map_some}
+use Rattle.emc_base.proofs.Joined.{in_found}
 use Rattle.msl_rules.specs.declared.msl_lists.raw.RawPair.{RawPair}
 use Rattle.msl_rules.specs.Found.{col_numbered, pair_in, pairs_in, table_numbered}
 use Rattle.msl_fragments.proofs.sound_links.OneName.{named_column, one_column}

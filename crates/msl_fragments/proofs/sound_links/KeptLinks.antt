@@ -8,12 +8,11 @@ use Rattle.layouts.specs.declared.fault.Fault.{Fault}
 use Rattle.layouts.specs.declared.rule.Rule.{Rule}
 use Rattle.layouts.specs.declared.rule.Rule.TheVariants as rule
 use Rattle.round_trip.specs.Words.{Assoc, End, EntityModel, IsIndependent, LinkFragment, Schema, StoreModel}
-use Rattle.round_trip.specs.soundness.Owners.{IsPlaced}
+use Rattle.round_trip.specs.soundness.mappings.Owners.{IsPlaced}
 use Rattle.layouts.specs.rule_places.Places.{InList}
 use Rattle.groupings.proofs.name_places.FirstPlaces.{names_apart}
-use Rattle.csdl_names.specs.Repeated.{IsRepeatedIn}
-use Rattle.csdl_meaning.proofs.FaultPlaces.{fault_at, in_list}
-use Rattle.csdl_meaning.proofs.KeptNames.{repeated_in}
+use Rattle.layouts.specs.rule_places.Names.{IsRepeatedIn}
+use Rattle.layouts.proofs.rule_places.FaultPlaces.{fault_at, in_list, repeated_in}
 use Rattle.msl_rules.specs.declared.msl_lists.raw.RawCond.{RawCond}
 use Rattle.msl_rules.specs.declared.msl_lists.raw.RawEndMapping.{RawEndMapping}
 use Rattle.msl_rules.specs.declared.msl_lists.raw.RawMapping.{RawMapping}

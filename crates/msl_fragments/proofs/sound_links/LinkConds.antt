@@ -3,19 +3,18 @@ use Rattle.std.proofs.Common.{◌≡◌, inl, inr, ℕ, List, [], ◌∷◌, All
 use Rattle.std.specs.Option.{MatchOption}
 use Rattle.emc_base.specs.Lists.{At}
 use Rattle.emc_base.proofs.Lists.{all_from_members}
-use Rattle.graphs.proofs.base_chains.Orders.{place_of_member}
+use Rattle.graphs.proofs.base_chains.orders.Orders.{place_of_member}
 use Rattle.edm_types.specs.declared.mapping.CondOn.TheVariants as on
 use Rattle.json_form.specs.declared.pointer.Step.TheVariants.{Member}
 use Rattle.layouts.specs.declared.rule.Rule.TheVariants as rule
 use Rattle.round_trip.specs.Words.{ColId, Cond, CondOn, EntityModel, PropId, Schema, StoreModel}
-use Rattle.round_trip.specs.soundness.Conditions.{AskOfNoKeyColumn, AskOfNoProp, ComparesInDomain}
-use Rattle.round_trip.specs.soundness.Joined.{ComparesNoBarred}
-use Rattle.round_trip.specs.soundness.Mappings.{IsCondId}
+use Rattle.round_trip.specs.soundness.mappings.Conditions.{AskOfNoKeyColumn, AskOfNoProp, ComparesInDomain}
+use Rattle.round_trip.specs.soundness.mappings.Joined.{ComparesNoBarred}
+use Rattle.round_trip.specs.soundness.mappings.Mappings.{IsCondId}
 use Rattle.schema_names.specs.SchemaNames.{column_named}
-use Rattle.csdl_meaning.proofs.FaultPlaces.{fault_at}
-use Rattle.csdl_meaning.proofs.FoundItems.{member_of}
-use Rattle.csdl_meaning.proofs.Keys.{map_some}
-use Rattle.csdl_meaning.proofs.Lists.{in_found}
+use Rattle.layouts.proofs.rule_places.FaultPlaces.{fault_at}
+use Rattle.emc_base.proofs.FoundItems.{member_of, map_some}
+use Rattle.emc_base.proofs.Joined.{in_found}
 use Rattle.msl_rules.specs.declared.msl_lists.raw.RawCond.{RawCond}
 use Rattle.msl_rules.specs.declared.msl_lists.raw.RawMapping.{RawMapping}
 use Rattle.msl_rules.specs.Found.{col_numbered, cond_in, conds_in, named_on, on_in, table_numbered}

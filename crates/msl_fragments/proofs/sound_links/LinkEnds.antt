@@ -4,10 +4,10 @@ use Rattle.std.specs.Str.{bytes_eq}
 use Rattle.std.proofs.lemmas.Bool.{false_from_ne_true}
 use Rattle.std.proofs.lemmas.Slice.Eq.{bytes_eq-Decides}
 use Rattle.emc_base.specs.Lists.{At}
-use Rattle.graphs.proofs.base_chains.Members.{contains_head, contains_tail}
+use Rattle.emc_base.proofs.Members.{contains_head, contains_tail}
 use Rattle.round_trip.specs.Words.{Assoc, End}
 use Rattle.schema_names.specs.declared.ends.WhichEnd.TheVariants.{First, Second}
-use Rattle.csdl_meaning.proofs.Finds.{found_named, named_found}
+use Rattle.groupings.proofs.name_places.Finds.{found_named, named_found}
 use Rattle.msl_rules.specs.declared.msl_lists.raw.RawEndMapping.{RawEndMapping}
 use Rattle.msl_rules.specs.Found.{end_at, role_end}
 

@@ -5,13 +5,12 @@ use Rattle.std.specs.Option.{option_and_then}
 use Rattle.emc_base.specs.Lists.{At}
 use Rattle.emc_base.proofs.Lists.{all_from_members}
 use Rattle.emc_base.proofs.Numbered.{enumerated_at}
-use Rattle.graphs.proofs.base_chains.Members.{in_map}
+use Rattle.emc_base.proofs.Members.{in_map}
 use Rattle.json_form.specs.Pointers.{pointer_of}
 use Rattle.round_trip.specs.Words.{Assoc, EntityModel, LinkFragment, StoreModel}
 use Rattle.schema_names.specs.SchemaNames.{association_set_named, table_named}
-use Rattle.csdl_meaning.proofs.Bases.{and_then_some}
-use Rattle.csdl_meaning.proofs.Keys.{map_some}
-use Rattle.csdl_meaning.proofs.Lists.{in_found}
+use Rattle.emc_base.proofs.FoundItems.{and_then_some, map_some}
+use Rattle.emc_base.proofs.Joined.{in_found}
 use Rattle.msl_rules.specs.declared.msl_lists.raw.RawLinkMapping.{RawLinkMapping}
 use Rattle.msl_rules.specs.declared.msl_lists.raw.RawMapping.{RawMapping}
 use Rattle.msl_rules.specs.MappingMeaning.{link_at, link_with, mapping_in}

@@ -3,8 +3,8 @@ use Rattle.std.proofs.Common.{◌≢◌, ◌⊎◌, inl, inr, ℕ, List, ◌++�
 use Rattle.edm_types.specs.declared.model.Mult.TheVariants.{One, ZeroOrOne, Many}
 use Rattle.round_trip.specs.FailsAt.{IsHostedAt}
 use Rattle.round_trip.specs.Words.{Assoc, LinkFragment, Mult, Pair, PropId, Schema, TableId, key_columns}
-use Rattle.round_trip.specs.soundness.Owners.{IsJoined, IsPlaced}
-use Rattle.csdl_meaning.proofs.Stable.{settled}
+use Rattle.round_trip.specs.soundness.mappings.Owners.{IsJoined, IsPlaced}
+use Rattle.emc_base.proofs.Stable.{settled}
 use Rattle.msl_rules.specs.LinkRules.{WritesJust}
 use Rattle.msl_fragments.proofs.sound_links.Stable.{all_stable, all_told, col_told, or_told, prop_told}
 

@@ -9,11 +9,11 @@ use Rattle.emc_base.proofs.Lists.{all_from_members, at_once}
 use Rattle.emc_base.proofs.Mapped.{contains_at}
 use Rattle.emc_base.proofs.Numbered.{all_pairs_map}
 use Rattle.round_trip.specs.Words.{Assoc, AssocId, EntityModel, LinkFragment, StoreModel}
-use Rattle.round_trip.specs.soundness.Mappings.{HasLinkFragmentIds, IsSoundLinkFragment}
+use Rattle.round_trip.specs.soundness.mappings.Mappings.{HasLinkFragmentIds, IsSoundLinkFragment}
 use Rattle.groupings.proofs.name_places.FirstPlaces.{first_has}
 use Rattle.schema_names.specs.SchemaNames.{association_set_named}
-use Rattle.csdl_meaning.proofs.FoundItems.{pairs_found}
-use Rattle.csdl_meaning.proofs.Lists.{in_enumerated, pairs_head, pairs_tail}
+use Rattle.emc_base.proofs.FoundItems.{pairs_found}
+use Rattle.emc_base.proofs.Joined.{in_enumerated, pairs_head, pairs_tail}
 use Rattle.msl_rules.specs.declared.msl_lists.raw.RawLinkMapping.{RawLinkMapping}
 use Rattle.msl_rules.specs.declared.msl_lists.raw.RawMapping.{RawMapping}
 use Rattle.msl_rules.specs.KeepsMapping.{KeepsMappingRules}

@@ -18,7 +18,7 @@ use Rattle.emc_base.specs.declared.value.Value.TheVariants as value
 use Rattle.emc_base.proofs.Lists.{all_from_members}
 use Rattle.round_trip.specs.Words.{ColId, InDomain, Kind, PropId, Value}
 use Rattle.round_trip.specs.soundness.Kinds.{Corresponds, IsNoSmaller, under_kind}
-use Rattle.csdl_meaning.proofs.Stable.{stable, told}
+use Rattle.emc_base.proofs.Stable.{stable, told}
 
 -- one of two facts that are so or aren't
 pub or_told : {P Q : Type 0} → P ⊎ (¬ P) → Q ⊎ (¬ Q) → (P ⊎ Q) ⊎ (¬ (P ⊎ Q))

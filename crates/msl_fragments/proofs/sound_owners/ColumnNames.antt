@@ -3,14 +3,13 @@ use Rattle.std.proofs.Common.{◌≡◌, ℕ, List, Contains, Option, Some, opti
 use Rattle.std.proofs.lemmas.Option.{same_Some}
 use Rattle.emc_base.specs.Lists.{At}
 use Rattle.emc_base.proofs.Lists.{at_once, same_place}
-use Rattle.graphs.proofs.base_chains.Orders.{place_of_member}
+use Rattle.graphs.proofs.base_chains.orders.Orders.{place_of_member}
 use Rattle.groupings.specs.name_places.GivenNames.{IsGivenBefore, first_place}
 use Rattle.groupings.proofs.name_places.FirstPlaces.{first_has, names_apart}
 use Rattle.round_trip.specs.Words.{ColId, EntityModel, Pair, PropId, StoreModel, Table}
 use Rattle.schema_names.specs.SchemaNames.{column_named}
-use Rattle.csdl_meaning.proofs.Bases.{and_then_some}
-use Rattle.csdl_meaning.proofs.Keys.{map_some}
-use Rattle.csdl_meaning.proofs.Lists.{in_found}
+use Rattle.emc_base.proofs.FoundItems.{and_then_some, map_some}
+use Rattle.emc_base.proofs.Joined.{in_found}
 use Rattle.msl_rules.specs.declared.msl_lists.raw.RawPair.{RawPair}
 use Rattle.msl_rules.specs.Found.{col_numbered, pair_in, pairs_in}
 

@@ -9,10 +9,10 @@ use Rattle.emc_base.specs.Lists.{At}
 use Rattle.emc_base.proofs.Mapped.{contains_at}
 use Rattle.edm_types.specs.IsA as is
 use Rattle.round_trip.specs.Words.{Assoc, End, EntityModel, EntityType, EntitySet, IsA, TypeId, key_props}
-use Rattle.round_trip.specs.soundness.Constraints.{IsSoundAssoc, IsSoundEnd}
-use Rattle.round_trip.specs.soundness.Inheritance.{IsRootKey}
+use Rattle.round_trip.specs.soundness.models.Constraints.{IsSoundAssoc, IsSoundEnd}
+use Rattle.round_trip.specs.soundness.models.Inheritance.{IsRootKey}
 use Rattle.round_trip.specs.soundness.Lookups.{set_key}
-use Rattle.round_trip.specs.soundness.Models.{IsSoundModel}
+use Rattle.round_trip.specs.soundness.models.Models.{IsSoundModel}
 use Rattle.schema_names.specs.declared.ends.WhichEnd.TheVariants.{First, Second}
 use Rattle.msl_rules.specs.Found.{end_at, role_end}
 

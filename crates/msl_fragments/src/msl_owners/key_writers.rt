@@ -4,9 +4,8 @@ ghost use Rattle.msl_rules.specs.Found.{pairs_in, table_numbered};
 ghost use Rattle.msl_fragments.specs.msl_owners.SetWriters.{writer_of_set};
 
 use crate::msl_owners::keys::{found_key_pairs, key_columns, key_pairs, set_key};
-use csdl_meaning::narrow;
 use edm_types::Pair;
-use emc_base::{Memory, Seq, SetId, TableId};
+use emc_base::{Memory, Seq, SetId, TableId, narrow};
 use msl_meaning::InTable;
 use msl_rules::RawPair;
 use schema_names::SchemaNames;

@@ -7,9 +7,8 @@ ghost use Rattle.msl_rules.specs.Found.{pair_in, pairs_in};
 ghost use Rattle.msl_rules.specs.OwnerRules.{is_among_cols, is_among_props, key_pairs};
 ghost use Rattle.msl_fragments.specs.msl_owners.KeyPairs.{is_column_named, of_key};
 
-use csdl_meaning::put_found;
 use edm_types::{EntityModel, Pair, StoreModel, Table};
-use emc_base::{ColId, Memory, PropId, Seq, SetId, TableId, Txt};
+use emc_base::{ColId, Memory, PropId, Seq, SetId, TableId, Txt, put_found};
 use msl_meaning::InTable;
 use msl_rules::RawPair;
 use std::alloc::Global;

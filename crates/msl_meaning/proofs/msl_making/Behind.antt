@@ -4,7 +4,7 @@ use Rattle.std.specs.List.{cons_option, filter_map, flat_map}
 use Rattle.std.proofs.lemmas.List.Concat.{flat_map-cons}
 use Rattle.std.proofs.lemmas.List.Elements.{filter_map-append}
 use Rattle.emc_base.specs.Lists.{At}
-use Rattle.csdl_meaning.proofs.csdl_making.Places.{flat_more, found_more}
+use Rattle.emc_base.proofs.Turns.{flat_more, found_more}
 
 -- one more item is looked up
 pub found_behind : {X Y : Type 0} (h : X → Option Y) (before made : List Y) (items : List X) (i : ℕ) (item : X) (found : Option Y)

@@ -3,9 +3,8 @@ ghost use Rattle.msl_rules.specs.Found.{col_numbered, on_in, pair_in, pairs_in};
 ghost use Rattle.schema_names.specs.SchemaNames.{column_named};
 ghost use Rattle.msl_meaning.specs.msl_found.NamedAt.{named_at};
 
-use csdl_meaning::put_found;
 use edm_types::{CondOn, Pair, Table};
-use emc_base::{ColId, Memory, PropId, Seq, Txt};
+use emc_base::{ColId, Memory, PropId, Seq, Txt, put_found};
 use msl_rules::{RawCond, RawPair};
 use schema_names::SchemaNames;
 use std::alloc::Global;

@@ -4,9 +4,8 @@ ghost use Rattle.msl_rules.specs.Found.{cond_in, conds_in, kind_on, test_of};
 ghost use Rattle.msl_meaning.specs.msl_found.NamedAt.{named_at};
 
 use crate::msl_found::InTable;
-use csdl_meaning::put_found;
 use edm_types::{Cond, CondOn, Test};
-use emc_base::{Kind, Memory, Seq};
+use emc_base::{Kind, Memory, Seq, put_found};
 use msl_rules::{RawCond, spelled};
 use std::alloc::Global;
 

@@ -5,9 +5,8 @@ ghost use Rattle.msl_rules.specs.MappingMeaning.{fragment_with};
 
 use crate::msl_found::{InTable, picked_type};
 use crate::msl_making::conditions::conds_in;
-use csdl_meaning::{narrow, put_found};
 use edm_types::{Fragment, Pick};
-use emc_base::{Memory, Seq, SetId, TableId, Txt, TypeId};
+use emc_base::{Memory, Seq, SetId, TableId, Txt, TypeId, narrow, put_found};
 use msl_rules::{RawFragment, RawPick, RawTypeMapping};
 use schema_names::SchemaNames;
 use std::alloc::Global;

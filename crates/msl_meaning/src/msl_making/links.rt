@@ -6,9 +6,8 @@ ghost use Rattle.msl_rules.specs.MappingMeaning.{link_with};
 
 use crate::msl_found::InTable;
 use crate::msl_making::conditions::conds_in;
-use csdl_meaning::narrow;
 use edm_types::{Assoc, End, LinkFragment, Pair};
-use emc_base::{AssocId, Memory, Seq, TableId, Txt};
+use emc_base::{AssocId, Memory, Seq, TableId, Txt, narrow};
 use msl_rules::{RawEndMapping, RawLinkMapping};
 use schema_names::SchemaNames;
 use std::alloc::Global;

@@ -3,8 +3,7 @@ ghost use Rattle.json_form.specs.declared.pointer.Step.TheVariants.{Member};
 ghost use Rattle.json_form.specs.Pointers.{pointer_of};
 ghost use Rattle.msl_rules.specs.Sites.{at_item, fragment_place, link_place};
 
-use csdl_meaning::narrow;
-use emc_base::{Memory, Txt};
+use emc_base::{Memory, Txt, narrow};
 use json_form::{Step, pointer_of};
 use std::alloc::Global;
 

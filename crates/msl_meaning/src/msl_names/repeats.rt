@@ -3,10 +3,9 @@ ghost use Rattle.groupings.specs.least_fault.Least.{IsLeast};
 ghost use Rattle.layouts.specs.Faults.{fault_cmp};
 ghost use Rattle.msl_rules.specs.NameRules.{IsMappedTwice};
 
-use csdl_names::first_twice;
 use emc_base::Memory;
 use groupings::{Finder, earlier, places_of};
-use layouts::{Fault, behind_member, first_at};
+use layouts::{Fault, behind_member, first_at, first_twice};
 use msl_rules::{RawLinkMapping, RawMapping};
 use std::alloc::Global;
 
@@ -16,7 +15,7 @@ struct Roles {}
 
 impl Finder<RawLinkMapping, Fault> for Roles {
     ghost use Rattle.std.specs.Prelude.{[], codes};
-    ghost use Rattle.csdl_names.specs.Repeated.{IsRepeatedIn};
+    ghost use Rattle.layouts.specs.rule_places.Names.{IsRepeatedIn};
 
     ghost wrong = { λ _ _ link. IsRepeatedIn (λ end. end.role) [] (codes "EndProperty") (codes "Name") link.ends };
 

@@ -4,7 +4,7 @@
 use Rattle.std.specs.Prelude.{ℕ, List, [], ◌∷◌, ◌==◌, ◌-◌, length, take, map, true, false, Option, Some, None, if◌then◌else◌, codes}
 use Rattle.std.specs.List.{ends_with, slice_split}
 use Rattle.std.specs.Option.{option_and_then, option_map_or}
-use Rattle.csdl_names.specs.csdl_lists.References.{rest_after}
+use Rattle.groupings.specs.name_places.Fronts.{rest_after}
 use Rattle.msl_rules.specs.declared.msl_lists.raw.RawPick.{RawPick}
 
 -- a text without the spaces at its front

@@ -2,8 +2,8 @@ ghost use Rattle.std.specs.Prelude.{◌≡◌, IfOk, option_map};
 ghost use Rattle.msl_rules.specs.msl_lists.Picks.{below_reference, pick_of, raw_picks, rest_before, skip_last_spaces, skip_spaces};
 
 use crate::msl_lists::raw::RawPick;
-use csdl_names::rest_after;
 use emc_base::{Memory, Seq, Txt};
+use groupings::rest_after;
 use std::alloc::Global;
 
 /// The items of a TypeName.

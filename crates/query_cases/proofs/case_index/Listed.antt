@@ -9,7 +9,7 @@ use Rattle.std.proofs.lemmas.List.Elements.{All-contains}
 use Rattle.emc_base.proofs.Mapped.{contains_filter, contains_map}
 use Rattle.emc_base.proofs.Numbered.{map_contains}
 use Rattle.groupings.specs.item_groups.Groups.{items_at, items_of}
-use Rattle.schema_laws.proofs.state_demand.Lists.{contains_flat_map}
+use Rattle.schema_laws.proofs.state_demand.lists.Lists.{contains_flat_map}
 use Rattle.regions.specs.declared.region.Region.{Region}
 use Rattle.regions.specs.Basis.{Basis}
 use Rattle.case_laws.specs.declared.region_cases.case.Case.{Case}

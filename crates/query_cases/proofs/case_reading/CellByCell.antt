@@ -8,12 +8,12 @@ use Rattle.emc_base.proofs.Lists.{all_from_members, item_at}
 use Rattle.emc_base.proofs.Mapped.{contains_at}
 use Rattle.emc_base.proofs.Numbered.{all_pairs_map}
 use Rattle.round_trip.specs.Words.{TableId, ColId, PropId, Null, Row, Tables, Value, At, cell_of}
-use Rattle.schema_laws.proofs.state_demand.Lists.{any_of, of_any, same_by_key}
+use Rattle.schema_laws.proofs.state_demand.lists.Lists.{any_of, of_any, same_by_key}
 use Rattle.regions.specs.declared.region.Region.{Region}
 use Rattle.regions.specs.declared.pattern.Focus.TheVariants as focus
 use Rattle.regions.specs.Basis.{Basis}
 use Rattle.regions.specs.Patterns.{pattern_of, writings_of}
-use Rattle.regions.proofs.region_laws.Rows.{rows_order}
+use Rattle.regions.proofs.region_laws.writings.Rows.{rows_order}
 use Rattle.case_laws.specs.declared.region_cases.case.Case.{Case}
 use Rattle.case_laws.specs.declared.region_cases.case.CaseCell.{CaseCell}
 use Rattle.case_laws.specs.declared.region_cases.case.CaseCell.TheVariants as cell

@@ -13,7 +13,7 @@ use Rattle.emc_base.proofs.Lists.{all_from_members}
 use Rattle.emc_base.proofs.Mapped.{all_zip-map, contains_enumerated}
 use Rattle.emc_base.proofs.Numbered.{enumerated_at}
 use Rattle.round_trip.specs.Words.{At, EntityModel, Null, PropId, Value, props_of}
-use Rattle.schema_laws.proofs.state_demand.Lists.{contains_flat_map, head_stands, member_cases, member_of_flat_map, none_in_nil}
+use Rattle.schema_laws.proofs.state_demand.lists.Lists.{contains_flat_map, head_stands, member_cases, member_of_flat_map, none_in_nil}
 use Rattle.case_laws.specs.declared.region_cases.case.Case.{Case}
 use Rattle.case_laws.specs.declared.region_cases.case.CaseCell.{CaseCell}
 use Rattle.case_laws.specs.declared.region_cases.case.CaseCell.TheVariants as cell

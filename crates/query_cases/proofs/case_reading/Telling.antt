@@ -5,7 +5,7 @@ use Rattle.std.specs.Prelude.{option_and_then}
 use Rattle.std.proofs.lemmas.List.{length-map}
 use Rattle.emc_base.proofs.Lists.{all_from_members}
 use Rattle.round_trip.specs.Words.{SetId, TableId, ColId, PropId, Entity, EntityModel, Null, Row, Tables, Value, props_of, value_of}
-use Rattle.schema_laws.proofs.state_demand.Lists.{head_stands}
+use Rattle.schema_laws.proofs.state_demand.lists.Lists.{head_stands}
 use Rattle.condition_logic.specs.declared.atoms.Atom.{Atom}
 use Rattle.condition_logic.specs.declared.atoms.Atom.TheVariants as atom
 use Rattle.condition_logic.specs.declared.atoms.AtomOf.{AtomOf}
@@ -19,13 +19,13 @@ use Rattle.regions.specs.Regions.{regions_of}
 use Rattle.regions.specs.Settled.{Possible, free, is_nullable, multi, of_atom, possible, settle, settled_by, single}
 use Rattle.regions.specs.region_laws.IsBasis.{IsBasis}
 use Rattle.regions.proofs.region_laws.pattern.Laws.{listed_from}
-use Rattle.regions.proofs.region_laws.pattern.Standing.{listed_prop}
+use Rattle.regions.proofs.region_laws.pattern.symbols.Standing.{listed_prop}
 use Rattle.region_states.proofs.defaults.Listed.{IsTold, told_found, told_is}
 use Rattle.case_laws.specs.declared.region_cases.case.CaseCell.TheVariants as cell
 use Rattle.case_laws.specs.region_cases.Meets.{IsEntityOf, MeetsCase}
 use Rattle.case_laws.specs.candidates.Rows.{AreRowsAt}
-use Rattle.case_laws.proofs.Cases.{cell_of_told}
-use Rattle.case_laws.proofs.Settling.{tells_prop}
+use Rattle.case_laws.proofs.shown.Cases.{cell_of_told}
+use Rattle.case_laws.proofs.shown.Settling.{tells_prop}
 use Rattle.query_cases.specs.declared.case_reading.reading.CellPlace.{CellPlace}
 use Rattle.query_cases.specs.declared.case_reading.reading.Reading.{Reading}
 use Rattle.query_cases.specs.declared.case_reading.reading.Source.{Source}

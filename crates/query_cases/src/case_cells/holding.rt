@@ -5,7 +5,7 @@ ghost use Rattle.cells.specs.Parts.{AreParts};
 ghost use Rattle.condition_logic.specs.declared.atoms.Atom.TheVariants.{Other};
 ghost use Rattle.regions.specs.Atoms.{LiesIn};
 ghost use Rattle.schema_laws.specs.state_demand.Selecting.{same_value};
-ghost use Rattle.cells.specs.region_basis.BasisOf.{basis_of};
+ghost use Rattle.region_states.specs.region_basis.BasisOf.{basis_of};
 ghost use Rattle.case_laws.specs.declared.region_cases.case.CaseCell.TheVariants as cell;
 ghost use Rattle.round_trip.specs.Words.{InDomain, Prop as Declared};
 ghost use Rattle.query_cases.specs.case_cells.Holding.{MayBeIn, MayHold};

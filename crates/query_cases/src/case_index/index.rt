@@ -1,6 +1,6 @@
 ghost use Rattle.std.specs.Prelude.{◌≡◌, IfOk};
 ghost use Rattle.cells.specs.Parts.{AreParts};
-ghost use Rattle.cells.specs.region_basis.BasisOf.{basis_of};
+ghost use Rattle.region_states.specs.region_basis.BasisOf.{basis_of};
 ghost use Rattle.case_laws.specs.candidates.Rows.{shown_rows};
 ghost use Rattle.query_cases.specs.case_index.Found.{AreCoded, IsIndexOf, found_places};
 

@@ -1,7 +1,7 @@
 ghost use Rattle.std.specs.Prelude.{◌≡◌, All, IfOk, IsTrue};
 ghost use Rattle.std.specs.Option.{option_copied};
 ghost use Rattle.cells.specs.Parts.{AreParts};
-ghost use Rattle.cells.specs.region_basis.BasisOf.{basis_of};
+ghost use Rattle.region_states.specs.region_basis.BasisOf.{basis_of};
 ghost use Rattle.query_cases.specs.case_index.Codes.{columns_in};
 ghost use Rattle.query_cases.specs.case_index.Telling.{AllTell, CellTells, ColumnTells, HoldsOthers};
 ghost use Rattle.query_cases.specs.case_index.Told.{listed_at, shown_told};

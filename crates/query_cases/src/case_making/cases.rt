@@ -1,7 +1,7 @@
 ghost use Rattle.std.specs.Prelude.{◌≡◌, Bool, IfOk, map};
 ghost use Rattle.cells.specs.Cells.{is_free_in};
 ghost use Rattle.cells.specs.Parts.{AreParts, schema_in};
-ghost use Rattle.cells.specs.region_basis.BasisOf.{basis_of};
+ghost use Rattle.region_states.specs.region_basis.BasisOf.{basis_of};
 ghost use Rattle.case_laws.specs.region_cases.Cases.{by_settled, case_cell, case_of, case_row};
 ghost use Rattle.regions.specs.Settled.{free, settle, settled_by};
 ghost use Rattle.symbolic_rows.specs.settled_cells.Lent.{shown_possible};

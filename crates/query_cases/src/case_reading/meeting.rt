@@ -4,7 +4,7 @@ ghost use Rattle.case_laws.specs.candidates.Rows.{shown_row, shown_rows};
 ghost use Rattle.query_cases.specs.case_cells.Holding.{MayHold, MayHoldCells, MayMeet};
 ghost use Rattle.query_cases.specs.case_reading.Sources.{cell_at};
 ghost use Rattle.cells.specs.Parts.{AreParts};
-ghost use Rattle.cells.specs.region_basis.BasisOf.{basis_of};
+ghost use Rattle.region_states.specs.region_basis.BasisOf.{basis_of};
 ghost use Rattle.round_trip.specs.Words.{Null, cell_of};
 
 use crate::case_cells::may_hold;

@@ -5,7 +5,7 @@ ghost use Rattle.query_cases.specs.case_reading.Reading.{IsReadingOf};
 ghost use Rattle.query_cases.specs.case_reading.Sources.{AgreeTwins, read_entity, read_values, source_value};
 ghost use Rattle.cells.specs.Parts.{AreParts};
 ghost use Rattle.emc_base.specs.ValueRefs.{shown_value};
-ghost use Rattle.cells.specs.region_basis.BasisOf.{basis_of};
+ghost use Rattle.region_states.specs.region_basis.BasisOf.{basis_of};
 ghost use Rattle.round_trip.specs.Words.{Null};
 
 use crate::case_reading::making::{sources_of, twins_of};

@@ -3,15 +3,15 @@ use Rattle.std.proofs.Common.{◌≡◌, List, [], ◌∷◌, map, filter, flat_
 use Rattle.std.specs.Option.{option_map_or}
 use Rattle.std.proofs.lemmas.Option.{slice_get_within}
 use Rattle.round_trip.specs.Words.{EntitySet, Kind, Prop, PropId, Schema, SetId, TypeId, Value, props_of}
-use Rattle.round_trip.specs.soundness.Joined.{prop}
+use Rattle.round_trip.specs.soundness.mappings.Joined.{prop}
 use Rattle.condition_logic.specs.declared.atoms.AtomOf.{AtomOf}
-use Rattle.schema_laws.proofs.state_demand.Lists.{head_stands, tail_stands}
+use Rattle.schema_laws.proofs.state_demand.lists.Lists.{head_stands, tail_stands}
 use Rattle.regions.specs.Atoms.{atoms_of}
 use Rattle.regions.specs.Basis.{Basis, Host}
 use Rattle.regions.specs.Lists.{choices}
 use Rattle.regions.specs.Regions.{atoms_at, regions_by, regions_of, regions_with, tested_props, types_of}
 use Rattle.regions.specs.region_laws.IsBasis.{IsBasis}
-use Rattle.regions.proofs.region_laws.Regions.{prop_there}
+use Rattle.regions.proofs.region_laws.entities.Regions.{prop_there}
 use Rattle.region_partition.proofs.limit_laws.Answered.{beside, same_constants, same_fits, same_hosts, same_is_a, same_tested}
 
 -- two tests that agree on the members keep the same

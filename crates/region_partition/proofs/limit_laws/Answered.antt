@@ -1,7 +1,7 @@
 -- Two bases of one schema answer alike of its types, kinds, properties and sets.
 use Rattle.std.proofs.Common.{◌≡◌, ◌↔◌, ◌<◌, length, Bool, true, false, true≢false, IsTrue, refl, sym, subst, arith}
 use Rattle.round_trip.specs.Words.{PropId, Schema, SetId}
-use Rattle.round_trip.specs.soundness.Joined.{prop}
+use Rattle.round_trip.specs.soundness.mappings.Joined.{prop}
 use Rattle.member_groups.specs.Tested.{IsConstant, IsTested}
 use Rattle.regions.specs.Basis.{Basis, Host}
 use Rattle.regions.specs.region_laws.IsBasis.{IsBasis}

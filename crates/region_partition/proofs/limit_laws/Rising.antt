@@ -9,9 +9,9 @@ use Rattle.std.proofs.lemmas.Map.Keys.{sorted_head, sorted_tail}
 use Rattle.emc_base.specs.Order.{value_cmp}
 use Rattle.emc_base.specs.OrderLaws.{value_cmp_total}
 use Rattle.round_trip.specs.Words.{Value}
-use Rattle.schema_laws.proofs.state_demand.Lists.{head_stands, member_cases, none_in_nil, tail_stands}
+use Rattle.schema_laws.proofs.state_demand.lists.Lists.{head_stands, member_cases, none_in_nil, tail_stands}
 use Rattle.member_groups.specs.MemberGroups.{ListsJust}
-use Rattle.regions.proofs.region_laws.Choices.{pairs_head, pairs_nil, pairs_tail}
+use Rattle.regions.proofs.region_laws.lists.Choices.{pairs_head, pairs_nil, pairs_tail}
 
 module _ {X : Type 0} (R : X → X → Type 0) (never : (x y : X) → R x y → R y x → ⊥) where
   -- two rising lists, each with the first of the other, have one and the same first

@@ -5,7 +5,7 @@ use Rattle.std.proofs.lemmas.Option.{slice_get_within}
 use Rattle.emc_base.proofs.Numbered.{enumerated_at}
 use Rattle.edm_types.specs.declared.faults.LimitKind.TheVariants as limit
 use Rattle.round_trip.specs.Words.{LimitFault, Schema}
-use Rattle.schema_laws.proofs.state_demand.Lists.{head_stands, tail_stands}
+use Rattle.schema_laws.proofs.state_demand.lists.Lists.{head_stands, tail_stands}
 use Rattle.cells.specs.Limits.{most_assocs, most_constants}
 use Rattle.regions.specs.Basis.{Basis}
 use Rattle.regions.specs.Regions.{most_counted}

@@ -5,8 +5,8 @@ use Rattle.emc_base.proofs.Lists.{all_from_members, item_at}
 use Rattle.emc_base.proofs.Mapped.{contains_enumerated}
 use Rattle.round_trip.specs.Words.{EntityModel, EntityType}
 use Rattle.edm_types.specs.declared.faults.LimitKind.TheVariants as limit
-use Rattle.round_trip.specs.soundness.Joined.{prop}
-use Rattle.round_trip.specs.soundness.Mappings.{IsSoundSchema}
+use Rattle.round_trip.specs.soundness.mappings.Joined.{prop}
+use Rattle.round_trip.specs.soundness.mappings.Mappings.{IsSoundSchema}
 use Rattle.cells.specs.declared.parts.Parts.{Parts}
 use Rattle.cells.specs.Cells.{TellsCells}
 use Rattle.cells.specs.Limits.{HasSmallGroups, IsSmallModel, most_assocs, most_constants, most_props}
@@ -14,8 +14,8 @@ use Rattle.cells.specs.Parts.{AreParts, schema_in}
 use Rattle.cells.proofs.Few.{few_by_list}
 use Rattle.regions.specs.Basis.{Basis}
 use Rattle.regions.specs.Regions.{count_of}
-use Rattle.cells.specs.region_basis.BasisOf.{basis_of}
-use Rattle.cells.proofs.region_basis.Groups.{constants_told}
+use Rattle.region_states.specs.region_basis.BasisOf.{basis_of}
+use Rattle.region_states.proofs.region_basis.Groups.{constants_told}
 use Rattle.region_partition.specs.mapping_limits.Checked.{of_model, of_type}
 use Rattle.region_partition.specs.mapping_limits.FirstLimit.{HaveFewRegions, constants_passed, most_regions, most_sets, most_types, passed, regions_passed}
 use Rattle.region_partition.proofs.mapping_limits.Firsts.{none_before, none_behind, none_each}

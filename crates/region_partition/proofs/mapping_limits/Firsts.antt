@@ -1,6 +1,6 @@
 -- Lists that are put one behind the other: the first item of them, and where there is none.
 use Rattle.std.proofs.Common.{◌≡◌, List, [], ◌∷◌, ◌++◌, flat_map, Contains, slice_get, Some, refl, sym, subst}
-use Rattle.schema_laws.proofs.state_demand.Lists.{contains_flat_map, head_stands, none_in_nil}
+use Rattle.schema_laws.proofs.state_demand.lists.Lists.{contains_flat_map, head_stands, none_in_nil}
 
 module _ {X : Type 0} where
   -- the first of a list is the first, whatever stands behind it

@@ -7,7 +7,7 @@ use Rattle.round_trip.specs.Words.{PropId, Value, Kind, InDomain}
 use Rattle.condition_logic.specs.declared.atoms.Atom.TheVariants.{Is}
 use Rattle.condition_logic.specs.declared.atoms.AtomOf.{AtomOf}
 use Rattle.regions.specs.Fitting.{fits}
-use Rattle.regions.proofs.region_laws.Domains.{decides_domains}
+use Rattle.regions.proofs.region_laws.values.Domains.{decides_domains}
 use Rattle.region_partition.specs.region_lists.Listing.{told_atoms}
 
 -- two answers that tell the same

@@ -12,8 +12,7 @@ use Rattle.cells.specs.declared.parts.Parts.{Parts}
 use Rattle.cells.proofs.Lists.{one_more_gives}
 use Rattle.regions.specs.Basis.{Host, host_end, partner_end}
 use Rattle.regions.specs.Regions.{flag_values, flagged, flags_at}
-use Rattle.cells.specs.region_basis.BasisOf.{basis_of, host_at, host_by, hosts_in}
-use Rattle.cells.specs.region_basis.BasisOf.{hosts_told}
+use Rattle.region_states.specs.region_basis.BasisOf.{basis_of, host_at, host_by, hosts_in, hosts_told}
 
 module _ (parts : Parts) (s : SetId) where
   -- those among the associations so far

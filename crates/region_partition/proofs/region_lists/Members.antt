@@ -4,8 +4,8 @@ use Rattle.std.specs.Option.{option_map_or}
 use Rattle.std.proofs.lemmas.List.Elements.{All-contains, All-nil}
 use Rattle.emc_base.proofs.Mapped.{contains_at}
 use Rattle.round_trip.specs.Words.{GroupId, TypeId, PropId, EntityType, Value, props_of}
-use Rattle.round_trip.specs.soundness.Joined.{prop}
-use Rattle.round_trip.specs.soundness.ModelIds.{IsPropId}
+use Rattle.round_trip.specs.soundness.mappings.Joined.{prop}
+use Rattle.round_trip.specs.soundness.models.ModelIds.{IsPropId}
 use Rattle.member_groups.specs.MemberGroups.{constants_in, group_in}
 use Rattle.cells.specs.declared.parts.Parts.{Parts}
 use Rattle.cells.specs.Parts.{AreParts}

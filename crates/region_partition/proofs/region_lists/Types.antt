@@ -9,7 +9,7 @@ use Rattle.round_trip.specs.Words.{TypeId, EntitySet, EntityType}
 use Rattle.schema_laws.specs.sound_demand.Deriving.{derives}
 use Rattle.cells.specs.declared.parts.Parts.{Parts}
 use Rattle.regions.specs.Regions.{types_of}
-use Rattle.cells.specs.region_basis.BasisOf.{basis_of}
+use Rattle.region_states.specs.region_basis.BasisOf.{basis_of}
 
 module _ (parts : Parts) (entry : EntitySet) where
   abbrev pub is_listed : ℕ × EntityType → Bool

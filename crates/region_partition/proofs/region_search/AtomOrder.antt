@@ -1,6 +1,5 @@
 -- The atoms of a property rise towards that of an entity's value.
-use Rattle.std.proofs.Common.{◌≡◌, ⊎_elim, ℤ, ◌<ℤ◌, List, [], ◌∷◌, ◌++◌, map, filter, slice_get, All, AllPairs}
-use Rattle.std.proofs.Common.{Contains, Option, Some, None, Bool, true, false, if◌then◌else◌, refl, sym, ap, subst, ◌∙◌}
+use Rattle.std.proofs.Common.{◌≡◌, ⊎_elim, ℤ, ◌<ℤ◌, List, [], ◌∷◌, ◌++◌, map, filter, slice_get, All, AllPairs, Contains, Option, Some, None, Bool, true, false, if◌then◌else◌, refl, sym, ap, subst, ◌∙◌}
 use Rattle.std.specs.Cmp.{int_cmp_is}
 use Rattle.std.specs.List.Sorted.{IsStrictlySortedBy}
 use Rattle.std.specs.Option.{option_map_or}
@@ -17,19 +16,19 @@ use Rattle.emc_base.specs.declared.value.Kind.TheVariants as kind
 use Rattle.emc_base.proofs.Lists.{all_from_members}
 use Rattle.emc_base.proofs.Numbered.{all_pairs_map, map_contains}
 use Rattle.round_trip.specs.Words.{PropId, Value, Kind, Prop, Entity, Whole, Flag}
-use Rattle.round_trip.specs.soundness.Joined.{prop}
+use Rattle.round_trip.specs.soundness.mappings.Joined.{prop}
 use Rattle.round_trip.specs.soundness.Kinds.{IsSoundKind}
 use Rattle.condition_logic.specs.declared.atoms.Atom.{Atom}
 use Rattle.condition_logic.specs.declared.atoms.Atom.TheVariants as atom
 use Rattle.condition_logic.specs.declared.atoms.AtomOf.{AtomOf}
-use Rattle.schema_laws.proofs.state_demand.Lists.{member_cases, none_in_nil}
+use Rattle.schema_laws.proofs.state_demand.lists.Lists.{member_cases, none_in_nil}
 use Rattle.regions.specs.Atoms.{atoms_of, kind_atoms}
 use Rattle.regions.specs.Basis.{Basis}
 use Rattle.regions.specs.Regions.{atoms_at, model_of}
 use Rattle.regions.specs.region_laws.IsBasis.{IsBasis}
 use Rattle.regions.specs.region_laws.RegionAt.{atom_in}
-use Rattle.regions.proofs.region_laws.Choices.{pairs_nil}
-use Rattle.regions.proofs.region_laws.Told.{sound_kind}
+use Rattle.regions.proofs.region_laws.lists.Choices.{pairs_nil}
+use Rattle.regions.proofs.region_laws.values.Told.{sound_kind}
 use Rattle.region_partition.specs.region_search.Standing.{Rises, Stand, atom_cmp, told_cmp}
 use Rattle.region_partition.proofs.region_search.Rising.{pairs_also, pairs_append, pairs_one}
 

@@ -3,12 +3,12 @@ use Rattle.std.proofs.Common.{◌≡◌, ◌<◌, ◌≤◌, List, [], length, o
 use Rattle.std.specs.List.{list_any}
 use Rattle.std.proofs.lemmas.Bool.Decides.{Decides-like}
 use Rattle.round_trip.specs.Words.{GroupId, PropId, Value, Schema}
-use Rattle.round_trip.specs.soundness.Joined.{prop}
+use Rattle.round_trip.specs.soundness.mappings.Joined.{prop}
 use Rattle.member_groups.specs.declared.groups.MemberGroups.{MemberGroups}
 use Rattle.member_groups.specs.MemberGroups.{TellsMemberGroups, constants_in, group_in}
 use Rattle.schema_laws.specs.state_demand.Selecting.{same_value}
-use Rattle.schema_laws.proofs.state_demand.Lists.{Decides-any, any_of, of_any}
-use Rattle.schema_laws.proofs.state_demand.Selecting.{Decides-value}
+use Rattle.schema_laws.proofs.state_demand.lists.Lists.{Decides-any, any_of, of_any}
+use Rattle.schema_laws.proofs.state_demand.writings.Selecting.{Decides-value}
 
 -- a value is one of some
 pub Decides-among : (values : List Value) (value : Value) → Decides (list_any (same_value value) values) (Contains values value)

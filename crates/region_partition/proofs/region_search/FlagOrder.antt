@@ -11,13 +11,13 @@ use Rattle.std.proofs.lemmas.List.Kept.{AllPairs-cons}
 use Rattle.emc_base.proofs.Numbered.{all_pairs_map}
 use Rattle.round_trip.specs.Words.{TypeId, AssocId, Assoc, Hosted, Mult}
 use Rattle.edm_types.specs.declared.model.Mult.TheVariants.{One, ZeroOrOne, Many}
-use Rattle.schema_laws.proofs.state_demand.Lists.{head_stands, tail_stands}
+use Rattle.schema_laws.proofs.state_demand.lists.Lists.{head_stands, tail_stands}
 use Rattle.regions.specs.Basis.{Basis, Host, host_end, partner_end}
 use Rattle.regions.specs.Regions.{flag_values, flagged, flags_at, model_of}
 use Rattle.regions.specs.Symbols.{is_linked}
 use Rattle.regions.specs.region_laws.RegionAt.{has_link}
-use Rattle.regions.proofs.region_laws.Choices.{pairs_tail}
-use Rattle.regions.proofs.region_laws.Flags.{Decides-flagged, InOrder, IsFlag, flag_member, no_later, of_host}
+use Rattle.regions.proofs.region_laws.lists.Choices.{pairs_tail}
+use Rattle.regions.proofs.region_laws.entities.Flags.{Decides-flagged, InOrder, IsFlag, flag_member, no_later, of_host}
 use Rattle.region_partition.specs.region_search.Standing.{Rises, Stand, all_cmp, flag_cmp, host_cmp}
 use Rattle.region_partition.proofs.region_search.Linked.{Decides-linked}
 use Rattle.region_partition.proofs.region_search.Rising.{all_by, pairs_one}

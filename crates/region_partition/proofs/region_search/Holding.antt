@@ -12,22 +12,22 @@ use Rattle.std.proofs.lemmas.List.Elements.{All-cons, All-nil}
 use Rattle.emc_base.specs.declared.value.Kind.TheVariants as kind
 use Rattle.emc_base.proofs.Numbered.{map_contains}
 use Rattle.round_trip.specs.Words.{SetId, PropId, Value, Null, Kind, Prop, Entity, Hosted, At, value_of}
-use Rattle.round_trip.specs.soundness.Joined.{prop}
+use Rattle.round_trip.specs.soundness.mappings.Joined.{prop}
 use Rattle.condition_logic.specs.declared.atoms.Atom.{Atom}
 use Rattle.condition_logic.specs.declared.atoms.Atom.TheVariants as atom
 use Rattle.condition_logic.specs.declared.atoms.AtomOf.{AtomOf}
 use Rattle.schema_laws.specs.state_demand.Selecting.{same_value}
-use Rattle.schema_laws.proofs.state_demand.Lists.{none_in_nil}
-use Rattle.schema_laws.proofs.state_demand.Selecting.{Decides-value}
+use Rattle.schema_laws.proofs.state_demand.lists.Lists.{none_in_nil}
+use Rattle.schema_laws.proofs.state_demand.writings.Selecting.{Decides-value}
 use Rattle.regions.specs.declared.region.Region.{Region}
 use Rattle.regions.specs.Atoms.{LiesIn, atom_of, atoms_of, kind_atom}
 use Rattle.regions.specs.Basis.{Basis}
 use Rattle.regions.specs.Regions.{Holds, TellsLinks, atoms_at, model_of, regions_of, tested_props}
 use Rattle.regions.specs.region_laws.IsBasis.{IsBasis}
 use Rattle.regions.specs.region_laws.RegionAt.{atom_in}
-use Rattle.regions.proofs.region_laws.Choices.{choice_each}
-use Rattle.regions.proofs.region_laws.Listed.{IsListed, is_listed}
-use Rattle.regions.proofs.region_laws.Regions.{atom_is}
+use Rattle.regions.proofs.region_laws.lists.Choices.{choice_each}
+use Rattle.regions.proofs.region_laws.listing.Listed.{IsListed, is_listed}
+use Rattle.regions.proofs.region_laws.entities.Regions.{atom_is}
 use Rattle.region_partition.specs.region_search.Standing.{IsTold, all_cmp, host_cmp, region_cmp, told_cmp}
 use Rattle.region_partition.proofs.region_search.AtomOrder.{atom_apart}
 use Rattle.region_partition.proofs.region_search.Constants.{Decides-among}

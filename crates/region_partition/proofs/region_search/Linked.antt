@@ -7,14 +7,14 @@ use Rattle.std.proofs.lemmas.Bool.Decides.{Decides-like}
 use Rattle.std.proofs.lemmas.Option.{same_Some}
 use Rattle.round_trip.specs.Words.{AssocId, Assoc, Hosted, Mult}
 use Rattle.edm_types.specs.declared.model.Mult.TheVariants.{One, ZeroOrOne, Many}
-use Rattle.schema_laws.proofs.state_demand.Lists.{Decides-any, any_of, of_any}
+use Rattle.schema_laws.proofs.state_demand.lists.Lists.{Decides-any, any_of, of_any}
 use Rattle.regions.specs.declared.region.Region.{Region}
 use Rattle.regions.specs.Basis.{Basis, Host, partner_end}
 use Rattle.regions.specs.Regions.{TellsLinks, model_of}
 use Rattle.regions.specs.Symbols.{is_linked}
 use Rattle.regions.specs.region_laws.RegionAt.{has_link}
-use Rattle.regions.proofs.region_laws.Flags.{Decides-link, one_few, optional_few}
-use Rattle.regions.proofs.region_laws.Symbols.{Decides-assoc}
+use Rattle.regions.proofs.region_laws.entities.Flags.{Decides-link, one_few, optional_few}
+use Rattle.regions.proofs.region_laws.values.Symbols.{Decides-assoc}
 use Rattle.region_partition.specs.region_search.Standing.{flag_cmp, host_cmp}
 
 module _ (basis : Basis) where

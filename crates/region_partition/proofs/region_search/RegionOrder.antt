@@ -1,6 +1,5 @@
 -- The regions of a set rise towards an entity with its links, and one that holds the entity stands equal.
-use Rattle.std.proofs.Common.{◌≡◌, ◌<◌, ℕ, List, [], ◌∷◌, map, filter, flat_map, slice_get, AllPairs, Contains}
-use Rattle.std.proofs.Common.{Option, Some, None, Bool, not, ◌&&◌, refl, sym, ap, subst, ◌∙◌, arith}
+use Rattle.std.proofs.Common.{◌≡◌, ◌<◌, ℕ, List, [], ◌∷◌, map, filter, flat_map, slice_get, AllPairs, Contains, Option, Some, None, Bool, not, ◌&&◌, refl, sym, ap, subst, ◌∙◌, arith}
 use Rattle.std.specs.Cmp.{Equal-is, nat_cmp_is}
 use Rattle.std.specs.FinMap.{nat_cmp-IsAntisymmetric}
 use Rattle.std.specs.List.{AllZip, enumerate_from}
@@ -12,17 +11,17 @@ use Rattle.std.proofs.lemmas.List.Kept.{AllPairs-filter}
 use Rattle.emc_base.proofs.Numbered.{all_pairs_map, map_contains}
 use Rattle.round_trip.specs.Words.{SetId, TypeId, PropId, AssocId, EntitySet, EntityType, Entity, Hosted}
 use Rattle.condition_logic.specs.declared.atoms.AtomOf.{AtomOf}
-use Rattle.schema_laws.proofs.state_demand.Lists.{member_of_flat_map}
+use Rattle.schema_laws.proofs.state_demand.lists.Lists.{member_of_flat_map}
 use Rattle.regions.specs.declared.region.Region.{Region}
 use Rattle.regions.specs.Lists.{choices}
 use Rattle.regions.specs.Basis.{Basis}
 use Rattle.regions.specs.Regions.{Holds, TellsLinks, atoms_at, flags_at, model_of, regions_by, regions_of, regions_with, tested_props, types_of}
 use Rattle.regions.specs.region_laws.IsBasis.{IsBasis}
 use Rattle.regions.specs.region_laws.RegionAt.{atom_in}
-use Rattle.regions.proofs.region_laws.Apart.{numbers_rise}
-use Rattle.regions.proofs.region_laws.Choices.{choice_each, pairs_nil}
-use Rattle.regions.proofs.region_laws.Listed.{region_with}
-use Rattle.regions.proofs.region_laws.Regions.{region_only}
+use Rattle.regions.proofs.region_laws.listing.Apart.{numbers_rise}
+use Rattle.regions.proofs.region_laws.lists.Choices.{choice_each, pairs_nil}
+use Rattle.regions.proofs.region_laws.listing.Listed.{region_with}
+use Rattle.regions.proofs.region_laws.entities.Regions.{region_only}
 use Rattle.region_partition.specs.region_search.Standing.{Rises, Stand, all_cmp, host_cmp, region_cmp, told_cmp}
 use Rattle.region_partition.proofs.region_search.AtomOrder.{told_itself, told_rise}
 use Rattle.region_partition.proofs.region_search.FlagOrder.{by_host, flags_cmp, flags_rise}

@@ -7,10 +7,10 @@ use Rattle.std.proofs.lemmas.List.Elements.{All-append, All-contains, All-nil}
 use Rattle.std.proofs.lemmas.List.Kept.{AllPairs-cons}
 use Rattle.emc_base.proofs.Lists.{all_from_members}
 use Rattle.emc_base.proofs.Numbered.{all_pairs_map, map_contains}
-use Rattle.schema_laws.proofs.state_demand.Lists.{head_stands, member_of_flat_map, tail_stands}
+use Rattle.schema_laws.proofs.state_demand.lists.Lists.{head_stands, member_of_flat_map, tail_stands}
 use Rattle.regions.specs.Lists.{choices}
 use Rattle.region_partition.specs.region_search.Standing.{Rises, Stand}
-use Rattle.regions.proofs.region_laws.Choices.{pairs_head, pairs_nil, pairs_tail}
+use Rattle.regions.proofs.region_laws.lists.Choices.{pairs_head, pairs_nil, pairs_tail}
 
 -- both are Equal
 pub then_equal : (one two : Ordering) → ordering_then one two ≡ Equal → (one ≡ Equal) × (two ≡ Equal)

@@ -4,7 +4,7 @@ use Rattle.std.specs.Prelude.{◌≡◌, ◌≤◌, ℕ, List, [], ◌++◌, ◌
 use Rattle.std.specs.List.{enumerate_from}
 use Rattle.round_trip.specs.Words.{SetId, EntityType, EntitySet, LimitFault, LimitKind, Prop, Schema, Table, At}
 use Rattle.edm_types.specs.declared.faults.LimitKind.TheVariants as limit
-use Rattle.round_trip.specs.soundness.Joined.{prop}
+use Rattle.round_trip.specs.soundness.mappings.Joined.{prop}
 use Rattle.cells.specs.Limits.{most_assocs, most_constants, most_props}
 use Rattle.regions.specs.Basis.{Basis}
 use Rattle.regions.specs.Regions.{count_of}

@@ -1,8 +1,8 @@
 ghost use Rattle.std.specs.Prelude.{◌≡◌, IfOk, None};
 ghost use Rattle.cells.specs.Cells.{TellsCells};
 ghost use Rattle.cells.specs.Parts.{AreParts, schema_in};
-ghost use Rattle.round_trip.specs.soundness.Mappings.{IsSoundSchema};
-ghost use Rattle.cells.specs.region_basis.BasisOf.{basis_of};
+ghost use Rattle.round_trip.specs.soundness.mappings.Mappings.{IsSoundSchema};
+ghost use Rattle.region_states.specs.region_basis.BasisOf.{basis_of};
 ghost use Rattle.region_partition.specs.mapping_limits.Checked.{TellsFirst};
 ghost use Rattle.region_partition.specs.mapping_limits.FirstLimit.{HaveFewRegions, IsFirstLimit, limits_passed};
 

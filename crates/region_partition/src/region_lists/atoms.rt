@@ -1,12 +1,12 @@
 ghost use Rattle.std.specs.Prelude.{◌≡◌, ◌≤◌, ◌<◌, ◌^◌, ◌++◌, ◌∷◌, [], IfOk, false, filter, length, map, true};
-ghost use Rattle.round_trip.specs.soundness.Joined.{prop};
+ghost use Rattle.round_trip.specs.soundness.mappings.Joined.{prop};
 ghost use Rattle.cells.specs.Parts.{AreParts};
 ghost use Rattle.round_trip.specs.Words.{Flag, Whole};
 ghost use Rattle.condition_logic.specs.declared.atoms.Atom.TheVariants.{Is, Other};
 ghost use Rattle.regions.specs.Atoms.{atoms_of, kind_atoms};
 ghost use Rattle.regions.specs.Fitting.{fits};
 ghost use Rattle.regions.specs.Regions.{atoms_at};
-ghost use Rattle.cells.specs.region_basis.BasisOf.{basis_of};
+ghost use Rattle.region_states.specs.region_basis.BasisOf.{basis_of};
 ghost use Rattle.region_partition.specs.region_lists.Listing.{told_atoms};
 
 use cells::Parts;

@@ -1,16 +1,17 @@
 ghost use Rattle.std.specs.Prelude.{◌≡◌, ◌<◌, ◌++◌, ◌∷◌, [], All, IfOk, filter, length, map};
-ghost use Rattle.round_trip.specs.soundness.Joined.{prop};
+ghost use Rattle.round_trip.specs.soundness.mappings.Joined.{prop};
 ghost use Rattle.cells.specs.Parts.{AreParts};
 ghost use Rattle.regions.specs.Lists.{choices};
 ghost use Rattle.regions.specs.Regions.{atoms_at, flagged, flags_at};
-ghost use Rattle.cells.specs.region_basis.BasisOf.{basis_of};
+ghost use Rattle.region_states.specs.region_basis.BasisOf.{basis_of};
 ghost use Rattle.region_partition.specs.region_lists.Listing.{beside, joined_choices};
 
 use crate::region_lists::atoms::{atoms_at, is_tested};
 use crate::region_lists::flags::flag_values;
-use cells::{Parts, hosting_end};
+use cells::Parts;
 use condition_logic::AtomOf;
 use emc_base::{AssocId, Memory, PropId, Seq, SetId, TypeId};
+use region_states::hosting_end;
 use std::alloc::Global;
 
 // An atom of each tested property, for each choice, in their order; the last one varies fastest.

@@ -1,19 +1,20 @@
 ghost use Rattle.std.specs.Prelude.{◌≡◌, ◌≤◌, ◌<◌, ◌&&◌, All, filter, length, map, not, sum_by};
 ghost use Rattle.round_trip.specs.Words.{At};
-ghost use Rattle.round_trip.specs.soundness.Joined.{prop};
+ghost use Rattle.round_trip.specs.soundness.mappings.Joined.{prop};
 ghost use Rattle.schema_laws.specs.sound_demand.Deriving.{derives};
 ghost use Rattle.cells.specs.Parts.{AreParts};
 ghost use Rattle.regions.specs.Regions.{atoms_at, count_of, flags_at, types_of};
 ghost use Rattle.regions.specs.region_laws.Counting.{count_by, product_of};
-ghost use Rattle.cells.specs.region_basis.BasisOf.{basis_of, host_at};
+ghost use Rattle.region_states.specs.region_basis.BasisOf.{basis_of, host_at};
 ghost use Rattle.region_partition.specs.region_lists.Counts.{capped};
 
 use crate::region_lists::atoms::{count_atoms, is_tested};
 use crate::region_lists::base_types::{derives, props_of};
 use crate::region_lists::flags::flag_values;
-use cells::{Parts, hosting_end};
+use cells::Parts;
 use edm_types::{Assoc, EntityModel, EntitySet, EntityType};
 use emc_base::{AssocId, PropId, SetId, TypeId};
+use region_states::hosting_end;
 
 // The most regions that are counted.
 const MOST_COUNTED: u64 = 1_048_576;

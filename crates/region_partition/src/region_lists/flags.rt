@@ -4,9 +4,9 @@ ghost use Rattle.regions.specs.Basis.{host_end, partner_end};
 ghost use Rattle.regions.specs.Regions.{flag_values};
 
 use crate::region_lists::base_types::derives;
-use cells::{host_end, partner_end};
 use edm_types::{Assoc, EntityModel, Mult};
 use emc_base::TypeId;
+use region_states::{host_end, partner_end};
 
 // Whether an entity of a type has a link that its end hosts: each answer that there may be.
 pub(super) fn flag_values(

@@ -2,12 +2,12 @@ ghost use Rattle.std.specs.Prelude.{◌≡◌, ◌↔◌, Contains, IsTrue, unwr
 ghost use Rattle.std.specs.List.{list_any};
 ghost use Rattle.std.specs.Option.{option_copied};
 ghost use Rattle.round_trip.specs.Words.{Null};
-ghost use Rattle.round_trip.specs.soundness.Joined.{prop};
+ghost use Rattle.round_trip.specs.soundness.mappings.Joined.{prop};
 ghost use Rattle.cells.specs.Parts.{AreParts};
 ghost use Rattle.schema_laws.specs.state_demand.Selecting.{same_value};
 ghost use Rattle.regions.specs.Atoms.{LiesIn, atom_of, kind_atom};
 ghost use Rattle.regions.specs.region_laws.RegionAt.{atom_in};
-ghost use Rattle.cells.specs.region_basis.BasisOf.{basis_of};
+ghost use Rattle.region_states.specs.region_basis.BasisOf.{basis_of};
 ghost use Rattle.region_partition.specs.region_search.Lent.{shown_atom};
 ghost use Rattle.region_partition.specs.region_search.Standing.{IsTold, atom_cmp, atom_rank, told_cmp};
 

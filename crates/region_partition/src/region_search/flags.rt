@@ -3,12 +3,13 @@ ghost use Rattle.std.specs.List.{list_any};
 ghost use Rattle.emc_base.specs.Lists.{At};
 ghost use Rattle.cells.specs.Parts.{AreParts, schema_in};
 ghost use Rattle.regions.specs.region_laws.RegionAt.{has_link};
-ghost use Rattle.cells.specs.region_basis.BasisOf.{basis_of, host_at};
+ghost use Rattle.region_states.specs.region_basis.BasisOf.{basis_of, host_at};
 ghost use Rattle.region_partition.specs.region_search.Standing.{all_cmp, flag_cmp, host_cmp};
 
-use cells::{LinkPlace, Parts, host_end, partner_end};
+use cells::{LinkPlace, Parts};
 use edm_types::{Assoc, Hosted, Mult};
 use emc_base::{AssocId, SetId};
+use region_states::{host_end, partner_end};
 use std::cmp::Ordering;
 
 /// Where flags stand against the links that an entity hosts, by the associations that are hosted at a set. One that lets an entity have

@@ -4,7 +4,7 @@ ghost use Rattle.cells.specs.Parts.{AreParts};
 ghost use Rattle.regions.specs.Regions.{Holds, regions_of};
 ghost use Rattle.regions.specs.declared.region.Region.{Region};
 ghost use Rattle.regions.specs.region_laws.RegionAt.{region_at};
-ghost use Rattle.cells.specs.region_basis.BasisOf.{basis_of};
+ghost use Rattle.region_states.specs.region_basis.BasisOf.{basis_of};
 ghost use Rattle.region_partition.specs.region_search.Standing.{FindsEqual, region_cmp};
 ghost use Rattle.region_partition.specs.region_search.StandsIn.{StandsIn};
 

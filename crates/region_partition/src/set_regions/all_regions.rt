@@ -1,7 +1,7 @@
 ghost use Rattle.std.specs.Prelude.{IfOk};
 ghost use Rattle.cells.specs.Parts.{AreParts};
 ghost use Rattle.region_partition.specs.mapping_limits.FirstLimit.{HaveFewRegions};
-ghost use Rattle.cells.specs.region_basis.BasisOf.{basis_of};
+ghost use Rattle.region_states.specs.region_basis.BasisOf.{basis_of};
 ghost use Rattle.region_partition.specs.set_regions.Regions.{AreRegions};
 
 use crate::region_lists::{RegionsFault, regions};

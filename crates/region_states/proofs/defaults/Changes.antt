@@ -6,12 +6,12 @@ use Rattle.std.proofs.lemmas.List.Elements.{All-contains}
 use Rattle.std.proofs.lemmas.Option.{same_Some}
 use Rattle.emc_base.proofs.Lists.{all_from_members, at_once}
 use Rattle.round_trip.specs.Words.{SetId, PropId, Value, Null, Prop, At, InDomain, key_props}
-use Rattle.round_trip.specs.soundness.Joined.{IsDependent, prop}
+use Rattle.round_trip.specs.soundness.mappings.Joined.{IsDependent, prop}
 use Rattle.condition_logic.specs.declared.atoms.Atom.{Atom}
 use Rattle.condition_logic.specs.declared.atoms.Atom.TheVariants as atom
 use Rattle.condition_logic.specs.declared.atoms.AtomOf.{AtomOf}
 use Rattle.member_groups.specs.Tested.{AreInOneGroup}
-use Rattle.schema_laws.proofs.state_demand.Lists.{none_in_nil}
+use Rattle.schema_laws.proofs.state_demand.lists.Lists.{none_in_nil}
 use Rattle.cells.specs.Limits.{IsWithinLimits}
 use Rattle.regions.specs.declared.region.Region.{Region}
 use Rattle.regions.specs.Atoms.{Allows, LiesIn, atom_at}
@@ -20,19 +20,19 @@ use Rattle.regions.specs.Patterns.{Valuation}
 use Rattle.regions.specs.Regions.{regions_of}
 use Rattle.regions.specs.Settled.{Possible, is_nullable, multi, of_atom, single}
 use Rattle.regions.specs.region_laws.IsBasis.{IsBasis}
-use Rattle.regions.proofs.region_laws.Atoms.{not_null}
-use Rattle.regions.proofs.region_laws.Symbols.{Decides-prop}
+use Rattle.regions.proofs.region_laws.values.Atoms.{not_null}
+use Rattle.regions.proofs.region_laws.values.Symbols.{Decides-prop}
 use Rattle.region_states.specs.defaults.Short.{IsOfSort, IsShort}
 use Rattle.region_states.specs.defaults.Candidates.{AreTwoFree, first_free, next_free}
 use Rattle.region_states.specs.defaults.Fresh.{focus_key, fresh, lost, lost_value}
 use Rattle.region_states.specs.defaults.Defaults.{alone, changed, fresh_at, is_dependent, one_value, other_value, place_in}
 use Rattle.region_states.specs.defaults.Admissible.{AreChoices, AreTwoChoices, DifferAt, HasSeveral, IsAdmissible, IsChoice}
-use Rattle.region_states.proofs.defaults.Constants.{dependent_none, joined_none}
+use Rattle.region_states.proofs.defaults.groups.Constants.{dependent_none, joined_none}
 use Rattle.region_states.proofs.defaults.Defaults.{IsSome, either_some, is_open, lies_open, open_two}
 use Rattle.region_states.proofs.defaults.Fitting.{dependent_takes, joined_takes}
 use Rattle.region_states.proofs.defaults.Listed.{told_found}
 use Rattle.region_states.proofs.defaults.Short.{fresh_same}
-use Rattle.region_states.proofs.defaults.Uses.{index_below}
+use Rattle.region_states.proofs.defaults.indices.Uses.{index_below}
 
 abbrev is_single : Possible → Bool
 is_single (single value) = true

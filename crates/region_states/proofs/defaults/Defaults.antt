@@ -6,31 +6,31 @@ use Rattle.std.proofs.lemmas.Bool.Decides.{Decides-like, not_from_Decides}
 use Rattle.std.proofs.lemmas.Option.{same_Some}
 use Rattle.emc_base.proofs.Lists.{all_from_members, at_once}
 use Rattle.round_trip.specs.Words.{SetId, PropId, Value, Null, EntityModel, Prop, Assoc, Constraint, At, InDomain, key_props, props_of}
-use Rattle.round_trip.specs.soundness.Inheritance.{IsKeyProp}
-use Rattle.round_trip.specs.soundness.Joined.{IsDependent, prop}
+use Rattle.round_trip.specs.soundness.models.Inheritance.{IsKeyProp}
+use Rattle.round_trip.specs.soundness.mappings.Joined.{IsDependent, prop}
 use Rattle.condition_logic.specs.declared.atoms.Atom.{Atom}
 use Rattle.condition_logic.specs.declared.atoms.Atom.TheVariants as atom
 use Rattle.condition_logic.specs.declared.atoms.AtomOf.{AtomOf}
-use Rattle.schema_laws.proofs.state_demand.Lists.{Decides-any, any_of, none_in_nil, of_any}
+use Rattle.schema_laws.proofs.state_demand.lists.Lists.{Decides-any, any_of, none_in_nil, of_any}
 use Rattle.cells.specs.Limits.{IsWithinLimits}
 use Rattle.regions.specs.declared.region.Region.{Region}
 use Rattle.regions.specs.Atoms.{Allows, LiesIn, atom_at, atoms_of}
 use Rattle.regions.specs.Basis.{Basis, Host, partner_end}
 use Rattle.regions.specs.Regions.{regions_of}
 use Rattle.regions.specs.region_laws.IsBasis.{IsBasis}
-use Rattle.regions.proofs.region_laws.Atoms.{not_null}
-use Rattle.regions.proofs.region_laws.Owning.{declared_above}
-use Rattle.regions.proofs.region_laws.Symbols.{Decides-prop}
+use Rattle.regions.proofs.region_laws.values.Atoms.{not_null}
+use Rattle.regions.proofs.region_laws.entities.Owning.{declared_above}
+use Rattle.regions.proofs.region_laws.values.Symbols.{Decides-prop}
 use Rattle.regions.specs.region_laws.pattern.Allowed.{HasAllowedParts, end_at}
 use Rattle.region_states.specs.defaults.Short.{IsShort}
 use Rattle.region_states.specs.defaults.Candidates.{AreTwoFree, first_free, next_free}
 use Rattle.region_states.specs.defaults.Fresh.{dependent_value, focus_key, fresh, most_indices, partner_key}
 use Rattle.region_states.specs.defaults.Defaults.{declared_value, default_part, default_valuation, default_value, fresh_at, is_among, is_dependent, place_in, some_value, value_by}
 use Rattle.region_states.specs.defaults.Admissible.{IsAdmissible}
-use Rattle.region_states.proofs.defaults.Bounds.{dependent_index, key_index, partner_index}
+use Rattle.region_states.proofs.defaults.indices.Bounds.{dependent_index, key_index, partner_index}
 use Rattle.region_states.proofs.defaults.Candidates.{IsPlainKind, plain_key}
-use Rattle.region_states.proofs.defaults.Classes.{dependent_is, key_prop, sound_kind}
-use Rattle.region_states.proofs.defaults.Constants.{dependent_none, plain_two, untested_two}
+use Rattle.region_states.proofs.defaults.groups.Classes.{dependent_is, key_prop, sound_kind}
+use Rattle.region_states.proofs.defaults.groups.Constants.{dependent_none, plain_two, untested_two}
 use Rattle.region_states.proofs.defaults.Fitting.{key_is}
 use Rattle.region_states.proofs.defaults.Listed.{IsTold, found_told, lost_untested, no_key_free, tested_no_key, told_found, told_is}
 use Rattle.region_states.proofs.defaults.Short.{fresh_fits, fresh_short}

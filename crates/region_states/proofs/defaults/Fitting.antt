@@ -3,8 +3,8 @@ use Rattle.std.proofs.Common.{◌≢◌, Contains, subst}
 use Rattle.emc_base.proofs.Lists.{at_once}
 use Rattle.emc_base.specs.declared.value.Kind.TheVariants as kind
 use Rattle.round_trip.specs.Words.{PropId, TypeId, Prop, At, key_props}
-use Rattle.round_trip.specs.soundness.Inheritance.{IsKeyProp}
-use Rattle.round_trip.specs.soundness.Joined.{IsDependent, Joined, prop}
+use Rattle.round_trip.specs.soundness.models.Inheritance.{IsKeyProp}
+use Rattle.round_trip.specs.soundness.mappings.Joined.{IsDependent, Joined, prop}
 use Rattle.round_trip.specs.soundness.Kinds.{IsEnum, IsKeyKind}
 use Rattle.cells.specs.Limits.{IsWithinLimits}
 use Rattle.regions.specs.region_laws.IsBasis.{IsBasis}
@@ -12,8 +12,8 @@ use Rattle.regions.specs.Basis.{Basis}
 use Rattle.region_states.specs.defaults.Candidates.{AreTwoFree, first_free, next_free}
 use Rattle.region_states.specs.defaults.Short.{TakesShort}
 use Rattle.region_states.proofs.defaults.Candidates.{plain_kind}
-use Rattle.region_states.proofs.defaults.Classes.{dependent_is, joined_key_kind, key_prop, sound_kind}
-use Rattle.region_states.proofs.defaults.Constants.{plain_two}
+use Rattle.region_states.proofs.defaults.groups.Classes.{dependent_is, joined_key_kind, key_prop, sound_kind}
+use Rattle.region_states.proofs.defaults.groups.Constants.{plain_two}
 use Rattle.region_states.proofs.defaults.Short.{fits_short}
 
 module _ (basis : Basis) (is : IsBasis basis) where

@@ -13,21 +13,21 @@ use Rattle.emc_base.proofs.Mapped.{contains_filter}
 use Rattle.emc_base.proofs.Numbered.{filter_contains, map_contains}
 use Rattle.round_trip.specs.Words.{SetId, TypeId, PropId, Prop, At, key_props, props_of}
 use Rattle.member_groups.proofs.joined_groups.Grouping.{joined_free}
-use Rattle.round_trip.specs.soundness.Joined.{IsNoKey, prop}
+use Rattle.round_trip.specs.soundness.mappings.Joined.{IsNoKey, prop}
 use Rattle.condition_logic.specs.declared.atoms.Atom.{Atom}
 use Rattle.condition_logic.specs.declared.atoms.AtomOf.{AtomOf}
 use Rattle.schema_laws.proofs.sound_types.Once.{props_once}
 use Rattle.schema_laws.proofs.sound_demand.Keys.{inherits_keys}
-use Rattle.schema_laws.proofs.state_demand.Lists.{head_stands, member_cases, none_in_nil, tail_stands}
+use Rattle.schema_laws.proofs.state_demand.lists.Lists.{head_stands, member_cases, none_in_nil, tail_stands}
 use Rattle.regions.specs.declared.region.Region.{Region}
 use Rattle.regions.specs.Atoms.{atom_at, atoms_of}
 use Rattle.regions.specs.Basis.{Basis}
 use Rattle.regions.specs.Regions.{atoms_at, regions_of, tested_props}
 use Rattle.regions.specs.region_laws.IsBasis.{IsBasis}
-use Rattle.regions.proofs.region_laws.Choices.{choice_each, pairs_head, pairs_tail}
-use Rattle.regions.proofs.region_laws.Listed.{is_listed, set_is}
-use Rattle.regions.proofs.region_laws.Owning.{declared_above}
-use Rattle.regions.proofs.region_laws.Symbols.{Decides-prop}
+use Rattle.regions.proofs.region_laws.lists.Choices.{choice_each, pairs_head, pairs_tail}
+use Rattle.regions.proofs.region_laws.listing.Listed.{is_listed, set_is}
+use Rattle.regions.proofs.region_laws.entities.Owning.{declared_above}
+use Rattle.regions.proofs.region_laws.values.Symbols.{Decides-prop}
 
 -- what is found passes, and is there
 found_passes : {X : Type 0} (test : X → Bool) (xs : List X) (x : X) → find test xs ≡ Some x → Contains xs x × (test x ≡ true)

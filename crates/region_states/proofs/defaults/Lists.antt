@@ -10,10 +10,10 @@ use Rattle.emc_base.proofs.Lists.{all_from_members}
 use Rattle.emc_base.proofs.Numbered.{filter_contains}
 use Rattle.round_trip.specs.Words.{Value}
 use Rattle.schema_laws.specs.state_demand.Selecting.{same_value}
-use Rattle.schema_laws.proofs.state_demand.Lists.{Decides-any, any_of, head_stands, member_cases, none_in_nil, of_any, tail_stands}
-use Rattle.schema_laws.proofs.state_demand.Selecting.{Decides-value}
+use Rattle.schema_laws.proofs.state_demand.lists.Lists.{Decides-any, any_of, head_stands, member_cases, none_in_nil, of_any, tail_stands}
+use Rattle.schema_laws.proofs.state_demand.writings.Selecting.{Decides-value}
 use Rattle.cells.proofs.Few.{no_more}
-use Rattle.regions.proofs.region_laws.Choices.{pairs_head, pairs_nil}
+use Rattle.regions.proofs.region_laws.lists.Choices.{pairs_head, pairs_nil}
 use Rattle.region_states.specs.defaults.Candidates.{is_free, numbers_from}
 
 -- numbers in order

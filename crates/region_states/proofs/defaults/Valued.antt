@@ -4,19 +4,19 @@ use Rattle.std.proofs.lemmas.List.Elements.{Contains-append_cases}
 use Rattle.emc_base.specs.declared.value.Kind.TheVariants as kind
 use Rattle.emc_base.proofs.Numbered.{filter_contains, map_contains}
 use Rattle.round_trip.specs.Words.{PropId, Value, Null, Whole, Flag, Kind, Prop, At, InDomain}
-use Rattle.round_trip.specs.soundness.Joined.{prop}
+use Rattle.round_trip.specs.soundness.mappings.Joined.{prop}
 use Rattle.condition_logic.specs.declared.atoms.Atom.{Atom}
 use Rattle.condition_logic.specs.declared.atoms.Atom.TheVariants as atom
-use Rattle.schema_laws.proofs.state_demand.Lists.{member_cases, none_in_nil}
+use Rattle.schema_laws.proofs.state_demand.lists.Lists.{member_cases, none_in_nil}
 use Rattle.cells.specs.Limits.{IsWithinLimits}
 use Rattle.regions.specs.Fitting.{DecidesDomains}
 use Rattle.regions.specs.Atoms.{Allows, LiesIn, atoms_of, kind_atoms}
 use Rattle.regions.specs.Basis.{Basis}
 use Rattle.regions.specs.region_laws.IsBasis.{IsBasis}
-use Rattle.regions.proofs.region_laws.Atoms.{not_null}
+use Rattle.regions.proofs.region_laws.values.Atoms.{not_null}
 use Rattle.region_states.specs.defaults.Candidates.{AreTwoFree, first_free, next_free}
 use Rattle.region_states.proofs.defaults.Candidates.{IsPlainKind}
-use Rattle.region_states.proofs.defaults.Constants.{plain_two}
+use Rattle.region_states.proofs.defaults.groups.Constants.{plain_two}
 
 -- of an atom that isn't null: its value is in the domain, and a constant where the kind is neither of flags nor an enumeration
 abbrev KindTells : Kind → List Value → Atom → Type 0

@@ -5,7 +5,7 @@ use Rattle.round_trip.specs.Words.{At, DemandsRow, EntitySet, FailsAt, FailsBy, 
 use Rattle.round_trip.specs.FailsAt.{Disagrees, IsSameAs}
 use Rattle.round_trip.specs.declared.FailKind.{FailKind}
 use Rattle.round_trip.specs.declared.FailKind.TheVariants as variant
-use Rattle.schema_laws.proofs.state_demand.Lists.{none_in_nil}
+use Rattle.schema_laws.proofs.state_demand.lists.Lists.{none_in_nil}
 use Rattle.schema_laws.proofs.sound_demand.Fitting.{sound_fragment}
 use Rattle.regions.specs.Basis.{Basis}
 use Rattle.regions.specs.region_laws.IsBasis.{IsBasis}
@@ -13,7 +13,7 @@ use Rattle.region_states.specs.focus.Held.{IsRowOfOne}
 use Rattle.region_states.proofs.focus.Demanded.{row_of_one}
 use Rattle.region_states.specs.conflicts.There.{FailsByThere, FailsThere, IsRowOf, NoneFailsBy}
 use Rattle.region_states.specs.LoneStates.{HasNoAssociationSets}
-use Rattle.region_states.proofs.Legal.{no_assoc, no_host}
+use Rattle.region_states.proofs.lone.Legal.{no_assoc, no_host}
 
 -- it is so at a set of the model
 abbrev pub AtSome : Basis → (SetId → Type 0) → Type 0

@@ -14,15 +14,15 @@ use Rattle.regions.specs.Patterns.{Valuation, by_entity, by_link}
 use Rattle.regions.specs.Shown.{shows_link_row, shows_row}
 use Rattle.regions.specs.Symbols.{is_linked, selects_region}
 use Rattle.regions.specs.region_laws.IsBasis.{IsBasis}
-use Rattle.regions.proofs.region_laws.Owned.{cell_demanded, link_cell_demanded}
-use Rattle.regions.proofs.region_laws.Possible.{linked_hosts}
-use Rattle.regions.proofs.region_laws.Selected.{Decides-selected}
+use Rattle.regions.proofs.region_laws.writings.Owned.{cell_demanded, link_cell_demanded}
+use Rattle.regions.proofs.region_laws.listing.Possible.{linked_hosts}
+use Rattle.regions.proofs.region_laws.entities.Selected.{Decides-selected}
 use Rattle.regions.specs.region_laws.pattern.Allowed.{IsAllowed}
 use Rattle.regions.specs.region_laws.pattern.Described.{AreDemanded, IsRowFor}
-use Rattle.regions.proofs.region_laws.pattern.Agreeing.{is_described, link_agrees}
-use Rattle.regions.proofs.region_laws.pattern.Allowed.{region_allowed}
-use Rattle.regions.proofs.region_laws.pattern.Origins.{linked_decided}
-use Rattle.regions.proofs.region_laws.pattern.Shown.{link_shown, shown}
+use Rattle.regions.proofs.region_laws.pattern.rows.Agreeing.{is_described, link_agrees}
+use Rattle.regions.proofs.region_laws.pattern.values.Allowed.{region_allowed}
+use Rattle.regions.proofs.region_laws.pattern.symbols.Origins.{linked_decided}
+use Rattle.regions.proofs.region_laws.pattern.rows.Shown.{link_shown, shown}
 use Rattle.region_states.specs.focus.Agreeing.{IsClearRow, IsRowOfEntity}
 use Rattle.region_states.specs.focus.Held.{IsHeldAt}
 use Rattle.region_states.proofs.focus.Hosts.{HostsLink, has_link, hosts_link}

@@ -11,7 +11,7 @@ use Rattle.regions.specs.Patterns.{by_entity, by_link, is_written, pattern_of}
 use Rattle.regions.specs.Symbols.{link_writings}
 use Rattle.regions.specs.region_laws.Concrete.{HasSymbol}
 use Rattle.regions.specs.region_laws.IsBasis.{IsBasis}
-use Rattle.regions.proofs.region_laws.Owned.{cell_demanded, link_cell_demanded, link_row_demanded, row_demanded}
+use Rattle.regions.proofs.region_laws.writings.Owned.{cell_demanded, link_cell_demanded, link_row_demanded, row_demanded}
 use Rattle.region_states.specs.focus.Held.{HasRow, IsAtLinkRow, IsAtRow, IsHeldAt, IsRowOfOne, ListsValue}
 use Rattle.region_states.proofs.focus.Listed.{has_row, has_symbol}
 

@@ -7,11 +7,11 @@ use Rattle.regions.specs.Basis.{Basis, Host, host_end, partner_end}
 use Rattle.regions.specs.region_laws.IsBasis.{IsBasis, IsHostOf}
 use Rattle.regions.specs.region_laws.Partners.{HasFewPartners, part_by}
 use Rattle.regions.specs.region_laws.RegionAt.{hosted_links, links_at, region_at}
-use Rattle.regions.proofs.region_laws.Hosting.{covered, hosted_are, no_link}
-use Rattle.regions.proofs.region_laws.Partners.{has_partners}
-use Rattle.regions.proofs.region_laws.Possible.{must_link}
-use Rattle.regions.proofs.region_laws.Regions.{flag_none, flag_one, region_among, region_holds}
-use Rattle.regions.proofs.region_laws.pattern.Regions.{PartsOf, parts_of}
+use Rattle.regions.proofs.region_laws.entities.Hosting.{covered, hosted_are, no_link}
+use Rattle.regions.proofs.region_laws.entities.Partners.{has_partners}
+use Rattle.regions.proofs.region_laws.listing.Possible.{must_link}
+use Rattle.regions.proofs.region_laws.entities.Regions.{flag_none, flag_one, region_among, region_holds}
+use Rattle.regions.proofs.region_laws.pattern.types.Regions.{PartsOf, parts_of}
 use Rattle.region_states.specs.focus.Held.{IsHeldAt, IsOfRegion}
 
 abbrev is_any : Mult → Bool

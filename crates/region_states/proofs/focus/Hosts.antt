@@ -5,19 +5,19 @@ use Rattle.emc_base.proofs.Mapped.{contains_at}
 use Rattle.emc_base.proofs.Numbered.{map_contains}
 use Rattle.round_trip.specs.Words.{SetId, AssocId, Assoc, ColId, Entity, Link, LinkFragment, Pair, State, Table, At, key_columns, key_of, links_in}
 use Rattle.round_trip.specs.FailsAt.{IsHostedAt}
-use Rattle.round_trip.specs.soundness.Owners.{IsPlaced}
+use Rattle.round_trip.specs.soundness.mappings.Owners.{IsPlaced}
 use Rattle.round_trip.specs.soundness.Stores.{IsSoundTable}
 use Rattle.schema_laws.specs.state_demand.Owners.{IsHostAt, IsHosted, IsLinkOf}
-use Rattle.schema_laws.proofs.state_demand.Fitting.{key_is}
+use Rattle.schema_laws.proofs.state_demand.writings.Fitting.{key_is}
 use Rattle.schema_laws.specs.sound_demand.Fragments.{IsHostedFragment}
 use Rattle.schema_laws.specs.sound_demand.ReadBack.{HasLinkOf}
 use Rattle.schema_laws.proofs.sound_demand.Fitting.{sound_link}
-use Rattle.schema_laws.proofs.sound_demand.OneOwner.{owned_or_joined}
-use Rattle.schema_laws.proofs.sound_demand.Owned.{joined_to}
+use Rattle.schema_laws.proofs.sound_demand.owners.OneOwner.{owned_or_joined}
+use Rattle.schema_laws.proofs.sound_demand.owners.Owned.{joined_to}
 use Rattle.regions.specs.Basis.{Basis, Host, host_end, host_key}
 use Rattle.regions.specs.region_laws.IsBasis.{IsBasis}
-use Rattle.regions.proofs.region_laws.pattern.Hosting.{hosted_side, partner_no_key}
-use Rattle.regions.proofs.region_laws.pattern.Origins.{side}
+use Rattle.regions.proofs.region_laws.pattern.symbols.Hosting.{hosted_side, partner_no_key}
+use Rattle.regions.proofs.region_laws.pattern.symbols.Origins.{side}
 use Rattle.region_states.proofs.focus.Listed.{some_member}
 
 module _ (basis : Basis) (is : IsBasis basis) (s : SetId) (pairing : List Pair) (assoc : Assoc) (fragment : LinkFragment) (table : Table)

@@ -6,11 +6,11 @@ use Rattle.emc_base.proofs.Mapped.{contains_at}
 use Rattle.emc_base.proofs.Numbered.{map_contains}
 use Rattle.round_trip.specs.Words.{TableId, ColId, SetId, Assoc, Column, Cond, CondOn, Fragment, LinkFragment, Pair, Table, Value, At}
 use Rattle.edm_types.specs.declared.mapping.CondOn.TheVariants as on
-use Rattle.round_trip.specs.soundness.Mappings.{HasFragmentIds, HasLinkFragmentIds, HasPairIds, IsCondId}
+use Rattle.round_trip.specs.soundness.mappings.Mappings.{HasFragmentIds, HasLinkFragmentIds, HasPairIds, IsCondId}
 use Rattle.round_trip.specs.soundness.Stores.{IsColId, IsKeyColumn, IsSoundTable, IsTableId}
 use Rattle.member_groups.specs.Tested.{HasCondition}
 use Rattle.schema_laws.specs.state_demand.Owners.{IsJoinedTo, IsOwned}
-use Rattle.schema_laws.proofs.state_demand.Lists.{any_of, head_stands}
+use Rattle.schema_laws.proofs.state_demand.lists.Lists.{any_of, head_stands}
 use Rattle.schema_laws.proofs.sound_demand.Fitting.{columns_are, link_ids, sound_fragment}
 use Rattle.regions.specs.declared.region.Region.{Region}
 use Rattle.regions.specs.declared.pattern.Symbol.{Symbol}
@@ -23,13 +23,13 @@ use Rattle.regions.specs.Regions.{regions_of}
 use Rattle.regions.specs.Symbols.{SymbolWriting, link_fragment_writing, link_fragments_of, region_writings}
 use Rattle.regions.specs.region_laws.Concrete.{HasSymbol}
 use Rattle.regions.specs.region_laws.IsBasis.{IsBasis}
-use Rattle.regions.proofs.region_laws.Cells.{Decides-written}
-use Rattle.regions.proofs.region_laws.Rows.{row_cells, rows_all, rows_only}
+use Rattle.regions.proofs.region_laws.writings.Cells.{Decides-written}
+use Rattle.regions.proofs.region_laws.writings.Rows.{row_cells, rows_all, rows_only}
 use Rattle.regions.specs.region_laws.pattern.Listed.{HasCell, Lists}
 use Rattle.regions.proofs.region_laws.pattern.Cells.{cell_of as made_cell, listed_written, writing_to}
 use Rattle.regions.proofs.region_laws.pattern.Keys.{owned_here}
-use Rattle.regions.proofs.region_laws.pattern.Origins.{From, IsRegionWriter, by_cond, by_end, by_host, by_pair, chosen_of, is_from, link_of, region_writer}
-use Rattle.regions.proofs.region_laws.pattern.Hosting.{one_link, side_among}
+use Rattle.regions.proofs.region_laws.pattern.symbols.Origins.{From, IsRegionWriter, by_cond, by_end, by_host, by_pair, chosen_of, is_from, link_of, region_writer}
+use Rattle.regions.proofs.region_laws.pattern.symbols.Hosting.{one_link, side_among}
 use Rattle.region_states.specs.focus.Held.{HasRow, ListsValue}
 
 -- a list that isn't empty has a member

@@ -5,9 +5,9 @@ use Rattle.emc_base.proofs.Mapped.{contains_filter}
 use Rattle.emc_base.proofs.Numbered.{filter_contains}
 use Rattle.round_trip.specs.Words.{SetId, AssocId, PropId, Entity, Hosted, Link, State, Value, key_of, links_in}
 use Rattle.schema_laws.specs.state_demand.Selecting.{same_key}
-use Rattle.schema_laws.proofs.state_demand.Decisions.{so_or_not}
-use Rattle.schema_laws.proofs.state_demand.Lists.{any_of, head_stands, none_in_nil, of_any}
-use Rattle.schema_laws.proofs.state_demand.Selecting.{Decides-key}
+use Rattle.schema_laws.proofs.state_demand.writings.Decisions.{so_or_not}
+use Rattle.schema_laws.proofs.state_demand.lists.Lists.{any_of, head_stands, none_in_nil, of_any}
+use Rattle.schema_laws.proofs.state_demand.writings.Selecting.{Decides-key}
 use Rattle.regions.specs.declared.region.Region.{Region}
 use Rattle.regions.specs.Basis.{Basis, Host, IsHostedLink, host_key, partner_key}
 use Rattle.regions.specs.Regions.{Holds, TellsLinks}
@@ -15,10 +15,10 @@ use Rattle.regions.specs.Symbols.{is_linked}
 use Rattle.regions.specs.region_laws.IsBasis.{AreHostedLinks, IsBasis}
 use Rattle.regions.specs.region_laws.Partners.{HasPartners, TellsPartner}
 use Rattle.regions.specs.region_laws.RegionAt.{hosted_links, links_at}
-use Rattle.regions.proofs.region_laws.Hosting.{hosted_are}
+use Rattle.regions.proofs.region_laws.entities.Hosting.{hosted_are}
 use Rattle.regions.specs.region_laws.pattern.Allowed.{ArePartners}
-use Rattle.regions.proofs.region_laws.pattern.Origins.{linked_decided}
-use Rattle.regions.proofs.region_laws.pattern.Regions.{parts_of}
+use Rattle.regions.proofs.region_laws.pattern.symbols.Origins.{linked_decided}
+use Rattle.regions.proofs.region_laws.pattern.types.Regions.{parts_of}
 use Rattle.region_states.specs.focus.Held.{IsHeldAt}
 
 not_is : (b : Bool) → not b ≡ (if b then false else true)

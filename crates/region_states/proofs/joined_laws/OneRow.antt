@@ -4,7 +4,7 @@ use Rattle.std.proofs.lemmas.Bool.Decides.{Decides-eqb}
 use Rattle.emc_base.proofs.Mapped.{contains_filter, contains_map}
 use Rattle.round_trip.specs.Words.{Assoc, LinkFragment, TableId}
 use Rattle.schema_laws.specs.state_demand.Owners.{IsJoinedTo}
-use Rattle.schema_laws.proofs.state_demand.Lists.{any_of, head_stands, member_cases, none_in_nil, tail_stands}
+use Rattle.schema_laws.proofs.state_demand.lists.Lists.{any_of, head_stands, member_cases, none_in_nil, tail_stands}
 use Rattle.regions.specs.declared.pattern.Focus.{Focus}
 use Rattle.regions.specs.declared.pattern.Focus.TheVariants as focus
 use Rattle.regions.specs.declared.pattern.PatternRow.{PatternRow}
@@ -12,8 +12,8 @@ use Rattle.regions.specs.Basis.{Basis}
 use Rattle.regions.specs.Patterns.{is_written, pattern_of, writings_of}
 use Rattle.regions.specs.Symbols.{SymbolWriting, link_fragment_writing, link_fragments_of}
 use Rattle.regions.specs.region_laws.IsBasis.{IsBasis}
-use Rattle.regions.proofs.region_laws.Cells.{Decides-written}
-use Rattle.regions.proofs.region_laws.Rows.{rows_order}
+use Rattle.regions.proofs.region_laws.writings.Cells.{Decides-written}
+use Rattle.regions.proofs.region_laws.writings.Rows.{rows_order}
 use Rattle.region_states.specs.focus.Held.{HasRow}
 use Rattle.region_states.proofs.focus.Listed.{has_row, row_joined}
 

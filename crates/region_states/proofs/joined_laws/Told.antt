@@ -6,14 +6,14 @@ use Rattle.emc_base.proofs.Lists.{item_at}
 use Rattle.emc_base.proofs.Mapped.{contains_at}
 use Rattle.round_trip.specs.Words.{Assoc, AssocId, At, LinkFragId, LinkFragment, Pair, Schema, SetId, TableId}
 use Rattle.round_trip.specs.FailsAt.{IsHostedAt}
-use Rattle.round_trip.specs.soundness.Mappings.{IsSoundSchema}
-use Rattle.round_trip.specs.soundness.Owners.{LinkMaps, Owns}
+use Rattle.round_trip.specs.soundness.mappings.Mappings.{IsSoundSchema}
+use Rattle.round_trip.specs.soundness.mappings.Owners.{LinkMaps, Owns}
 use Rattle.schema_laws.specs.state_demand.Owners.{IsJoinedTo}
-use Rattle.schema_laws.proofs.state_demand.Lists.{same_by_key}
-use Rattle.schema_laws.proofs.state_demand.Owners.{pairs_from_map}
+use Rattle.schema_laws.proofs.state_demand.lists.Lists.{same_by_key}
+use Rattle.schema_laws.proofs.state_demand.owners.Owners.{pairs_from_map}
 use Rattle.schema_laws.proofs.sound_demand.Fitting.{sound_link}
-use Rattle.schema_laws.proofs.sound_demand.OneOwner.{owned_or_joined}
-use Rattle.schema_laws.proofs.sound_demand.Owned.{joined_to, owned}
+use Rattle.schema_laws.proofs.sound_demand.owners.OneOwner.{owned_or_joined}
+use Rattle.schema_laws.proofs.sound_demand.owners.Owned.{joined_to, owned}
 use Rattle.table_owners.specs.declared.places.LinkPlace.{LinkPlace}
 use Rattle.table_owners.specs.declared.places.LinkPlace.TheVariants as place
 use Rattle.table_owners.specs.Places.{IsMappedBy, TellPlaces, TellsPlace}

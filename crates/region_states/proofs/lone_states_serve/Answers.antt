@@ -1,6 +1,6 @@
-use Rattle.region_states.proofs.Alike.{lone_hosts, lone_leaves, lone_rivals}
-use Rattle.region_states.proofs.Legal.{empty_legal, lone_holds}
-use Rattle.region_states.proofs.Lone.{both_small}
+use Rattle.region_states.proofs.lone.Alike.{lone_hosts, lone_leaves, lone_rivals}
+use Rattle.region_states.proofs.lone.Legal.{empty_legal, lone_holds}
+use Rattle.region_states.proofs.lone.Lone.{both_small}
 use Rattle.region_states.proofs.lone_states_serve.Goals as goal
 
 pub returns-clause-legal : goal.returns-clause-legal

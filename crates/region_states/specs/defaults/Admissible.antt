@@ -2,7 +2,7 @@
 -- Source: CSDL version 3, Property, Key and ReferentialConstraint; this project's regions.
 use Rattle.std.specs.Prelude.{◌≡◌, ◌≢◌, Bool, Option, Some, Contains, not}
 use Rattle.round_trip.specs.Words.{PropId, Value, Null, Prop, Assoc, At, key_props, props_of}
-use Rattle.round_trip.specs.soundness.Joined.{IsDependent, prop}
+use Rattle.round_trip.specs.soundness.mappings.Joined.{IsDependent, prop}
 use Rattle.condition_logic.specs.declared.atoms.Atom.{Atom}
 use Rattle.regions.specs.declared.pattern.Symbol.TheVariants as symbol
 use Rattle.regions.specs.declared.region.Region.{Region}

@@ -3,8 +3,8 @@
 use Rattle.std.specs.Prelude.{◌≡◌, ◌↔◌, ◌<◌, List, AllPairs, Contains, IsTrue, if◌then◌else◌}
 use Rattle.round_trip.specs.Words.{SetId, Assoc, LinkFragment, Schema, Entity, Hosted, State, At, key_of}
 use Rattle.round_trip.specs.FailsAt.{IsHostedAt}
-use Rattle.round_trip.specs.soundness.Joined.{Member}
-use Rattle.round_trip.specs.soundness.Mappings.{IsSoundSchema}
+use Rattle.round_trip.specs.soundness.mappings.Joined.{Member}
+use Rattle.round_trip.specs.soundness.mappings.Mappings.{IsSoundSchema}
 use Rattle.member_groups.specs.MemberGroups.{ListsJust}
 use Rattle.member_groups.specs.Tested.{AreInOneGroup, IsConstant, IsMember, IsTested}
 use Rattle.schema_laws.specs.state_demand.Selecting.{DecidesTypes}

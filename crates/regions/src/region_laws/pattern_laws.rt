@@ -4,7 +4,7 @@ ghost use Rattle.std.specs.Prelude.{◌≡◌, ◌≢◌, ◌↔◌, [], ◌∷�
 ghost use Rattle.round_trip.specs.Words.{Assoc, AssocId, At, ColId, Entity, EntityModel, Fragment, Hosted, IsLegal, Link, LinkFragment, Null, Pair, Prop, PropId, Row, Selects, SetId, Shows, ShowsLink, State, Table, TableId, Tables, TablesAre, Value, entities_in, key_columns, links_in, row_key, rows_in};
 ghost use Rattle.edm_types.specs.declared.model.Mult.TheVariants.{Many};
 ghost use Rattle.condition_logic.specs.declared.atoms.AtomOf.{AtomOf};
-ghost use Rattle.round_trip.specs.soundness.Joined.{IsNoKey, Member, TellsOther, col, prop};
+ghost use Rattle.round_trip.specs.soundness.mappings.Joined.{IsNoKey, Member, TellsOther, col, prop};
 ghost use Rattle.schema_laws.specs.state_demand.Owners.{IsOwned};
 ghost use Rattle.regions.specs.region_laws.IsBasis.{AreHostedLinks, IsBasis};
 ghost use Rattle.regions.specs.declared.region.Region.{Region};

@@ -1,5 +1,5 @@
-use Rattle.round_trip.specs.Breaches.{BreaksRule}
-use Rattle.round_trip.specs.TableBreaches.{BreaksTableRule}
+use Rattle.round_trip.specs.legality.Breaches.{BreaksRule}
+use Rattle.round_trip.specs.legality.TableBreaches.{BreaksTableRule}
 use Rattle.round_trip.proofs.FirstBreach.{one_first}
 use Rattle.round_trip.proofs.StateBreaches.{state_rules_tell_one}
 use Rattle.round_trip.proofs.TableBreaches.{table_rules_tell_one}

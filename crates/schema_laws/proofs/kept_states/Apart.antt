@@ -6,9 +6,9 @@ use Rattle.std.proofs.lemmas.List.Sorted.{IsPermutation-refl, IsPermutation-sym,
 use Rattle.emc_base.proofs.Lists.{item_at}
 use Rattle.round_trip.specs.Words.{AreSameTables, Assoc, AssocId, At, Entity, EntitySet, IsIndependent, IsLegal, IsLink, IsSameState, Keeps, RoundTrips, Schema, SetId, State, Tables, TablesAre, entities_in, key_of, links_in, place_at, rows_in}
 use Rattle.round_trip.specs.declared.FailKind.TheVariants as kind
-use Rattle.round_trip.specs.soundness.Mappings.{IsSoundSchema}
+use Rattle.round_trip.specs.soundness.mappings.Mappings.{IsSoundSchema}
 use Rattle.schema_laws.proofs.sound_demand.Kept.{all_stored}
-use Rattle.schema_laws.proofs.state_demand.Permutations.{same_members_permute}
+use Rattle.schema_laws.proofs.state_demand.lists.Permutations.{same_members_permute}
 use Rattle.schema_laws.proofs.kept_states.Entities.{apart_by_key, none_stands, past_none, stands_or_not}
 
 -- two empty lists are the same

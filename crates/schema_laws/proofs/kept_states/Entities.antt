@@ -3,8 +3,8 @@ use Rattle.std.proofs.Common.{◌≡◌, ◌≢◌, ◌⊎◌, ◌==◌, inl, in
 use Rattle.std.proofs.lemmas.Bool.Decides.{Decides-eqb, Decides-like}
 use Rattle.std.proofs.lemmas.Option.{slice_get_past}
 use Rattle.round_trip.specs.Words.{Entity, TypeId}
-use Rattle.schema_laws.proofs.state_demand.Decisions.{both_or_not, key_or_not, so_or_not}
-use Rattle.schema_laws.proofs.state_demand.Lists.{any_or_none, head_stands}
+use Rattle.schema_laws.proofs.state_demand.writings.Decisions.{both_or_not, key_or_not, so_or_not}
+use Rattle.schema_laws.proofs.state_demand.lists.Lists.{any_or_none, head_stands}
 
 -- two types are one, or they aren't
 type_or_not : (one two : TypeId) → (one ≡ two) ⊎ (one ≢ two)

@@ -8,7 +8,7 @@ use Rattle.std.proofs.lemmas.List.Sorted.{Contains-permutation, IsPermutation-ke
 use Rattle.std.proofs.lemmas.Option.{get_or_from_slice_get, slice_get-get_or, slice_get_within}
 use Rattle.emc_base.specs.Lists.{AtMostOne}
 use Rattle.emc_base.proofs.Lists.{all_from_members}
-use Rattle.schema_laws.proofs.state_demand.Lists.{any_of, of_any}
+use Rattle.schema_laws.proofs.state_demand.lists.Lists.{any_of, of_any}
 
 -- where the item of a place comes from when two items change places
 record ComesFrom {X : Type 0} (before after : ℕ → X) (a b n place : ℕ) : Type 0 where

@@ -7,7 +7,7 @@ use Rattle.std.proofs.lemmas.Bool.Decides.{Decides-eqb, Decides-like, Decides-or
 use Rattle.std.proofs.lemmas.Option.{MatchOption-at_some, none-some, same_Some, slice_get_past}
 use Rattle.round_trip.specs.Words.{EntityModel, EntityType, TypeId, HasBase, IsA}
 use Rattle.edm_types.specs.IsA.{same, base, chain}
-use Rattle.round_trip.specs.soundness.Models.{IsSoundModel}
+use Rattle.round_trip.specs.soundness.models.Models.{IsSoundModel}
 use Rattle.graphs.proofs.base_chains.Chains.{Ends}
 use Rattle.schema_laws.proofs.sound_types.BasePlaces.{base_ends, base_here, base_place, first_step}
 use Rattle.schema_laws.specs.state_demand.Selecting.{DecidesTypes}

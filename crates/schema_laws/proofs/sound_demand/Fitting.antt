@@ -9,12 +9,12 @@ use Rattle.emc_base.proofs.Numbered.{map_contains}
 use Rattle.round_trip.specs.Words.{TableId, ColId, Assoc, Column, Table, StoreModel, Fragment, LinkFragment, Pair, Cond, Schema, At, key_columns}
 use Rattle.round_trip.specs.FailsAt.{IsHostedAt}
 use Rattle.round_trip.specs.soundness.Lookups.{columns_of, set_key}
-use Rattle.round_trip.specs.soundness.Mappings.{HasLinkFragmentIds, HasPairIds, IsCondId, IsSoundFragment, IsSoundLinkFragment, IsSoundSchema}
-use Rattle.round_trip.specs.soundness.Owners.{IsJoined, IsPlaced}
+use Rattle.round_trip.specs.soundness.mappings.Mappings.{HasLinkFragmentIds, HasPairIds, IsCondId, IsSoundFragment, IsSoundLinkFragment, IsSoundSchema}
+use Rattle.round_trip.specs.soundness.mappings.Owners.{IsJoined, IsPlaced}
 use Rattle.round_trip.specs.soundness.Stores.{IsColId}
 use Rattle.schema_laws.specs.state_demand.WellWritten.{FitsTable, HasAssocs, HasCol, HasTables, IsOnColumn, IsWellWritten, cols_of}
-use Rattle.schema_laws.proofs.state_demand.Fitting.{key_is}
-use Rattle.schema_laws.proofs.state_demand.Lists.{of_any}
+use Rattle.schema_laws.proofs.state_demand.writings.Fitting.{key_is}
+use Rattle.schema_laws.proofs.state_demand.lists.Lists.{of_any}
 
 -- the columns of a table
 pub columns_are : (store : StoreModel) (t : TableId) (table : Table) → At store.tables t.index table → columns_of store t ≡ table.cols

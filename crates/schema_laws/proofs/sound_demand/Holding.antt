@@ -8,11 +8,11 @@ use Rattle.emc_base.specs.declared.value.Value.TheVariants as value
 use Rattle.emc_base.proofs.Lists.{all_from_members, item_at}
 use Rattle.emc_base.proofs.Mapped.{contains_at}
 use Rattle.round_trip.specs.Words.{TableId, ColId, Value, Kind, Prop, Table, Column, Fragment, LinkFragment, Pair, Cond, Schema, At, InDomain}
-use Rattle.round_trip.specs.soundness.Conditions.{ComparesInDomain, kind_of}
-use Rattle.round_trip.specs.soundness.Fragments.{WritesToFitting}
+use Rattle.round_trip.specs.soundness.mappings.Conditions.{ComparesInDomain, kind_of}
+use Rattle.round_trip.specs.soundness.mappings.Fragments.{WritesToFitting}
 use Rattle.round_trip.specs.soundness.Kinds.{Corresponds, IsNoSmaller, IsSoundEnum, IsSoundKind, under_kind}
 use Rattle.round_trip.specs.soundness.Lookups.{column_kind, prop_kind}
-use Rattle.round_trip.specs.soundness.Mappings.{HasPairIds, IsSoundSchema}
+use Rattle.round_trip.specs.soundness.mappings.Mappings.{HasPairIds, IsSoundSchema}
 use Rattle.schema_laws.specs.state_demand.WellWritten.{HoldsCells, HoldsConstant, HoldsPair, HoldsValues}
 use Rattle.schema_laws.proofs.sound_demand.Fitting.{assoc_of, columns_are, link_ids, sound_fragment, sound_link}
 

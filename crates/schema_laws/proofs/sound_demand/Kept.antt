@@ -2,14 +2,14 @@
 use Rattle.std.proofs.Common.{Decides}
 use Rattle.round_trip.specs.Words.{Place, Schema, State, Tables, AreLegalTables, AreSameTables, HasGoodTables, HasNoClash, IsLegal, RoundTrips, TablesAre}
 use Rattle.round_trip.specs.FailsAt.{Clashes, Dangles, LeavesNull}
-use Rattle.round_trip.specs.soundness.Mappings.{IsSoundSchema}
+use Rattle.round_trip.specs.soundness.mappings.Mappings.{IsSoundSchema}
 use Rattle.schema_laws.specs.state_demand.Writings.{AreWritings}
-use Rattle.schema_laws.proofs.state_demand.Good.{legal_tables, stored}
-use Rattle.schema_laws.proofs.state_demand.NoClash.{Decides-no_clash}
-use Rattle.schema_laws.proofs.state_demand.ReadBack.{no_clash_from_none}
-use Rattle.schema_laws.proofs.state_demand.SameTables.{same_tables}
-use Rattle.schema_laws.proofs.state_demand.Tables.{tables_are}
-use Rattle.schema_laws.proofs.state_demand.Writings.{are_writings}
+use Rattle.schema_laws.proofs.state_demand.tables.Good.{legal_tables, stored}
+use Rattle.schema_laws.proofs.state_demand.writings.NoClash.{Decides-no_clash}
+use Rattle.schema_laws.proofs.state_demand.tables.ReadBack.{no_clash_from_none}
+use Rattle.schema_laws.proofs.state_demand.tables.SameTables.{same_tables}
+use Rattle.schema_laws.proofs.state_demand.tables.Tables.{tables_are}
+use Rattle.schema_laws.proofs.state_demand.writings.Writings.{are_writings}
 use Rattle.schema_laws.specs.sound_demand.Deriving.{derives}
 use Rattle.schema_laws.specs.sound_demand.Made.{has_no_clash, tables_for, writings_in}
 use Rattle.schema_laws.proofs.sound_demand.Deriving.{decides_types}

@@ -9,9 +9,9 @@ use Rattle.emc_base.proofs.Lists.{item_at}
 use Rattle.emc_base.proofs.Mapped.{contains_at}
 use Rattle.round_trip.specs.Words.{EntityModel, EntityType, PropId, TypeId, HasBase, IsA, At, key_props}
 use Rattle.edm_types.specs.IsA.{same, base, chain}
-use Rattle.round_trip.specs.soundness.Inheritance.{IsRootKey}
-use Rattle.round_trip.specs.soundness.ModelIds.{IsTypeId}
-use Rattle.round_trip.specs.soundness.Models.{IsSoundModel}
+use Rattle.round_trip.specs.soundness.models.Inheritance.{IsRootKey}
+use Rattle.round_trip.specs.soundness.models.ModelIds.{IsTypeId}
+use Rattle.round_trip.specs.soundness.models.Models.{IsSoundModel}
 use Rattle.graphs.proofs.base_chains.Chains.{Ends}
 use Rattle.schema_laws.proofs.sound_types.BasePlaces.{base_ends, base_here, base_place}
 use Rattle.schema_laws.specs.state_demand.Owners.{InheritsKeys}

@@ -1,13 +1,13 @@
 -- Demand is local to rows, for every sound schema.
 use Rattle.std.proofs.Common.{inl, inr, List}
 use Rattle.round_trip.specs.Words.{SetId, TableId, Assoc, LinkFragment, Pair, Schema, State, IsLegal}
-use Rattle.round_trip.specs.soundness.Mappings.{IsSoundSchema}
+use Rattle.round_trip.specs.soundness.mappings.Mappings.{IsSoundSchema}
 use Rattle.schema_laws.specs.state_demand.Owners.{HasOwner, IsJoinedTo, IsOwned}
-use Rattle.schema_laws.proofs.state_demand.Joined.{local_link, one_link, writes_row}
-use Rattle.schema_laws.proofs.state_demand.Owners.{local, one, whole}
+use Rattle.schema_laws.proofs.state_demand.owners.Joined.{local_link, one_link, writes_row}
+use Rattle.schema_laws.proofs.state_demand.owners.Owners.{local, one, whole}
 use Rattle.schema_laws.specs.sound_demand.Local.{HasLocalDemand, IsLocal, IsLocalToLinks}
 use Rattle.schema_laws.proofs.sound_demand.Keys.{inherits_keys}
-use Rattle.schema_laws.proofs.sound_demand.Owned.{has_owner}
+use Rattle.schema_laws.proofs.sound_demand.owners.Owned.{has_owner}
 
 module _ (schema : Schema) (sound : IsSoundSchema schema) (state : State) (legal : IsLegal schema.model state) (t : TableId) where
   pub is_local : (owner : SetId) (pairing : List Pair) → IsOwned schema t owner pairing → IsLocal schema state t owner pairing

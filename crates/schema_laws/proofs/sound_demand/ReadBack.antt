@@ -1,12 +1,12 @@
 -- Rows are read back, for every sound schema.
 use Rattle.std.proofs.Common.{◌≡◌, ◌↔◌, ⊎_elim, List, Any, refl, sym, ap, ◌∙◌}
 use Rattle.round_trip.specs.Words.{SetId, TableId, Value, Null, Assoc, Entity, LinkFragment, Pair, Row, Schema, State, Table, Tables, At, Writing, WritesRow, DemandsCell, TablesAre, IsLegal, cell_of, row_key, rows_in, written_key}
-use Rattle.round_trip.specs.soundness.Mappings.{IsSoundSchema}
+use Rattle.round_trip.specs.soundness.mappings.Mappings.{IsSoundSchema}
 use Rattle.schema_laws.specs.state_demand.Owners.{IsJoinedTo, IsOwned, StandsAt, paired_key}
 use Rattle.schema_laws.specs.state_demand.Writings.{link_writing}
-use Rattle.schema_laws.proofs.state_demand.Joined.{local_link, one_link, writes_row}
-use Rattle.schema_laws.proofs.state_demand.Lists.{of_any, same_by_key}
-use Rattle.schema_laws.proofs.state_demand.ReadBack.{cells_demanded, row_demanded, rows_demanded, rows_told}
+use Rattle.schema_laws.proofs.state_demand.owners.Joined.{local_link, one_link, writes_row}
+use Rattle.schema_laws.proofs.state_demand.lists.Lists.{of_any, same_by_key}
+use Rattle.schema_laws.proofs.state_demand.tables.ReadBack.{cells_demanded, row_demanded, rows_demanded, rows_told}
 use Rattle.schema_laws.specs.sound_demand.Local.{IsLocal}
 use Rattle.schema_laws.specs.sound_demand.ReadBack.{AreRowsOf, AreRowsOfLinks, WritesTo}
 use Rattle.schema_laws.proofs.sound_demand.Local.{is_local}

@@ -12,13 +12,13 @@ use Rattle.emc_base.proofs.Mapped.{contains_at, contains_enumerated, contains_fi
 use Rattle.round_trip.specs.Words.{EntityModel, EntityType, TypeId, TypeNode, HasBase}
 use Rattle.edm_types.specs.IsA.{same, base, chain}
 use Rattle.edm_types.specs.Forest.{HoldsEachType, IsForest, IsNodeOf, below, node_type, nodes_below, root_types, top, type_numbered, types_based_on}
-use Rattle.round_trip.specs.soundness.Inheritance.{HasNoCircle}
+use Rattle.round_trip.specs.soundness.models.Inheritance.{HasNoCircle}
 use Rattle.round_trip.specs.soundness.Lookups.{IsAncestor as IsAbove}
-use Rattle.round_trip.specs.soundness.ModelIds.{IsTypeId}
-use Rattle.round_trip.specs.soundness.Models.{IsSoundModel}
+use Rattle.round_trip.specs.soundness.models.ModelIds.{IsTypeId}
+use Rattle.round_trip.specs.soundness.models.Models.{IsSoundModel}
 use Rattle.graphs.specs.base_chains.Chains.{IsAncestor, direct, further, StaysWithin}
 use Rattle.graphs.proofs.base_chains.Chains.{Ends, ends}
-use Rattle.graphs.proofs.base_chains.Members.{in_map}
+use Rattle.emc_base.proofs.Members.{in_map}
 
 -- what stands in a list of images is the image of a member
 in_images : {X Y : Type 0} (f : X → Y) (xs : List X) (ys : List Y) (y : Y) → map f xs ≡ ys → Contains ys y → (x : X) × Contains xs x × (f x ≡ y)

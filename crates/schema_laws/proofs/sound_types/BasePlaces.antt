@@ -9,8 +9,8 @@ use Rattle.round_trip.specs.Words.{EntityModel, EntityType, TypeId, HasBase, IsA
 use Rattle.edm_types.specs.Forest.{type_numbered}
 use Rattle.edm_types.specs.IsA.{same, base, chain}
 use Rattle.round_trip.specs.soundness.Lookups.{IsAncestor as IsAbove}
-use Rattle.round_trip.specs.soundness.ModelIds.{IsTypeId}
-use Rattle.round_trip.specs.soundness.Models.{IsSoundModel}
+use Rattle.round_trip.specs.soundness.models.ModelIds.{IsTypeId}
+use Rattle.round_trip.specs.soundness.models.Models.{IsSoundModel}
 use Rattle.graphs.specs.base_chains.Chains.{IsAncestor, direct, further, StaysWithin}
 use Rattle.graphs.proofs.base_chains.Chains.{Ends, ends}
 pub use Rattle.schema_laws.proofs.sound_forests.Whole.{base_place}

@@ -6,7 +6,7 @@ use Rattle.std.proofs.lemmas.Option.{MatchOption-at_some, none-some, same_Some, 
 use Rattle.round_trip.specs.Words.{EntityModel, TypeId, HasBase, IsA}
 use Rattle.edm_types.specs.Forest.{type_numbered}
 use Rattle.edm_types.specs.IsA.{same, base, chain}
-use Rattle.round_trip.specs.soundness.Models.{IsSoundModel}
+use Rattle.round_trip.specs.soundness.models.Models.{IsSoundModel}
 use Rattle.graphs.proofs.base_chains.Chains.{Ends}
 use Rattle.schema_laws.proofs.sound_forests.Whole.{base_place}
 use Rattle.schema_laws.proofs.sound_types.BasePlaces.{base_ends, base_here, based_here, first_step}

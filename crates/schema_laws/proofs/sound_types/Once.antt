@@ -15,12 +15,12 @@ use Rattle.emc_base.proofs.Mapped.{contains_at, contains_filter, contains_map, m
 use Rattle.emc_base.proofs.Numbered.{all_pairs_map, at_places, enumerated_at, filter_contains, map_contains, places_rise}
 use Rattle.round_trip.specs.Words.{EntityModel, EntityType, Prop, PropId, TypeId, props_of}
 use Rattle.edm_types.specs.Forest.{type_numbered}
-use Rattle.round_trip.specs.soundness.Inheritance.{declared_props, prop_numbered}
-use Rattle.round_trip.specs.soundness.ModelNames.{own_names}
-use Rattle.round_trip.specs.soundness.Models.{IsSoundModel}
+use Rattle.round_trip.specs.soundness.models.Inheritance.{declared_props, prop_numbered}
+use Rattle.round_trip.specs.soundness.models.ModelNames.{own_names}
+use Rattle.round_trip.specs.soundness.models.Models.{IsSoundModel}
 use Rattle.graphs.specs.base_chains.Chains.{IsAncestor, IsUpFrom, direct, further}
 use Rattle.graphs.proofs.base_chains.Chains.{Ends}
-use Rattle.graphs.proofs.base_chains.Members.{contains_nil}
+use Rattle.emc_base.proofs.Members.{contains_nil}
 use Rattle.schema_laws.proofs.sound_forests.Whole.{base_place}
 use Rattle.schema_laws.specs.sound_types.PropNames.{HaveOtherNames}
 use Rattle.schema_laws.proofs.sound_types.BasePlaces.{above as is_above, ancestor_within, base_ends, base_here, none_above_itself}

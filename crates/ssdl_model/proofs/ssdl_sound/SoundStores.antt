@@ -3,8 +3,8 @@ use Rattle.round_trip.specs.soundness.Stores.{IsSoundStore}
 use Rattle.csdl_names.specs.declared.csdl_lists.raw.RawModel.{RawModel}
 use Rattle.ssdl_model.specs.ssdl_making.StoreMeaning.{store_meaning}
 use Rattle.ssdl_model.specs.ssdl_sound.SoundStore.{KeepsStoreRules}
-use Rattle.ssdl_model.proofs.ssdl_sound.SoundKeys.{keys_apart, keys_inside as foreign_inside, sound_keys}
-use Rattle.ssdl_model.proofs.ssdl_sound.SoundTables.{all_columns_apart, keys_inside, sound_tables, tables_apart}
+use Rattle.ssdl_model.proofs.ssdl_sound.keys.SoundKeys.{keys_apart, keys_inside as foreign_inside, sound_keys}
+use Rattle.ssdl_model.proofs.ssdl_sound.tables.SoundTables.{all_columns_apart, keys_inside, sound_tables, tables_apart}
 
 -- its parts, joined
 pub sound_store : (raw : RawModel) → KeepsStoreRules raw → IsSoundStore (store_meaning raw)

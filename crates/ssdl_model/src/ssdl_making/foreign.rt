@@ -7,10 +7,9 @@ ghost use Rattle.ssdl_model.specs.ssdl_making.StoreMeaning.{key_meant, key_of_as
 
 use crate::ssdl_lists::table_at;
 use crate::ssdl_making::ids::{cols_named, table_id};
-use csdl_meaning::put_found;
 use csdl_names::{Lookups, RawAssociation, RawConstraint};
 use edm_types::ForeignKey;
-use emc_base::{Memory, Seq, TableId};
+use emc_base::{Memory, Seq, TableId, put_found};
 use std::alloc::Global;
 
 /// The foreign keys, in the order of the document.

@@ -2,9 +2,8 @@ ghost use Rattle.std.specs.Prelude.{◌≡◌, IfOk, option_map};
 ghost use Rattle.std.specs.List.{filter_map};
 ghost use Rattle.ssdl_model.specs.ssdl_making.StoreMeaning.{col_named, col_numbered, cols_named, table_numbered};
 
-use csdl_meaning::{narrow, put_found};
 use csdl_names::{Lookups, PropPlace};
-use emc_base::{ColId, Memory, Seq, TableId, Txt};
+use emc_base::{ColId, Memory, Seq, TableId, Txt, narrow, put_found};
 use std::alloc::Global;
 
 /// The id of the table at a place.

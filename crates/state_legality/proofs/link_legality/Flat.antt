@@ -4,7 +4,7 @@ use Rattle.emc_base.specs.Lists.{At}
 use Rattle.groupings.specs.least_fault.Least.{Among, IsLeast}
 use Rattle.groupings.proofs.least_fault.Leasts.{least_same}
 use Rattle.round_trip.specs.Words.{AssocId, EntityModel, Assoc, Constraint, Link, State, Place, place_at, key_of, IsIndependent, links_in}
-use Rattle.round_trip.specs.Breaches.{BreaksEnd, BreaksOnce, BreaksCount, BreaksPrincipal}
+use Rattle.round_trip.specs.legality.Breaches.{BreaksEnd, BreaksOnce, BreaksCount, BreaksPrincipal}
 use Rattle.entity_state.specs.breach_order.Founds.{found_cmp}
 use Rattle.entity_state.specs.declared.breach_order.found.Found.{Found}
 use Rattle.state_legality.specs.declared.link_legality.side.Side.{Side}

@@ -11,7 +11,7 @@ use Rattle.edm_types.specs.IsA.{same, base, chain}
 use Rattle.edm_types.specs.Forest.{IsSubtree, type_numbered}
 use Rattle.edm_types.specs.Marks.{AddsMarks}
 use Rattle.edm_types.proofs.Marks.{adds_both, adds_none, adds_same, none_marked}
-use Rattle.round_trip.specs.soundness.ModelIds.{IsTypeId}
+use Rattle.round_trip.specs.soundness.models.ModelIds.{IsTypeId}
 use Rattle.state_legality.specs.link_legality.Ends.{MarksUnder}
 
 -- only types of the model are derived from one of them

@@ -4,8 +4,8 @@ use Rattle.emc_base.specs.Lists.{At}
 use Rattle.emc_base.proofs.Lists.{item_at}
 use Rattle.round_trip.specs.Words.{AssocId, EntityModel, EntitySet, Assoc, Constraint, dependent_end}
 use Rattle.entity_state.proofs.breach_order.Turns.{all_here}
-use Rattle.round_trip.specs.soundness.ModelIds.{HasEndIds, IsTypeId}
-use Rattle.round_trip.specs.soundness.Models.{IsSoundModel}
+use Rattle.round_trip.specs.soundness.models.ModelIds.{HasEndIds, IsTypeId}
+use Rattle.round_trip.specs.soundness.models.Models.{IsSoundModel}
 use Rattle.state_legality.specs.declared.link_legality.side.Side.{Side}
 use Rattle.state_legality.specs.declared.link_legality.side.Side.TheVariants.{First, Second}
 use Rattle.state_legality.specs.link_legality.Sides.{end_at}

@@ -5,7 +5,7 @@ use Rattle.std.proofs.lemmas.Bool.Decides.{Decides-eqb}
 use Rattle.std.proofs.lemmas.Option.{get_or_from_slice_get, same_Some, slice_get-get_or, slice_get_within}
 use Rattle.emc_base.specs.Lists.{At, AreApart}
 use Rattle.round_trip.specs.Words.{EntityModel, Entity, PropId, Value, Null, props_of, value_beside, value_of}
-use Rattle.round_trip.specs.soundness.Models.{IsSoundModel}
+use Rattle.round_trip.specs.soundness.models.Models.{IsSoundModel}
 use Rattle.schema_laws.proofs.sound_types.Once.{props_once}
 use Rattle.state_legality.specs.set_legality.Props.{value_numbered}
 

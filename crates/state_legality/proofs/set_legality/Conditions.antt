@@ -2,7 +2,7 @@
 use Rattle.std.proofs.Common.{List, All, get_or, subst, sym}
 use Rattle.emc_base.proofs.Mapped.{contains_at}
 use Rattle.round_trip.specs.Words.{EntityModel, EntitySet, Entity, Prop, PropId, Value, props_of, value_of, HasAllowedNulls, HasFittingType, HasProp, HasValuesInDomain, IsLegalSet}
-use Rattle.round_trip.specs.soundness.Models.{IsSoundModel}
+use Rattle.round_trip.specs.soundness.models.Models.{IsSoundModel}
 use Rattle.entity_state.proofs.breach_order.Turns.{all_as}
 use Rattle.state_legality.specs.set_legality.Props.{FitsProp, FitsProps}
 use Rattle.state_legality.specs.set_legality.Tells.{FitsSet, KeysApart}

@@ -5,8 +5,8 @@ use Rattle.emc_base.specs.Lists.{At}
 use Rattle.groupings.specs.least_fault.Least.{Among, IsLeast}
 use Rattle.groupings.proofs.least_fault.Leasts.{least_same}
 use Rattle.round_trip.specs.Words.{Value, Null, place_at, EntityModel, EntitySet, Prop, PropId, Entity, State, entities_in, key_of, props_of}
-use Rattle.round_trip.specs.Breaches.{StandsAtProp, BreaksKey, BreaksType}
-use Rattle.round_trip.specs.soundness.Models.{IsSoundModel}
+use Rattle.round_trip.specs.legality.Breaches.{StandsAtProp, BreaksKey, BreaksType}
+use Rattle.round_trip.specs.soundness.models.Models.{IsSoundModel}
 use Rattle.entity_state.specs.breach_order.Founds.{found_cmp}
 use Rattle.entity_state.specs.declared.breach_order.found.Found.{Found}
 use Rattle.entity_state.proofs.breach_order.Finds.{at_map, at_of_map, from_parts}

@@ -5,8 +5,8 @@ use Rattle.std.proofs.lemmas.Option.{none-some, slice_get-get_or}
 use Rattle.emc_base.specs.Lists.{At}
 use Rattle.emc_base.proofs.Lists.{at_once}
 use Rattle.round_trip.specs.Words.{EntityModel, EntitySet, EntityType, Entity, Prop, PropId, TypeId, Value, Null, State, place_at, entities_in, key_of, props_of, value_of, HasAllowedNulls, HasFittingType, HasProp, HasValuesInDomain, InDomain, IsA, IsConcrete, IsLegalSet}
-use Rattle.round_trip.specs.Breaches.{StandsAtProp}
-use Rattle.round_trip.specs.soundness.Models.{IsSoundModel}
+use Rattle.round_trip.specs.legality.Breaches.{StandsAtProp}
+use Rattle.round_trip.specs.soundness.models.Models.{IsSoundModel}
 use Rattle.schema_laws.proofs.sound_types.Deciding.{derived_or_not}
 use Rattle.entity_state.specs.declared.breach_order.found.Found.{Found}
 use Rattle.entity_state.proofs.breach_order.Domains.{domain_decided}

@@ -3,7 +3,7 @@
 use Rattle.std.specs.Prelude.{◌≡◌, ◌⊎◌, List, [], ◌++◌, All, Some, MatchOption}
 use Rattle.groupings.specs.least_fault.Least.{Among}
 use Rattle.round_trip.specs.Words.{AssocId, EntityModel, Assoc, Constraint, Entity, Link, State, At, place_at, entities_in, links_in, IsIndependent, HasEntityAt, AreLegalLinks, HavePrincipals}
-use Rattle.round_trip.specs.Breaches.{BreaksEnd, BreaksOnce, BreaksCount, BreaksPrincipal}
+use Rattle.round_trip.specs.legality.Breaches.{BreaksEnd, BreaksOnce, BreaksCount, BreaksPrincipal}
 use Rattle.entity_state.specs.breach_order.Repeats.{IsFoundRepeat}
 use Rattle.entity_state.specs.declared.breach_order.found.Found.{Found}
 use Rattle.state_legality.specs.declared.link_legality.side.Side.{Side}

@@ -3,7 +3,7 @@
 use Rattle.std.specs.Prelude.{◌≡◌, ◌≢◌, ◌⊎◌, ℕ, List, [], AllPairs, Option, slice_get, unwrap_or}
 use Rattle.groupings.specs.least_fault.Least.{IsLeast}
 use Rattle.round_trip.specs.Words.{EntityModel, EntitySet, Entity, Link, State, At, HasFittingType, IsLegalSet, key_of}
-use Rattle.round_trip.specs.Breaches.{BreaksType, BreaksNull, BreaksDomain, BreaksKey}
+use Rattle.round_trip.specs.legality.Breaches.{BreaksType, BreaksNull, BreaksDomain, BreaksKey}
 use Rattle.entity_state.specs.breach_order.Founds.{found_cmp}
 use Rattle.entity_state.specs.declared.breach_order.found.Found.{Found}
 use Rattle.state_legality.specs.set_legality.Props.{FitsProps}

@@ -2,8 +2,8 @@ ghost use Rattle.std.specs.Prelude.{◌≡◌, ◌++◌, IfOk};
 ghost use Rattle.groupings.specs.least_fault.Least.{Among, IsLeast};
 ghost use Rattle.entity_state.specs.breach_order.Founds.{found_cmp};
 ghost use Rattle.round_trip.specs.Words.{key_of, place_at};
-ghost use Rattle.round_trip.specs.soundness.ModelIds.{IsTypeId};
-ghost use Rattle.round_trip.specs.soundness.Models.{IsSoundModel};
+ghost use Rattle.round_trip.specs.soundness.models.ModelIds.{IsTypeId};
+ghost use Rattle.round_trip.specs.soundness.models.Models.{IsSoundModel};
 ghost use Rattle.state_legality.specs.link_legality.Sides.{end_at};
 ghost use Rattle.state_legality.specs.link_legality.Ends.{HoldsJust, IsLoose, IsMarked, StandsAmong};
 

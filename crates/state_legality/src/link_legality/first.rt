@@ -3,7 +3,7 @@ ghost use Rattle.groupings.specs.least_fault.Least.{IsLeast};
 ghost use Rattle.round_trip.specs.Words.{At, EntityModel, State};
 ghost use Rattle.entity_state.specs.breach_order.Founds.{found_cmp};
 ghost use Rattle.entity_state.specs.declared.breach_order.found.Found.{Found};
-ghost use Rattle.round_trip.specs.soundness.Models.{IsSoundModel};
+ghost use Rattle.round_trip.specs.soundness.models.Models.{IsSoundModel};
 ghost use Rattle.state_legality.specs.link_legality.Tells.{BreaksAssoc, BreaksAtSide, BreaksIndependent, BreaksLinks, KeepsLinkRules, state_of};
 
 use crate::link_legality::counts::first_miscounted;

@@ -2,7 +2,7 @@ ghost use Rattle.std.specs.Prelude.{◌≡◌, ◌≢◌, ◌↔◌, ◌<◌, Li
 ghost use Rattle.emc_base.specs.Lists.{AtMostOne};
 ghost use Rattle.round_trip.specs.Words.{AreLegalLinks, HasCount, HavePrincipals, IsA, Link, Null, key_of, links_in, values_of};
 ghost use Rattle.entity_state.specs.breach_order.Repeats.{IsRepeat};
-ghost use Rattle.round_trip.specs.soundness.Models.{IsSoundModel};
+ghost use Rattle.round_trip.specs.soundness.models.Models.{IsSoundModel};
 ghost use Rattle.state_legality.specs.link_legality.Sides.{end_at, key_at};
 ghost use Rattle.state_legality.specs.link_legality.Ends.{StandsAmong};
 ghost use Rattle.state_legality.specs.link_legality.Counts.{IsNext, KeepsCount};

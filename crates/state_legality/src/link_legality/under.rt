@@ -1,8 +1,8 @@
 ghost use Rattle.std.specs.Prelude.{◌≡◌, ◌↔◌, IfOk, IsTrue, Contains, false, replicate};
 ghost use Rattle.edm_types.specs.Forest.{type_numbered};
 ghost use Rattle.edm_types.specs.Marks.{AddsMarks};
-ghost use Rattle.round_trip.specs.soundness.ModelIds.{IsTypeId};
-ghost use Rattle.round_trip.specs.soundness.Models.{IsSoundModel};
+ghost use Rattle.round_trip.specs.soundness.models.ModelIds.{IsTypeId};
+ghost use Rattle.round_trip.specs.soundness.models.Models.{IsSoundModel};
 ghost use Rattle.state_legality.specs.link_legality.Ends.{IsMarked, MarksUnder};
 
 use edm_types::{EntityModel, subtree};

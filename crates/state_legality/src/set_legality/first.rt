@@ -1,7 +1,7 @@
 ghost use Rattle.std.specs.Prelude.{◌↔◌, IfOk};
 ghost use Rattle.groupings.specs.least_fault.Least.{Among, IsLeast};
 ghost use Rattle.round_trip.specs.Words.{EntityModel, State};
-ghost use Rattle.round_trip.specs.soundness.Models.{IsSoundModel};
+ghost use Rattle.round_trip.specs.soundness.models.Models.{IsSoundModel};
 ghost use Rattle.entity_state.specs.breach_order.Founds.{found_cmp};
 ghost use Rattle.entity_state.specs.declared.breach_order.found.Found.{Found};
 ghost use Rattle.state_legality.specs.set_legality.Found.{IsSetBreach};

@@ -1,6 +1,6 @@
 ghost use Rattle.std.specs.Prelude.{◌≡◌, ◌↔◌, ◌<◌, All, IsTrue, length};
 ghost use Rattle.round_trip.specs.Words.{HasFittingType, IsLegalSet, key_of};
-ghost use Rattle.round_trip.specs.soundness.Models.{IsSoundModel};
+ghost use Rattle.round_trip.specs.soundness.models.Models.{IsSoundModel};
 ghost use Rattle.entity_state.specs.breach_order.Repeats.{IsRepeat};
 ghost use Rattle.state_legality.specs.set_legality.Props.{FitsAt, FitsProps};
 ghost use Rattle.state_legality.specs.set_legality.Tells.{AreLegalSets, FitsSet, HaveLegalSets, KeysApart};

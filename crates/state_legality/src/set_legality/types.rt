@@ -2,7 +2,7 @@ ghost use Rattle.std.specs.Prelude.{◌≡◌, ◌↔◌, IfOk, IsTrue, true};
 ghost use Rattle.emc_base.specs.Lists.{At};
 ghost use Rattle.edm_types.specs.Marks.{AddsMarks};
 ghost use Rattle.round_trip.specs.Words.{IsConcrete, key_props, props_of};
-ghost use Rattle.round_trip.specs.soundness.Models.{IsSoundModel};
+ghost use Rattle.round_trip.specs.soundness.models.Models.{IsSoundModel};
 ghost use Rattle.state_legality.specs.set_legality.Types.{IsMarked, MarksUnder};
 
 use edm_types::{EntityModel, subtree};

@@ -3,7 +3,7 @@ use Rattle.std.proofs.Common.{◌≡◌, ◌⊎◌, inl, inr, ℕ, List, [], ◌
 use Rattle.groupings.specs.least_fault.Least.{Among, IsLeast, earlier}
 use Rattle.groupings.proofs.least_fault.Leasts.{least_of_both, least_same}
 use Rattle.round_trip.specs.Words.{Value, Null, place_at, StoreModel, Table, Column, Row, Tables, rows_in, cell_of, row_key}
-use Rattle.round_trip.specs.TableBreaches.{StandsAtColumn, BreaksRowKey, BreaksForeignKey}
+use Rattle.round_trip.specs.legality.TableBreaches.{StandsAtColumn, BreaksRowKey, BreaksForeignKey}
 use Rattle.entity_state.specs.breach_order.Founds.{found_cmp}
 use Rattle.entity_state.specs.breach_order.FoundOrder.{found_cmp_total}
 use Rattle.entity_state.specs.breach_order.Repeats.{IsFoundRepeat}

@@ -1,7 +1,7 @@
 -- Legal tables break no rule.
 use Rattle.std.proofs.Common.{⊎_elim, inl, inr, ℕ, List, sym, subst, ◌∙◌}
 use Rattle.round_trip.specs.Words.{Place, StoreModel, Tables, Breach, rows_in, row_key, AreLegalTables, HasAllowedNullCells, HasCellsInDomain, InDomain, KeepsForeignKey, Refers, FindsRow, Value}
-use Rattle.round_trip.specs.TableBreaches.{BreaksTableRule, IsBreachOfTables}
+use Rattle.round_trip.specs.legality.TableBreaches.{BreaksTableRule, IsBreachOfTables}
 use Rattle.entity_state.proofs.breach_order.Apart.{apart_none}
 use Rattle.entity_state.proofs.breach_order.Turns.{all_here}
 

@@ -2,7 +2,7 @@
 -- Source: the rules of `LegalTables` in `round_trip`.
 use Rattle.std.specs.Prelude.{◌≢◌, ℕ, List, AllPairs, Option, Some, None}
 use Rattle.round_trip.specs.Words.{StoreModel, Tables, Table, Row, Breach, At, AreLegalRows, AreLegalTables, row_key, rows_in}
-use Rattle.round_trip.specs.TableBreaches.{IsBreachOfTables, BreaksTableRule}
+use Rattle.round_trip.specs.legality.TableBreaches.{IsBreachOfTables, BreaksTableRule}
 use Rattle.entity_state.specs.declared.breach_order.found.Found.{Found}
 
 -- that they are legal, or the first breach

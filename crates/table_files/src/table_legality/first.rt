@@ -1,7 +1,7 @@
 ghost use Rattle.std.specs.Prelude.{IfOk};
 ghost use Rattle.groupings.specs.least_fault.Least.{IsLeast};
 ghost use Rattle.round_trip.specs.Words.{AreLegalTables, AreTables, Breach, StoreModel, Tables};
-ghost use Rattle.round_trip.specs.TableBreaches.{IsBreachOfTables};
+ghost use Rattle.round_trip.specs.legality.TableBreaches.{IsBreachOfTables};
 ghost use Rattle.entity_state.specs.breach_order.Founds.{found_cmp};
 ghost use Rattle.table_files.specs.table_legality.Tells.{BreaksTables, TellsTables};
 

@@ -2,8 +2,8 @@ ghost use Rattle.std.specs.Prelude.{◌≡◌, ◌≢◌, ◌⊎◌, ◌++◌, �
 ghost use Rattle.round_trip.specs.Words.{EntityModel, Mapping, key_columns};
 ghost use Rattle.round_trip.specs.FailsAt.{IsHostedAt};
 ghost use Rattle.edm_types.specs.declared.model.Mult.TheVariants.{One};
-ghost use Rattle.round_trip.specs.soundness.Owners.{IsJoined, IsPlaced};
-ghost use Rattle.table_owners.specs.link_places.Between.{schema_of};
+ghost use Rattle.round_trip.specs.soundness.mappings.Owners.{IsJoined, IsPlaced};
+ghost use Rattle.round_trip.specs.Between.{schema_of};
 
 use edm_types::{Assoc, LinkFragment, Mult, Pair, StoreModel};
 use emc_base::{ColId, TableId};

@@ -10,7 +10,7 @@ use Rattle.round_trip.specs.Words.{PropId, AssocId, Value, Null, EntityModel, En
 use Rattle.condition_logic.specs.declared.atoms.Atom.{Atom}
 use Rattle.condition_logic.specs.declared.atoms.Atom.TheVariants as atom
 use Rattle.cells.specs.declared.parts.Parts.{Parts}
-use Rattle.cells.specs.region_basis.BasisOf.{basis_of}
+use Rattle.region_states.specs.region_basis.BasisOf.{basis_of}
 use Rattle.regions.specs.Basis.{Basis}
 use Rattle.case_laws.specs.declared.region_cases.case.CaseCell.{CaseCell}
 use Rattle.case_laws.specs.declared.region_cases.case.CaseCell.TheVariants as cell

@@ -3,7 +3,7 @@ use Rattle.std.proofs.Common.{◌≡◌, ℕ, List, Any, Contains, Bool, true, b
 use Rattle.std.proofs.lemmas.Slice.Eq.{bytes_eq-Decides}
 use Rattle.round_trip.specs.Words.{Table}
 use Rattle.regions.proofs.region_laws.pattern.Choices.{found_passes, none_passes}
-use Rattle.schema_laws.proofs.state_demand.Lists.{of_any}
+use Rattle.schema_laws.proofs.state_demand.lists.Lists.{of_any}
 
 module _ (name : List ℕ) (tables : List Table) where
   abbrev has_name : Table → Bool

@@ -6,7 +6,7 @@ use Rattle.serde_json.specs.Data.{Data, boolean, string}
 use Rattle.json_form.specs.Trees.{array_of, object_of, value_tree}
 use Rattle.entity_state.specs.StateTree.{full_name, name_of}
 use Rattle.round_trip.specs.Words.{PropId, AssocId, Value, Null, EntityModel, StoreModel, Column}
-use Rattle.round_trip.specs.soundness.Joined.{prop}
+use Rattle.round_trip.specs.soundness.mappings.Joined.{prop}
 use Rattle.condition_logic.specs.declared.atoms.Atom.{Atom}
 use Rattle.condition_logic.specs.declared.atoms.Atom.TheVariants as atom
 use Rattle.condition_logic.specs.declared.atoms.AtomOf.{AtomOf}

@@ -12,7 +12,7 @@ use Rattle.table_owners.specs.declared.places.LinkPlace.{LinkPlace}
 use Rattle.table_owners.specs.declared.places.LinkPlace.TheVariants as place
 use Rattle.cells.specs.declared.parts.Parts.{Parts}
 use Rattle.cells.specs.Cells.{is_free_in}
-use Rattle.cells.specs.region_basis.BasisOf.{basis_of}
+use Rattle.region_states.specs.region_basis.BasisOf.{basis_of}
 use Rattle.case_laws.specs.declared.region_cases.case.Case.{Case}
 use Rattle.case_laws.specs.declared.region_cases.link_case.LinkCase.{LinkCase}
 use Rattle.case_laws.specs.declared.region_cases.link_case.LinkCaseCell.{LinkCaseCell}

@@ -3,14 +3,15 @@ ghost use Rattle.serde_json.specs.View.{members_view, view};
 ghost use Rattle.json_form.specs.Trees.{object_of, put_all};
 ghost use Rattle.cells.specs.Parts.{AreParts};
 ghost use Rattle.emc_base.specs.Lists.{At};
-ghost use Rattle.cells.specs.region_basis.BasisOf.{basis_of, host_by};
+ghost use Rattle.region_states.specs.region_basis.BasisOf.{basis_of, host_by};
 ghost use Rattle.texts.specs.case_texts.CaseTree.{link_member};
 
 use crate::case_texts::names::assoc_name;
-use cells::{LinkPlace, Parts, hosting_end};
+use cells::{LinkPlace, Parts};
 use edm_types::Assoc;
 use emc_base::{AssocId, Memory};
 use json_form::object_tree;
+use region_states::hosting_end;
 use regions::Region;
 use serde_json::{Map, Value as Tree};
 use std::alloc::Global;

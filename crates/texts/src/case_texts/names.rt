@@ -4,9 +4,9 @@ ghost use Rattle.round_trip.specs.Words.{type_at};
 ghost use Rattle.entity_state.specs.StateTree.{full_name, name_of};
 ghost use Rattle.texts.specs.case_texts.Names.{assoc_name, columns_of, role_name, table_name};
 
-use cells::host_end;
 use edm_types::{Column, EntityModel, StoreModel};
 use emc_base::{AssocId, Memory, PropId, TableId, TypeId};
+use region_states::host_end;
 use std::alloc::Global;
 
 // The name of a property.

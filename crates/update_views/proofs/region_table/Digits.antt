@@ -3,7 +3,7 @@ use Rattle.std.proofs.Common.{◌≡◌, ◌+◌, ◌*◌, ℕ, List, [], ◌∷
 use Rattle.std.specs.List.{AllZip}
 use Rattle.emc_base.specs.Lists.{At}
 use Rattle.round_trip.specs.Words.{Entity, Hosted}
-use Rattle.schema_laws.proofs.state_demand.Lists.{head_stands, tail_stands}
+use Rattle.schema_laws.proofs.state_demand.lists.Lists.{head_stands, tail_stands}
 use Rattle.regions.specs.Lists.{choices}
 use Rattle.region_partition.specs.region_lists.Counts.{capped}
 use Rattle.region_partition.proofs.region_lists.Counts.{capped_times}

@@ -3,24 +3,23 @@ use Rattle.std.proofs.Common.{◌≡◌, ◌+◌, ◌*◌, ◌<◌, ⊎_elim, �
 use Rattle.std.specs.List.{AllZip, enumerate_from}
 use Rattle.std.specs.Option.{option_map_or}
 use Rattle.std.proofs.lemmas.List.{length-map}
-use Rattle.std.proofs.lemmas.List.Elements.{All-cons, All-nil}
+use Rattle.std.proofs.lemmas.List.Elements.{All-cons, All-nil, All-contains}
 use Rattle.std.proofs.lemmas.Option.{same_Some, slice_get_within}
 use Rattle.emc_base.specs.Lists.{At}
 use Rattle.emc_base.proofs.Lists.{all_from_members}
 use Rattle.emc_base.proofs.Numbered.{enumerated_at, filter_contains, map_contains}
-use Rattle.std.proofs.lemmas.List.Elements.{All-contains}
 use Rattle.round_trip.specs.Words.{SetId, TypeId, PropId, AssocId, EntityType, EntitySet, Entity, Hosted, props_of}
-use Rattle.round_trip.specs.soundness.Joined.{prop}
+use Rattle.round_trip.specs.soundness.mappings.Joined.{prop}
 use Rattle.condition_logic.specs.declared.atoms.AtomOf.{AtomOf}
-use Rattle.schema_laws.proofs.state_demand.Lists.{member_cases, none_in_nil}
+use Rattle.schema_laws.proofs.state_demand.lists.Lists.{member_cases, none_in_nil}
 use Rattle.regions.specs.declared.region.Region.{Region}
 use Rattle.regions.specs.Basis.{Basis, Host}
 use Rattle.regions.specs.Lists.{choices}
 use Rattle.regions.specs.Regions.{Holds, atoms_at, flags_at, model_of, regions_by, regions_of, regions_with, tested_props, types_of}
 use Rattle.regions.specs.region_laws.RegionAt.{flag_in}
-use Rattle.regions.proofs.region_laws.Choices.{choice_each, zip_too}
-use Rattle.regions.proofs.region_laws.Flags.{InOrder, IsFlag, Tells, flags_told}
-use Rattle.regions.proofs.region_laws.Listed.{IsListed, is_listed, region_with}
+use Rattle.regions.proofs.region_laws.lists.Choices.{choice_each, zip_too}
+use Rattle.regions.proofs.region_laws.entities.Flags.{InOrder, IsFlag, Tells, flags_told}
+use Rattle.regions.proofs.region_laws.listing.Listed.{IsListed, is_listed, region_with}
 use Rattle.region_partition.specs.region_lists.Counts.{capped}
 use Rattle.update_views.specs.declared.region_table.telling.Test.{Test}
 use Rattle.update_views.specs.declared.region_table.numbering.TypeTests.{TypeTests}

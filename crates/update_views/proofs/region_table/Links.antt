@@ -8,12 +8,12 @@ use Rattle.emc_base.specs.Lists.{At}
 use Rattle.emc_base.proofs.Mapped.{contains_at}
 use Rattle.round_trip.specs.Words.{TypeId, AssocId, Assoc, Mult, Entity, Hosted}
 use Rattle.edm_types.specs.declared.model.Mult.TheVariants.{One, ZeroOrOne, Many}
-use Rattle.schema_laws.proofs.state_demand.Lists.{member_cases, none_in_nil}
+use Rattle.schema_laws.proofs.state_demand.lists.Lists.{member_cases, none_in_nil}
 use Rattle.regions.specs.Basis.{Basis, Host, host_end, partner_end}
 use Rattle.regions.specs.Regions.{flag_values, flagged, flags_at, model_of}
 use Rattle.regions.specs.region_laws.RegionAt.{flag_by, flag_in, has_link}
-use Rattle.regions.proofs.region_laws.Choices.{pairs_tail, zip_weaker}
-use Rattle.regions.proofs.region_laws.Flags.{Decides-flagged, Decides-link, InOrder, IsFlag, Tells, flag_member, no_later, of_host}
+use Rattle.regions.proofs.region_laws.lists.Choices.{pairs_tail, zip_weaker}
+use Rattle.regions.proofs.region_laws.entities.Flags.{Decides-flagged, Decides-link, InOrder, IsFlag, Tells, flag_member, no_later, of_host}
 use Rattle.update_views.specs.declared.region_table.telling.LinkRule.TheVariants as rule
 use Rattle.update_views.specs.region_table.Digits.{digit_of, rule_digit, rule_size, size_of}
 use Rattle.update_views.specs.region_table.Made.{link_test, rule_of}

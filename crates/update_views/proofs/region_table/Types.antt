@@ -14,7 +14,7 @@ use Rattle.regions.specs.Basis.{Basis}
 use Rattle.regions.specs.Lists.{choices}
 use Rattle.regions.specs.Regions.{atoms_at, flags_at, model_of, regions_by, regions_with, tested_props, types_of}
 use Rattle.regions.specs.region_laws.Counting.{count_by}
-use Rattle.regions.proofs.region_laws.Listed.{region_with}
+use Rattle.regions.proofs.region_laws.listing.Listed.{region_with}
 use Rattle.update_views.specs.region_table.Made.{is_type_of, types_before}
 use Rattle.update_views.proofs.region_table.Standing.{at_image, at_joined, choices_counted, length_even}
 

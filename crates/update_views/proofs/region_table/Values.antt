@@ -9,13 +9,13 @@ use Rattle.emc_base.specs.Lists.{At}
 use Rattle.emc_base.proofs.Mapped.{contains_at}
 use Rattle.emc_base.proofs.Numbered.{map_contains}
 use Rattle.round_trip.specs.Words.{PropId, Value, Null, Prop, Entity, Hosted, props_of, value_beside, value_of}
-use Rattle.round_trip.specs.soundness.Joined.{prop}
+use Rattle.round_trip.specs.soundness.mappings.Joined.{prop}
 use Rattle.condition_logic.specs.declared.atoms.Atom.{Atom}
 use Rattle.condition_logic.specs.declared.atoms.Atom.TheVariants as atom
 use Rattle.condition_logic.specs.declared.atoms.AtomOf.{AtomOf}
 use Rattle.schema_laws.specs.state_demand.Selecting.{same_value}
-use Rattle.schema_laws.proofs.state_demand.Lists.{Decides-any, any_of, member_cases, none_in_nil, of_any}
-use Rattle.schema_laws.proofs.state_demand.Selecting.{Decides-value}
+use Rattle.schema_laws.proofs.state_demand.lists.Lists.{Decides-any, any_of, member_cases, none_in_nil, of_any}
+use Rattle.schema_laws.proofs.state_demand.writings.Selecting.{Decides-value}
 use Rattle.regions.specs.Atoms.{LiesIn, atoms_of}
 use Rattle.regions.specs.Basis.{Basis}
 use Rattle.regions.specs.Regions.{atoms_at, model_of}

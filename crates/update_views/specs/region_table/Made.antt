@@ -5,7 +5,7 @@ use Rattle.std.specs.List.{enumerate_from}
 use Rattle.std.specs.Option.{option_map_or}
 use Rattle.round_trip.specs.Words.{SetId, TypeId, PropId, AssocId, EntityType, EntitySet, Mult, props_of}
 use Rattle.edm_types.specs.declared.model.Mult.TheVariants.{One, ZeroOrOne, Many}
-use Rattle.round_trip.specs.soundness.Joined.{prop}
+use Rattle.round_trip.specs.soundness.mappings.Joined.{prop}
 use Rattle.regions.specs.Basis.{Basis, Host, host_end, partner_end}
 use Rattle.regions.specs.Regions.{atoms_at, model_of, most_counted, regions_by, regions_of, tested_props}
 use Rattle.region_partition.specs.region_lists.Counts.{capped}

@@ -1,21 +1,22 @@
 ghost use Rattle.std.specs.Prelude.{◌≡◌, ◌<◌, ◌++◌, ◌==◌, All, IfOk, filter, length, map, position};
 ghost use Rattle.std.specs.List.{enumerate_from};
-ghost use Rattle.round_trip.specs.soundness.Joined.{prop};
+ghost use Rattle.round_trip.specs.soundness.mappings.Joined.{prop};
 ghost use Rattle.cells.specs.Parts.{AreParts};
 ghost use Rattle.regions.specs.Basis.{host_end, partner_end};
 ghost use Rattle.schema_laws.specs.sound_demand.Deriving.{derives};
-ghost use Rattle.cells.specs.region_basis.BasisOf.{basis_of};
+ghost use Rattle.region_states.specs.region_basis.BasisOf.{basis_of};
 ghost use Rattle.update_views.specs.region_table.Made.{AreTypeTests, link_by, link_test, place_among, rule_of, tests_by, type_tests, value_test, value_tests};
 
 use crate::region_table::counting::{MOST_COUNTED, capped};
 use crate::region_table::numbering::TypeTests;
 use crate::region_table::telling::{LinkRule, LinkTest, Test, ValueTest};
-use cells::{Parts, host_end, hosting_end, partner_end};
+use cells::Parts;
 use edm_types::{Assoc, EntityModel, EntitySet, Mult};
 use emc_base::{AssocId, Memory, PropId, Seq, SetId, TypeId};
 use region_partition::{
     atoms_at, constants_of, count, count_of_type, derives, is_listed, is_tested, props_of,
 };
+use region_states::{host_end, hosting_end, partner_end};
 use std::alloc::Global;
 
 // The tests by the model's types; none where there is no such set.

@@ -1,6 +1,6 @@
 ghost use Rattle.std.specs.Prelude.{◌≡◌, IfOk, map};
 ghost use Rattle.cells.specs.Parts.{AreParts};
-ghost use Rattle.cells.specs.region_basis.BasisOf.{basis_of};
+ghost use Rattle.region_states.specs.region_basis.BasisOf.{basis_of};
 ghost use Rattle.update_views.specs.view_rows.Held.{held_by_link, row_by_link};
 ghost use Rattle.update_views.specs.view_rows.Made.{first_link_row, link_cell_of, link_row_of};
 

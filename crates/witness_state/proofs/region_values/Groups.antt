@@ -1,7 +1,7 @@
 -- The groups of properties, and their constants.
 use Rattle.std.proofs.Common.{◌≡◌, ◌<◌, ◌≤◌, List, length, Option, Some, None, IsSome, refl, sym, subst, arith}
 use Rattle.round_trip.specs.Words.{GroupId, PropId, Value}
-use Rattle.round_trip.specs.soundness.Joined.{prop}
+use Rattle.round_trip.specs.soundness.mappings.Joined.{prop}
 use Rattle.member_groups.specs.MemberGroups.{constants_in, group_in}
 use Rattle.cells.specs.declared.parts.Parts.{Parts}
 use Rattle.cells.specs.Parts.{AreParts}

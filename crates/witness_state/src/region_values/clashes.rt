@@ -2,7 +2,7 @@ ghost use Rattle.std.specs.Prelude.{◌≡◌, ◌++◌, IfOk, Some, map};
 ghost use Rattle.std.specs.Option.{option_copied};
 ghost use Rattle.cells.specs.Parts.{AreParts};
 ghost use Rattle.regions.specs.Settled.{possible};
-ghost use Rattle.cells.specs.region_basis.BasisOf.{basis_of};
+ghost use Rattle.region_states.specs.region_basis.BasisOf.{basis_of};
 ghost use Rattle.conflict_laws.specs.clash.ClashValues.{differ_under, values_tried, with_others};
 ghost use Rattle.witness_state.specs.region_values.Changes.{both_changes, by_change};
 

@@ -1,11 +1,11 @@
 ghost use Rattle.std.specs.Prelude.{◌≡◌, ◌≤◌, ◌<◌, ◌^◌, false, length};
 ghost use Rattle.std.specs.Option.{option_map_or};
-ghost use Rattle.round_trip.specs.soundness.Joined.{prop};
+ghost use Rattle.round_trip.specs.soundness.mappings.Joined.{prop};
 ghost use Rattle.round_trip.specs.Words.{key_props, props_of};
 ghost use Rattle.cells.specs.Parts.{AreParts};
 ghost use Rattle.regions.specs.region_laws.pattern.Allowed.{end_at};
 ghost use Rattle.region_states.specs.defaults.Defaults.{is_among, is_dependent, place_in};
-ghost use Rattle.cells.specs.region_basis.BasisOf.{basis_of};
+ghost use Rattle.region_states.specs.region_basis.BasisOf.{basis_of};
 
 use cells::Parts;
 use edm_types::{Assoc, End, EntityModel};

@@ -1,7 +1,7 @@
 ghost use Rattle.std.specs.Prelude.{◌≡◌, IfOk};
 ghost use Rattle.cells.specs.Parts.{AreParts};
 ghost use Rattle.region_states.specs.defaults.Defaults.{alone, changed, default_valuation};
-ghost use Rattle.cells.specs.region_basis.BasisOf.{basis_of};
+ghost use Rattle.region_states.specs.region_basis.BasisOf.{basis_of};
 ghost use Rattle.region_states.specs.Entities.{focus_entity};
 ghost use Rattle.conflict_laws.specs.clash.ClashValues.{clash_values};
 ghost use Rattle.conflict_laws.specs.rival.RivalValues.{first_values, second_values};

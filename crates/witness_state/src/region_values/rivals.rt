@@ -5,7 +5,7 @@ ghost use Rattle.regions.specs.declared.pattern.Symbol.TheVariants as symbol;
 ghost use Rattle.regions.specs.Settled.{possible};
 ghost use Rattle.region_states.specs.defaults.Defaults.{changed, default_valuation};
 ghost use Rattle.region_states.specs.conflicts.SameFacts.{is_multi, is_one_of, lists_anywhere};
-ghost use Rattle.cells.specs.region_basis.BasisOf.{basis_of};
+ghost use Rattle.region_states.specs.region_basis.BasisOf.{basis_of};
 ghost use Rattle.region_states.specs.Entities.{focus_entity};
 ghost use Rattle.conflict_laws.specs.rival.RivalValues.{rival_value};
 ghost use Rattle.witness_state.specs.region_values.Rivals.{IsRival};

@@ -2,7 +2,7 @@ ghost use Rattle.std.specs.Prelude.{◌≡◌, ◌<◌, ◌^◌, ◌&&◌, IfOk}
 ghost use Rattle.round_trip.specs.Words.{props_of};
 ghost use Rattle.cells.specs.Parts.{AreParts};
 ghost use Rattle.region_states.specs.defaults.Defaults.{is_dependent};
-ghost use Rattle.cells.specs.region_basis.BasisOf.{basis_of};
+ghost use Rattle.region_states.specs.region_basis.BasisOf.{basis_of};
 ghost use Rattle.conflict_laws.specs.rival.RivalValues.{group_place, in_one_group, shared_index, shared_value, tells_other};
 
 use crate::region_values::declared::{constants_of, group_of, is_dependent, props_of};

@@ -8,7 +8,7 @@ ghost use Rattle.regions.specs.Patterns.{value_under};
 ghost use Rattle.regions.specs.Settled.{multi, of_atom, possible, settle, settled_by};
 ghost use Rattle.region_states.specs.conflicts.SameFacts.{is_multi};
 ghost use Rattle.conflict_laws.specs.rival.RivalValues.{is_null_cell};
-ghost use Rattle.cells.specs.region_basis.BasisOf.{basis_of};
+ghost use Rattle.region_states.specs.region_basis.BasisOf.{basis_of};
 ghost use Rattle.witness_state.specs.region_values.Changes.{by_change};
 
 use crate::region_values::changes::{Change, changed_value};

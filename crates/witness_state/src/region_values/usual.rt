@@ -3,7 +3,7 @@ ghost use Rattle.std.specs.Option.{option_copied};
 ghost use Rattle.cells.specs.Parts.{AreParts};
 ghost use Rattle.regions.specs.Atoms.{atom_at};
 ghost use Rattle.region_states.specs.defaults.Defaults.{declared_value, default_part, default_value, one_value, other_value, some_value, value_by};
-ghost use Rattle.cells.specs.region_basis.BasisOf.{basis_of};
+ghost use Rattle.region_states.specs.region_basis.BasisOf.{basis_of};
 
 use crate::region_values::declared::{
     constants_of, end_at, is_among, is_dependent, key_props, place_in, props_of,

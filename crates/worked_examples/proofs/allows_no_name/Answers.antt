@@ -1,8 +1,8 @@
 use Rattle.std.proofs.Common.{arith, []}
 use Rattle.std.specs.Prelude.{codes}
 use Rattle.round_trip.specs.Words.{Null, Text}
-use Rattle.worked_examples.proofs.Values.{text_a}
-use Rattle.worked_examples.proofs.People.{may_stand, no_name, a_name, legal_people, ids_differ}
+use Rattle.worked_examples.proofs.facts.Values.{text_a}
+use Rattle.worked_examples.proofs.people.People.{may_stand, no_name, a_name, legal_people, ids_differ}
 use Rattle.worked_examples.proofs.allows_no_name.Goals as goal
 
 pub returns : goal.returns

@@ -1,4 +1,4 @@
-use Rattle.worked_examples.proofs.TwoBosses.{two_bosses_clash}
+use Rattle.worked_examples.proofs.bosses.TwoBosses.{two_bosses_clash}
 use Rattle.worked_examples.proofs.clashes_at_two_bosses.Goals as goal
 
 pub returns : goal.returns

@@ -1,6 +1,6 @@
 use Rattle.std.proofs.Common.{arith}
-use Rattle.worked_examples.proofs.Values.{text_20}
-use Rattle.worked_examples.proofs.People.{may_stand, a_name, legal_people, too_long}
+use Rattle.worked_examples.proofs.facts.Values.{text_20}
+use Rattle.worked_examples.proofs.people.People.{may_stand, a_name, legal_people, too_long}
 use Rattle.worked_examples.proofs.counts_characters.Goals as goal
 
 pub returns-clause-twenty : goal.returns-clause-twenty

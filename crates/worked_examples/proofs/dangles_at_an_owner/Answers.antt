@@ -1,4 +1,4 @@
-use Rattle.worked_examples.proofs.Owners.{owner_dangles}
+use Rattle.worked_examples.proofs.staff.Owners.{owner_dangles}
 use Rattle.worked_examples.proofs.dangles_at_an_owner.Goals as goal
 
 pub returns : goal.returns

@@ -1,4 +1,4 @@
-use Rattle.worked_examples.proofs.LinkHidden.{boss_is_hidden}
+use Rattle.worked_examples.proofs.bosses.LinkHidden.{boss_is_hidden}
 use Rattle.worked_examples.proofs.hides_a_boss.Goals as goal
 
 pub returns : goal.returns

@@ -1,4 +1,4 @@
-use Rattle.worked_examples.proofs.JoinedBosses as stored
+use Rattle.worked_examples.proofs.bosses.JoinedBosses as stored
 use Rattle.worked_examples.proofs.joins_bosses.Goals as goal
 
 pub returns : goal.returns

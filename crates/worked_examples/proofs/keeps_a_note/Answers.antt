@@ -1,4 +1,4 @@
-use Rattle.worked_examples.proofs.Notes as notes
+use Rattle.worked_examples.proofs.people.Notes as notes
 use Rattle.worked_examples.proofs.keeps_a_note.Goals as goal
 
 pub returns : goal.returns

@@ -1,4 +1,4 @@
-use Rattle.worked_examples.proofs.BossLost.{boss_is_lost}
+use Rattle.worked_examples.proofs.bosses.BossLost.{boss_is_lost}
 use Rattle.worked_examples.proofs.loses_a_boss.Goals as goal
 
 pub returns : goal.returns

@@ -1,4 +1,4 @@
-use Rattle.worked_examples.proofs.TypeLost.{type_is_lost}
+use Rattle.worked_examples.proofs.staff.TypeLost.{type_is_lost}
 use Rattle.worked_examples.proofs.loses_a_type.Goals as goal
 
 pub returns : goal.returns

@@ -4,7 +4,7 @@ use Rattle.std.proofs.lemmas.Int.{ints}
 use Rattle.std.specs.Prelude.{pos, ◌<ℤ◌, ◌≤ℤ◌}
 use Rattle.round_trip.specs.Words.{Whole, InDomain}
 use Rattle.emc_base.specs.declared.value.Kind.TheVariants as kind
-use Rattle.worked_examples.proofs.Small.{all_pairs}
+use Rattle.worked_examples.proofs.facts.Small.{all_pairs}
 use Rattle.round_trip.specs.soundness.Kinds.{IsSoundKind, Corresponds}
 use Rattle.worked_examples.specs.sound_examples.Kinds.{two_bytes, no_byte, no_number, one_twice, no_character}
 use Rattle.worked_examples.proofs.sound_examples.Lists.{all}

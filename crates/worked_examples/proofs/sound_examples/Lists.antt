@@ -3,7 +3,7 @@ use Rattle.std.proofs.Common.{◌≡◌, ◌≢◌, List, [], ◌∷◌, refl}
 use Rattle.std.specs.Prelude.{All, Contains}
 use Rattle.std.specs.List.{AllByRecursion}
 use Rattle.std.proofs.lemmas.List.Elements.{All-from_recursion, All-cons, All-nil}
-use Rattle.worked_examples.proofs.Small.{each_of, here, PairsByRecursion, all_pairs}
+use Rattle.worked_examples.proofs.facts.Small.{each_of, here, PairsByRecursion, all_pairs}
 use Rattle.emc_base.specs.Lists.{AreApart, HoldsEachOnce}
 
 module _ {X : Type 0} where

@@ -6,7 +6,7 @@ use Rattle.std.specs.List.{AllByRecursion}
 use Rattle.std.proofs.lemmas.Bool.Decides.{Decides-eqb, not_from_Decides}
 use Rattle.std.proofs.lemmas.Slice.Eq.{bytes_eq-Decides}
 use Rattle.round_trip.specs.Words.{PropId, ColId, AssocId}
-use Rattle.worked_examples.proofs.Small.{PairsByRecursion}
+use Rattle.worked_examples.proofs.facts.Small.{PairsByRecursion}
 use Rattle.emc_base.specs.Lists.{AreApart}
 use Rattle.worked_examples.proofs.sound_examples.Lists.{apart}
 use Rattle.worked_examples.proofs.sound_examples.Tests.{are_new, all_new}

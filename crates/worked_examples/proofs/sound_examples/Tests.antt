@@ -7,7 +7,7 @@ use Rattle.std.specs.List.{AllByRecursion, list_any, list_all}
 use Rattle.std.proofs.lemmas.Bool.{and_parts, not-true}
 use Rattle.std.proofs.lemmas.Bool.Decides.{not_from_Decides}
 use Rattle.std.proofs.lemmas.List.Folds.{Any-from_list_any}
-use Rattle.worked_examples.proofs.Small.{each_of, PairsByRecursion}
+use Rattle.worked_examples.proofs.facts.Small.{each_of, PairsByRecursion}
 use Rattle.worked_examples.proofs.sound_examples.Lists.{all}
 
 -- what a test tells of each item, and of some

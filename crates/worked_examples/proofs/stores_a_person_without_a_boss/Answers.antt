@@ -1,4 +1,4 @@
-use Rattle.worked_examples.proofs.NoBoss as bossless
+use Rattle.worked_examples.proofs.bosses.NoBoss as bossless
 use Rattle.worked_examples.proofs.stores_a_person_without_a_boss.Goals as goal
 
 pub returns : goal.returns

@@ -1,4 +1,4 @@
-use Rattle.worked_examples.proofs.ByKind as stored
+use Rattle.worked_examples.proofs.staff.ByKind as stored
 use Rattle.worked_examples.proofs.stores_an_employee_by_kind.Goals as goal
 
 pub returns : goal.returns

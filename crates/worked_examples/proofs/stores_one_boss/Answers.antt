@@ -1,4 +1,4 @@
-use Rattle.worked_examples.proofs.OneBoss as stored
+use Rattle.worked_examples.proofs.bosses.OneBoss as stored
 use Rattle.worked_examples.proofs.stores_one_boss.Goals as goal
 
 pub returns : goal.returns

@@ -1,7 +1,7 @@
 use Rattle.std.proofs.Common.{arith}
-use Rattle.worked_examples.proofs.Values.{text_a}
-use Rattle.worked_examples.proofs.People.{may_stand, a_name, legal_people}
-use Rattle.worked_examples.proofs.Stored as stored
+use Rattle.worked_examples.proofs.facts.Values.{text_a}
+use Rattle.worked_examples.proofs.people.People.{may_stand, a_name, legal_people}
+use Rattle.worked_examples.proofs.people.Stored as stored
 use Rattle.worked_examples.proofs.stores_one_person.Goals as goal
 
 pub returns : goal.returns

@@ -7,11 +7,11 @@ use Rattle.edm_types.specs.declared.mapping.CondOn.TheVariants as on
 use Rattle.edm_types.specs.declared.mapping.Test.TheVariants.{Equals}
 use Rattle.edm_types.specs.declared.model.Mult.TheVariants.{ZeroOrOne}
 use Rattle.worked_examples.specs.Ids.{type_id, set_id, prop_id, table_id, col_id, assoc_id, needed_column, optional, optional_column, set_of, pair_of, just, leaf, concrete_type, model_of}
-use Rattle.worked_examples.specs.People.{id_prop, name_prop, person_type, people_set, people_fragment, people_by, people_model, people_store}
-use Rattle.worked_examples.specs.Bosses.{bosses, bossed_by, bossed_store, boss_links, boss_links_if}
-use Rattle.worked_examples.specs.Salary.{staff_model, staff_store, of_kind}
-use Rattle.worked_examples.specs.ByKind.{optional_salaries}
-use Rattle.worked_examples.specs.Owners.{shop_model, shop_store}
+use Rattle.worked_examples.specs.people.People.{id_prop, name_prop, person_type, people_set, people_fragment, people_by, people_model, people_store}
+use Rattle.worked_examples.specs.bosses.Bosses.{bosses, bossed_by, bossed_store, boss_links, boss_links_if}
+use Rattle.worked_examples.specs.staff.Salary.{staff_model, staff_store, of_kind}
+use Rattle.worked_examples.specs.staff.ByKind.{optional_salaries}
+use Rattle.worked_examples.specs.staff.Owners.{shop_model, shop_store}
 use Rattle.worked_examples.specs.sound_examples.BrokenStores.{store_of}
 
 -- a Value condition

@@ -5,10 +5,10 @@ use Rattle.emc_base.specs.declared.value.Kind.TheVariants as kind
 use Rattle.edm_types.specs.declared.model.Mult.TheVariants.{One, ZeroOrOne}
 use Rattle.edm_types.specs.declared.model.TypeNode.{TypeNode', end_of-TypeNode}
 use Rattle.worked_examples.specs.Ids.{type_id, prop_id, optional, leaf, stem, concrete_type, model_of}
-use Rattle.worked_examples.specs.People.{people_set, person_type, id_prop, name_prop}
-use Rattle.worked_examples.specs.Bosses.{people_as}
-use Rattle.worked_examples.specs.Owners.{owner, shop_model}
-use Rattle.worked_examples.specs.Salary.{employee_type, salary_prop}
+use Rattle.worked_examples.specs.people.People.{people_set, person_type, id_prop, name_prop}
+use Rattle.worked_examples.specs.bosses.Bosses.{people_as}
+use Rattle.worked_examples.specs.staff.Owners.{owner, shop_model}
+use Rattle.worked_examples.specs.staff.Salary.{employee_type, salary_prop}
 
 -- people whose id may be null
 abbrev pub optional_key : EntityModel

@@ -3,8 +3,8 @@ use Rattle.std.specs.Prelude.{List, [], ◌∷◌, codes}
 use Rattle.round_trip.specs.Words.{StoreModel, Table, ForeignKey}
 use Rattle.emc_base.specs.declared.value.Kind.TheVariants as kind
 use Rattle.worked_examples.specs.Ids.{table_id, col_id, needed_column, optional_column}
-use Rattle.worked_examples.specs.People.{people_table}
-use Rattle.worked_examples.specs.JoinedBosses.{joined_table}
+use Rattle.worked_examples.specs.people.People.{people_table}
+use Rattle.worked_examples.specs.bosses.JoinedBosses.{joined_table}
 
 -- a store of these tables and foreign keys
 abbrev pub store_of : List Table → List ForeignKey → StoreModel

@@ -4,7 +4,7 @@ use Rattle.round_trip.specs.Words.{Kind, EntityModel, Schema}
 use Rattle.emc_base.specs.declared.value.Kind.TheVariants as kind
 use Rattle.emc_base.specs.declared.value.Under.TheVariants as under
 use Rattle.worked_examples.specs.Ids.{type_id, needed, leaf, model_of}
-use Rattle.worked_examples.specs.People.{id_prop}
+use Rattle.worked_examples.specs.people.People.{id_prop}
 use Rattle.worked_examples.specs.LevelLost.{item_type, items_set, item_store, level_one, level_two}
 
 abbrev pub items_model : Kind → EntityModel

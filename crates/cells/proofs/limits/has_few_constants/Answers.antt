@@ -2,10 +2,9 @@ use Rattle.std.proofs.Common.{◌≡◌, ◌≤◌, List, length, sym, subst, �
 use Rattle.std.proofs.lemmas.Bool.{le-leb, leb-true}
 use Rattle.std.proofs.lemmas.Option.{same_Some}
 use Rattle.round_trip.specs.Words.{Value}
-use Rattle.round_trip.specs.soundness.Joined.{prop}
-use Rattle.member_groups.specs.MemberGroups.{ListsJust}
+use Rattle.round_trip.specs.soundness.mappings.Joined.{prop}
+use Rattle.member_groups.specs.MemberGroups.{ListsJust, constants_in}
 use Rattle.member_groups.specs.Tested.{IsConstant}
-use Rattle.member_groups.specs.MemberGroups.{constants_in}
 use Rattle.cells.specs.Parts.{schema_in}
 use Rattle.cells.proofs.Few.{few_by_list, list_is_short, some_found}
 use Rattle.cells.proofs.limits.has_few_constants.Goals as goal

@@ -1,6 +1,6 @@
 use Rattle.std.proofs.Common.{◌≡◌, ◌<◌, ◌∙◌, length, sym, arith, refl}
 use Rattle.round_trip.specs.Words.{PropId}
-use Rattle.round_trip.specs.soundness.Joined.{prop}
+use Rattle.round_trip.specs.soundness.mappings.Joined.{prop}
 use Rattle.cells.specs.Limits.{HasFewConstants}
 use Rattle.cells.specs.Parts.{schema_in}
 use Rattle.cells.proofs.Few.{one_further}

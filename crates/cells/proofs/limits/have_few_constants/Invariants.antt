@@ -1,6 +1,6 @@
 use Rattle.std.proofs.Common.{◌<◌}
 use Rattle.round_trip.specs.Words.{PropId}
-use Rattle.round_trip.specs.soundness.Joined.{prop}
+use Rattle.round_trip.specs.soundness.mappings.Joined.{prop}
 use Rattle.cells.specs.Limits.{HasFewConstants}
 use Rattle.cells.specs.Parts.{schema_in}
 use Rattle.cells.proofs.limits.have_few_constants.Given as goal

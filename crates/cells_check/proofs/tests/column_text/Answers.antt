@@ -1,7 +1,7 @@
 use Rattle.std.proofs.Common.{◌≡◌, ◌<◌, List, [], Option, length, ap, subst, ◌∙◌, arith}
 use Rattle.std.specs.Option.{option_map_or}
 use Rattle.round_trip.specs.Words.{Column, Table}
-use Rattle.round_trip.specs.soundness.Joined.{col}
+use Rattle.round_trip.specs.soundness.mappings.Joined.{col}
 use Rattle.round_trip.specs.soundness.Lookups.{columns_of}
 use Rattle.member_groups.specs.MemberGroups.{constants_in}
 use Rattle.cells.proofs.Few.{some_found}

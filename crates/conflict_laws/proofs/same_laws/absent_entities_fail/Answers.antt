@@ -1,5 +1,5 @@
-use Rattle.conflict_laws.proofs.same.Absent.{several_lost}
-use Rattle.conflict_laws.proofs.same.LeftOut.{absent_fails}
+use Rattle.conflict_laws.proofs.same.lost.Absent.{several_lost}
+use Rattle.conflict_laws.proofs.same.lost.LeftOut.{absent_fails}
 use Rattle.conflict_laws.proofs.same_laws.absent_entities_fail.Goals as goal
 
 pub returns-clause-several : goal.returns-clause-several

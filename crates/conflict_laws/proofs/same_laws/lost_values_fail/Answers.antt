@@ -1,4 +1,4 @@
-use Rattle.conflict_laws.proofs.same.Lost.{lost_fails, lost_told}
+use Rattle.conflict_laws.proofs.same.lost.Lost.{lost_fails, lost_told}
 use Rattle.conflict_laws.proofs.same_laws.lost_values_fail.Goals as goal
 
 pub returns : goal.returns

@@ -1,6 +1,6 @@
 use Rattle.std.proofs.Common.{◌≡◌, ℕ, List, IfNone, false, sym, subst}
 use Rattle.regions.specs.declared.pattern.Focus.TheVariants as focus
-use Rattle.cells.specs.region_basis.BasisOf.{basis_of}
+use Rattle.region_states.specs.region_basis.BasisOf.{basis_of}
 use Rattle.region_states.specs.conflicts.Facts.{disagrees_at}
 use Rattle.containment.proofs.Differing.{fragment_told, link_told, none_told}
 use Rattle.containment.proofs.disagreements.place_of.Goals as goal

@@ -1,6 +1,6 @@
 use Rattle.std.proofs.Common.{Ok, Err}
-use Rattle.cells.specs.region_basis.BasisOf.{basis_of}
-use Rattle.cells.proofs.region_basis.Bases.{basis_is}
+use Rattle.region_states.specs.region_basis.BasisOf.{basis_of}
+use Rattle.region_states.proofs.region_basis.Bases.{basis_is}
 use Rattle.conflict_laws.proofs.Exact.{exact}
 use Rattle.containment.proofs.Exact.{found_exactly}
 use Rattle.containment.proofs.first.first_conflict.Goals as goal

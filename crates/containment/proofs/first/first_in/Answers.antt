@@ -2,7 +2,7 @@ use Rattle.std.proofs.Common.{None, refl, subst, ◌∙◌}
 use Rattle.std.proofs.lemmas.List.Elements.{All-more}
 use Rattle.std.proofs.lemmas.Option.{slice_get_read}
 use Rattle.regions.specs.declared.region.Region.{Region}
-use Rattle.cells.specs.region_basis.BasisOf.{basis_of}
+use Rattle.region_states.specs.region_basis.BasisOf.{basis_of}
 use Rattle.containment.specs.Found.{FindsOne}
 use Rattle.containment.proofs.OfSet.{found_at, none_at}
 use Rattle.containment.proofs.first.first_in.Goals as goal

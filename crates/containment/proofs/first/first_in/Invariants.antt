@@ -1,5 +1,5 @@
 use Rattle.std.proofs.Common.{All, None, take}
-use Rattle.cells.specs.region_basis.BasisOf.{basis_of}
+use Rattle.region_states.specs.region_basis.BasisOf.{basis_of}
 use Rattle.containment.specs.Found.{FindsOne}
 use Rattle.containment.proofs.first.first_in.Given as goal
 

@@ -1,5 +1,5 @@
 use Rattle.std.proofs.Common.{All, take}
-use Rattle.cells.specs.region_basis.BasisOf.{basis_of}
+use Rattle.region_states.specs.region_basis.BasisOf.{basis_of}
 use Rattle.containment.specs.Cells.{HasNoGap}
 use Rattle.containment.proofs.nulls.gap_in.Given as goal
 

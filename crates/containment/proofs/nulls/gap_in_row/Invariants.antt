@@ -1,6 +1,6 @@
 use Rattle.std.proofs.Common.{◌≡◌, ◌<◌, false}
 use Rattle.round_trip.specs.Words.{ColId}
-use Rattle.cells.specs.region_basis.BasisOf.{basis_of}
+use Rattle.region_states.specs.region_basis.BasisOf.{basis_of}
 use Rattle.regions.specs.declared.pattern.Symbol.{Symbol}
 use Rattle.containment.specs.Cells.{lacks}
 use Rattle.containment.proofs.nulls.gap_in_row.Given as goal

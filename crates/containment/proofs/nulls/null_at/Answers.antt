@@ -1,9 +1,9 @@
 use Rattle.std.proofs.Common.{List, All, Any, sym, subst, ap, ◌∙◌}
 use Rattle.round_trip.specs.declared.FailKind.TheVariants as kind
-use Rattle.schema_laws.proofs.state_demand.Lists.{of_any}
+use Rattle.schema_laws.proofs.state_demand.lists.Lists.{of_any}
 use Rattle.regions.specs.declared.pattern.Pattern.{Pattern}
 use Rattle.regions.specs.declared.pattern.PatternRow.{PatternRow}
-use Rattle.cells.specs.region_basis.BasisOf.{basis_of}
+use Rattle.region_states.specs.region_basis.BasisOf.{basis_of}
 use Rattle.region_states.specs.declared.conflicts.conflict.Conflict.{Conflict}
 use Rattle.containment.specs.Cells.{GapsIn, HasNoGap}
 use Rattle.containment.specs.Found.{IsOneOf}

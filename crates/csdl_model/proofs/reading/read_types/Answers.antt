@@ -3,7 +3,7 @@ use Rattle.layouts.specs.Faults.{fault_cmp}
 use Rattle.groupings.specs.least_fault.Least.{IsLeast}
 use Rattle.csdl_types.specs.TypeRules.{BreaksTypeRules}
 use Rattle.csdl_meaning.specs.ModelMeaning.{meaning}
-use Rattle.csdl_meaning.proofs.KeptTypes.{none_above_itself}
+use Rattle.csdl_meaning.proofs.kept.KeptTypes.{none_above_itself}
 use Rattle.csdl_model.specs.ModelFaults.{BreaksAssociationRules}
 use Rattle.layouts.proofs.told_rules.Readings.{goes_on, stops_there}
 use Rattle.csdl_model.proofs.RuleNumbers.{after_types}

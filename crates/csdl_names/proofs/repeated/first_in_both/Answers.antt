@@ -1,6 +1,6 @@
 use Rattle.std.proofs.Common.{[], map, codes}
-use Rattle.csdl_names.specs.Repeated.{IsRepeatedIn}
-use Rattle.csdl_names.proofs.Known.{of_one}
+use Rattle.layouts.specs.rule_places.Names.{IsRepeatedIn}
+use Rattle.layouts.proofs.rule_places.Known.{of_one}
 use Rattle.layouts.proofs.rule_places.Rules.{least_joined}
 use Rattle.csdl_names.proofs.repeated.first_in_both.Goals as goal
 

@@ -1,6 +1,6 @@
 use Rattle.std.proofs.Common.{◌⊎◌, [], ◌++◌, map, codes}
-use Rattle.csdl_names.specs.Repeated.{IsRepeatedIn}
-use Rattle.csdl_names.proofs.Known.{of_one, of_two}
+use Rattle.layouts.specs.rule_places.Names.{IsRepeatedIn}
+use Rattle.layouts.proofs.rule_places.Known.{of_one, of_two}
 use Rattle.layouts.proofs.rule_places.Rules.{least_joined}
 use Rattle.csdl_names.proofs.repeated.first_in_schema.Goals as goal
 

@@ -1,7 +1,7 @@
 use Rattle.std.proofs.Common.{ℕ, List, codes}
 use Rattle.layouts.specs.declared.fault.Fault.{Fault}
 use Rattle.csdl_names.specs.csdl_lists.References.{names_in}
-use Rattle.csdl_names.specs.Unresolved.{NamesNothing}
+use Rattle.layouts.specs.rule_places.Names.{NamesNothing}
 use Rattle.layouts.proofs.rule_places.Rules.{least_where_some}
 use Rattle.csdl_names.proofs.LeastFound.{names_nothing}
 use Rattle.csdl_names.proofs.unresolved.first_of_base.Goals as goal

@@ -1,8 +1,8 @@
 use Rattle.std.proofs.Common.{Option, subst}
 use Rattle.cells.specs.Cells.{is_free_in}
 use Rattle.cells.specs.Parts.{schema_in}
-use Rattle.cells.specs.region_basis.BasisOf.{basis_of}
-use Rattle.cells.proofs.region_basis.Bases.{basis_is}
+use Rattle.region_states.specs.region_basis.BasisOf.{basis_of}
+use Rattle.region_states.proofs.region_basis.Bases.{basis_is}
 use Rattle.keyed_rows.specs.row_differences.Differences.{IsFirstDifference, TellsDifference}
 use Rattle.keyed_rows.specs.declared.row_differences.differences.Difference.{Difference}
 use Rattle.keyed_rows.proofs.row_differences.OfState.{null_free_cells, rows_apart}

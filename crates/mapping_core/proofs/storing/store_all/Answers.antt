@@ -3,7 +3,7 @@ use Rattle.round_trip.specs.Words.{Breach, IsLegal, Schema}
 use Rattle.round_trip.specs.TablesAre.{HasNoClash}
 use Rattle.state_legality.specs.Tells.{TellsState}
 use Rattle.cells.specs.Parts.{schema_in}
-use Rattle.cells.specs.region_basis.BasisOf.{basis_of}
+use Rattle.region_states.specs.region_basis.BasisOf.{basis_of}
 use Rattle.region_states.specs.LoneStates.{HasNoAssociationSets}
 use Rattle.mapping_core.proofs.Stored.{clear, few_partners}
 use Rattle.mapping_core.proofs.storing.store_all.Goals as goal

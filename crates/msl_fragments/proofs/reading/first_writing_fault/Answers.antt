@@ -4,7 +4,7 @@ use Rattle.layouts.specs.declared.fault.Fault.{Fault}
 use Rattle.layouts.specs.Faults.{fault_cmp}
 use Rattle.layouts.proofs.rule_places.Rules.{least_joined}
 use Rattle.round_trip.specs.Words.{Mapping, Schema}
-use Rattle.table_owners.specs.link_places.Between.{schema_of}
+use Rattle.round_trip.specs.Between.{schema_of}
 use Rattle.msl_rules.specs.FragmentRules.{IsInFragments}
 use Rattle.msl_rules.specs.LinkRules.{IsInLinks}
 use Rattle.msl_rules.specs.MappingMeaning.{schema_in}

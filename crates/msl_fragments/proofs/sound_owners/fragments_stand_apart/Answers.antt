@@ -1,4 +1,4 @@
-use Rattle.msl_fragments.proofs.sound_owners.ApartPlaces.{places_apart}
+use Rattle.msl_fragments.proofs.sound_owners.places.ApartPlaces.{places_apart}
 use Rattle.msl_fragments.proofs.sound_owners.fragments_stand_apart.Goals as goal
 
 pub returns : goal.returns

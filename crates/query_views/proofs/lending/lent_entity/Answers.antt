@@ -3,7 +3,7 @@ use Rattle.std.specs.Borrow.{Bor}
 use Rattle.cells.specs.Cells.{is_free_in}
 use Rattle.case_laws.specs.candidates.Rows.{shown_row, shown_rows}
 use Rattle.case_laws.specs.declared.candidates.placed.PlacedRow.{PlacedRow}
-use Rattle.cells.specs.region_basis.BasisOf.{basis_of}
+use Rattle.region_states.specs.region_basis.BasisOf.{basis_of}
 use Rattle.round_trip.specs.Words.{Value}
 use Rattle.keyed_rows.specs.row_groups.Shown.{shown_cells}
 use Rattle.query_views.specs.Answers.{TellsKey}

@@ -3,7 +3,7 @@ use Rattle.std.specs.List.{AllZip}
 use Rattle.std.specs.Vec.Iter.{into_iter_items, into_iter_len}
 use Rattle.cells.specs.Cells.{is_free_in}
 use Rattle.case_laws.specs.declared.candidates.placed.PlacedRow.{PlacedRow}
-use Rattle.cells.specs.region_basis.BasisOf.{basis_of}
+use Rattle.region_states.specs.region_basis.BasisOf.{basis_of}
 use Rattle.keyed_rows.specs.declared.row_groups.groups.KeyGroup.{KeyGroup}
 use Rattle.query_views.specs.Answers.{LendsSet}
 use Rattle.query_views.specs.declared.lending.LentEntity.{LentEntity}

@@ -1,5 +1,5 @@
 use Rattle.cells.specs.Cells.{is_free_in}
-use Rattle.cells.specs.region_basis.BasisOf.{basis_of}
+use Rattle.region_states.specs.region_basis.BasisOf.{basis_of}
 use Rattle.query_views.proofs.SetCases.{all_cases}
 use Rattle.query_views.proofs.making.cases_of_sets.Goals as goal
 

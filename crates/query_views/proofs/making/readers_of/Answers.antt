@@ -1,6 +1,6 @@
 use Rattle.std.proofs.Common.{length, List, refl, subst}
 use Rattle.std.proofs.lemmas.Option.{slice_get_read}
-use Rattle.cells.specs.region_basis.BasisOf.{basis_of}
+use Rattle.region_states.specs.region_basis.BasisOf.{basis_of}
 use Rattle.case_laws.specs.declared.region_cases.case.Case.{Case}
 use Rattle.query_views.specs.Views.{IsReaderOf}
 use Rattle.query_views.proofs.Zips.{one_more_beside}

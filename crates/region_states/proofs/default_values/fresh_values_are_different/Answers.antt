@@ -1,6 +1,6 @@
 use Rattle.std.proofs.Common.{refl}
 use Rattle.region_states.proofs.defaults.Short.{fresh_same, fresh_short, fresh_sort}
-use Rattle.region_states.proofs.defaults.Uses.{index_below, one_use}
+use Rattle.region_states.proofs.defaults.indices.Uses.{index_below, one_use}
 use Rattle.region_states.proofs.default_values.fresh_values_are_different.Goals as goal
 
 pub returns-clause-values : goal.returns-clause-values

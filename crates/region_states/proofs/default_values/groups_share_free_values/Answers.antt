@@ -1,4 +1,4 @@
-use Rattle.region_states.proofs.defaults.Shared.{first_shared, next_shared}
+use Rattle.region_states.proofs.defaults.groups.Shared.{first_shared, next_shared}
 use Rattle.region_states.proofs.default_values.groups_share_free_values.Goals as goal
 
 pub returns-clause-first : goal.returns-clause-first

@@ -1,4 +1,4 @@
-use Rattle.regions.proofs.region_laws.Told.{atom_one, atom_only, atoms_once}
+use Rattle.regions.proofs.region_laws.values.Told.{atom_one, atom_only, atoms_once}
 use Rattle.regions.proofs.region_laws.atoms_part_values.Goals as goal
 
 pub returns-clause-one : goal.returns-clause-one

@@ -1,4 +1,4 @@
-use Rattle.regions.proofs.region_laws.Owned.{cell_demanded, link_cell_demanded, link_row_demanded, row_demanded, row_writings}
+use Rattle.regions.proofs.region_laws.writings.Owned.{cell_demanded, link_cell_demanded, link_row_demanded, row_demanded, row_writings}
 use Rattle.regions.proofs.region_laws.cells_are_symbols.Goals as goal
 
 pub returns-clause-writings : goal.returns-clause-writings

@@ -1,4 +1,4 @@
-use Rattle.regions.proofs.region_laws.Concrete.{entity_concrete, link_concrete}
+use Rattle.regions.proofs.region_laws.writings.Concrete.{entity_concrete, link_concrete}
 use Rattle.regions.proofs.region_laws.fragments_write_their_symbols.Goals as goal
 
 pub returns-clause-entity : goal.returns-clause-entity

@@ -10,7 +10,7 @@ use Rattle.emc_base.proofs.Lists.{item_at}
 use Rattle.emc_base.proofs.Mapped.{contains_filter, contains_map}
 use Rattle.emc_base.proofs.Numbered.{enumerated_at, filter_contains, map_contains, numbered_at}
 use Rattle.round_trip.specs.Words.{TableId, ColId, StoreModel, Table, Column, At}
-use Rattle.schema_laws.proofs.state_demand.Lists.{contains_flat_map, member_cases, member_of_flat_map, none_in_nil, of_any}
+use Rattle.schema_laws.proofs.state_demand.lists.Lists.{contains_flat_map, member_cases, member_of_flat_map, none_in_nil, of_any}
 use Rattle.regions.specs.declared.pattern.Symbol.{Symbol}
 use Rattle.regions.specs.declared.pattern.PatternRow.{PatternRow}
 use Rattle.regions.specs.Patterns.{cell_symbols, is_written, pattern_by, pattern_row, rows_at, symbols_in}

@@ -5,8 +5,8 @@ use Rattle.std.proofs.lemmas.List.Kept.{AllPairs-cons, AllPairs-filter}
 use Rattle.emc_base.proofs.Lists.{all_from_members}
 use Rattle.emc_base.proofs.Mapped.{contains_filter}
 use Rattle.emc_base.proofs.Numbered.{filter_contains, map_contains}
-use Rattle.schema_laws.proofs.state_demand.Decisions.{so_or_not}
-use Rattle.schema_laws.proofs.state_demand.Lists.{head_stands, member_cases, member_of_flat_map, none_in_nil, tail_stands}
+use Rattle.schema_laws.proofs.state_demand.writings.Decisions.{so_or_not}
+use Rattle.schema_laws.proofs.state_demand.lists.Lists.{head_stands, member_cases, member_of_flat_map, none_in_nil, tail_stands}
 use Rattle.regions.specs.Lists.{choices, firsts}
 
 module _ {X K : Type 0} (options : K → List X) where

@@ -5,15 +5,15 @@ use Rattle.emc_base.proofs.Mapped.{contains_map}
 use Rattle.emc_base.proofs.Numbered.{map_contains}
 use Rattle.round_trip.specs.Words.{SetId, TableId, ColId, AssocId, Assoc, Fragment, LinkFragment, Pair, Table, At, key_columns}
 use Rattle.round_trip.specs.FailsAt.{IsHostedAt}
-use Rattle.round_trip.specs.soundness.Owners.{Owns}
+use Rattle.round_trip.specs.soundness.mappings.Owners.{Owns}
 use Rattle.schema_laws.specs.state_demand.Owners.{IsHostAt, IsHosted, IsOfOwner, IsOwned}
 use Rattle.schema_laws.specs.state_demand.WellWritten.{FitsTable, cols_of}
-use Rattle.schema_laws.proofs.state_demand.Fitting.{key_is}
-use Rattle.schema_laws.proofs.state_demand.Lists.{head_stands, none_in_nil, same_by_key, tail_stands}
-use Rattle.schema_laws.proofs.state_demand.Owners.{pairs_from_map}
-use Rattle.schema_laws.proofs.state_demand.Permutations.{head_apart}
+use Rattle.schema_laws.proofs.state_demand.writings.Fitting.{key_is}
+use Rattle.schema_laws.proofs.state_demand.lists.Lists.{head_stands, none_in_nil, same_by_key, tail_stands}
+use Rattle.schema_laws.proofs.state_demand.owners.Owners.{pairs_from_map}
+use Rattle.schema_laws.proofs.state_demand.lists.Permutations.{head_apart}
 use Rattle.schema_laws.proofs.sound_demand.Fitting.{well_written}
-use Rattle.schema_laws.proofs.sound_demand.Owned.{owned}
+use Rattle.schema_laws.proofs.sound_demand.owners.Owned.{owned}
 use Rattle.regions.specs.region_laws.IsBasis.{IsBasis}
 use Rattle.regions.specs.declared.region.Region.{Region}
 use Rattle.regions.specs.declared.pattern.Symbol.{Symbol}
@@ -26,10 +26,10 @@ use Rattle.regions.specs.Symbols.{SymbolWriting, conds_symbols, end_symbols, lin
 use Rattle.regions.specs.region_laws.pattern.Allowed.{end_at}
 use Rattle.regions.specs.region_laws.pattern.Listed.{HasCell, IsEndCell}
 use Rattle.regions.proofs.region_laws.pattern.Cells.{cell_apart, cell_of, listed_written, written_listed, writing_to}
-use Rattle.regions.proofs.region_laws.pattern.Groups.{no_key_asked}
-use Rattle.regions.proofs.region_laws.pattern.Hosting.{assoc_here, col_once, host_set, hosted_side, one_link, partner_no_key, side_among, side_alike, the_assoc}
-use Rattle.regions.proofs.region_laws.pattern.Origins.{From, IsRegionWriter, by_cond, by_end, by_host, by_pair, chosen_of, is_from, link_of, region_writer, side}
-use Rattle.regions.proofs.region_laws.pattern.Regions.{parts_of}
+use Rattle.regions.proofs.region_laws.pattern.types.Groups.{no_key_asked}
+use Rattle.regions.proofs.region_laws.pattern.symbols.Hosting.{assoc_here, col_once, host_set, hosted_side, one_link, partner_no_key, side_among, side_alike, the_assoc}
+use Rattle.regions.proofs.region_laws.pattern.symbols.Origins.{From, IsRegionWriter, by_cond, by_end, by_host, by_pair, chosen_of, is_from, link_of, region_writer, side}
+use Rattle.regions.proofs.region_laws.pattern.types.Regions.{parts_of}
 
 -- a list that has only this, and this once
 one_alone : {X : Type 0} (xs : List X) (y : X) → AllPairs (λ a b. a ≢ b) xs → ((x : X) → Contains xs x → x ≡ y) → (x : X) → Contains xs x → xs ≡ y ∷ []

@@ -7,11 +7,11 @@ use Rattle.std.proofs.lemmas.List.Elements.{All-contains}
 use Rattle.emc_base.proofs.Lists.{all_from_members, at_once}
 use Rattle.emc_base.proofs.Mapped.{contains_at}
 use Rattle.round_trip.specs.Words.{TableId, ColId, AssocId, PropId, LinkFragment, Pair, Column, Prop, Value, Null, At, key_columns, key_props, cell_of}
-use Rattle.round_trip.specs.soundness.Joined.{IsNoKey, col, prop}
+use Rattle.round_trip.specs.soundness.mappings.Joined.{IsNoKey, col, prop}
 use Rattle.condition_logic.specs.declared.atoms.Atom.{Atom}
 use Rattle.member_groups.specs.Tested.{IsTested}
 use Rattle.member_groups.proofs.Numbering.{free_member}
-use Rattle.schema_laws.proofs.state_demand.Lists.{head_stands, none_in_nil}
+use Rattle.schema_laws.proofs.state_demand.lists.Lists.{head_stands, none_in_nil}
 use Rattle.schema_laws.proofs.sound_demand.Fitting.{columns_are}
 use Rattle.regions.specs.region_laws.IsBasis.{IsBasis}
 use Rattle.regions.specs.declared.pattern.Symbol.{Symbol}
@@ -28,13 +28,13 @@ use Rattle.regions.specs.region_laws.pattern.Allowed.{AreAllowed, CanBe, IsFocus
 use Rattle.regions.specs.region_laws.pattern.Listed.{HasCell, IsPartOfKey, IsTelling, Lists}
 use Rattle.regions.specs.region_laws.pattern.Described.{HasNoClashes, IsRowFor, row_for, value_in}
 use Rattle.regions.proofs.region_laws.pattern.Cells.{cell_apart, cell_of as made_cell, listed_written}
-use Rattle.regions.proofs.region_laws.pattern.Groups.{asked_by, asked_tested, implied_tested, is_tested, joined_tested, told_tested, written_once}
-use Rattle.regions.proofs.region_laws.pattern.Hosting.{one_link, side_among, side_once}
-use Rattle.regions.proofs.region_laws.pattern.Origins.{From, by_cond, by_end, by_host, by_pair, is_from, side}
-use Rattle.regions.proofs.region_laws.pattern.Possible.{can_be}
-use Rattle.regions.proofs.region_laws.pattern.Regions.{atom_found, atom_tested}
+use Rattle.regions.proofs.region_laws.pattern.types.Groups.{asked_by, asked_tested, implied_tested, is_tested, joined_tested, told_tested, written_once}
+use Rattle.regions.proofs.region_laws.pattern.symbols.Hosting.{one_link, side_among, side_once}
+use Rattle.regions.proofs.region_laws.pattern.symbols.Origins.{From, by_cond, by_end, by_host, by_pair, is_from, side}
+use Rattle.regions.proofs.region_laws.pattern.values.Possible.{can_be}
+use Rattle.regions.proofs.region_laws.pattern.types.Regions.{atom_found, atom_tested}
 use Rattle.regions.proofs.region_laws.pattern.Settled.{free_is, known_empty, known_is, one_value}
-use Rattle.regions.proofs.region_laws.pattern.Standing.{StandsFree, StandsInKey, Stands, end_of, joined_by, prop_stands}
+use Rattle.regions.proofs.region_laws.pattern.symbols.Standing.{StandsFree, StandsInKey, Stands, end_of, joined_by, prop_stands}
 
 -- a part of a key is no property that is none
 part_or_free : (basis : Basis) (p : PropId) → IsPartOfKey basis.schema.model p → IsNoKey basis.schema (prop p) → ⊥

@@ -1,5 +1,5 @@
-use Rattle.regions.proofs.region_laws.Partners.{has_partners}
-use Rattle.regions.proofs.region_laws.Patterns.{link_pattern, region_pattern}
+use Rattle.regions.proofs.region_laws.entities.Partners.{has_partners}
+use Rattle.regions.proofs.region_laws.writings.Patterns.{link_pattern, region_pattern}
 use Rattle.regions.proofs.region_laws.patterns_are_demand.Goals as goal
 
 pub returns-clause-region : goal.returns-clause-region

@@ -1,5 +1,5 @@
-use Rattle.regions.proofs.region_laws.Cells.{symbols_once}
-use Rattle.regions.proofs.region_laws.Rows.{row_cells, rows_all, rows_only, rows_order}
+use Rattle.regions.proofs.region_laws.writings.Cells.{symbols_once}
+use Rattle.regions.proofs.region_laws.writings.Rows.{row_cells, rows_all, rows_only, rows_order}
 use Rattle.regions.proofs.region_laws.patterns_have_rows.Goals as goal
 
 pub returns-clause-only : goal.returns-clause-only

@@ -1,4 +1,4 @@
-use Rattle.regions.proofs.region_laws.Counted.{regions_capped, regions_counted}
+use Rattle.regions.proofs.region_laws.listing.Counted.{regions_capped, regions_counted}
 use Rattle.regions.proofs.region_laws.regions_are_counted.Goals as goal
 
 pub returns-clause-counted : goal.returns-clause-counted

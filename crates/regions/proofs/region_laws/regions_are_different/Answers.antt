@@ -1,4 +1,4 @@
-use Rattle.regions.proofs.region_laws.Apart.{regions_apart}
+use Rattle.regions.proofs.region_laws.listing.Apart.{regions_apart}
 use Rattle.regions.proofs.region_laws.regions_are_different.Goals as goal
 
 pub returns : goal.returns

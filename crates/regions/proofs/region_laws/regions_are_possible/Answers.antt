@@ -1,4 +1,4 @@
-use Rattle.regions.proofs.region_laws.Possible.{atoms_fit, linked_hosts, may_link, must_link, of_set, type_fits}
+use Rattle.regions.proofs.region_laws.listing.Possible.{atoms_fit, linked_hosts, may_link, must_link, of_set, type_fits}
 use Rattle.regions.proofs.region_laws.regions_are_possible.Goals as goal
 
 pub returns-clause-types : goal.returns-clause-types

@@ -1,5 +1,5 @@
-use Rattle.regions.proofs.region_laws.Hosting.{hosted_are}
-use Rattle.regions.proofs.region_laws.Regions.{flag_none, flag_one, region_among, region_holds, region_only}
+use Rattle.regions.proofs.region_laws.entities.Hosting.{hosted_are}
+use Rattle.regions.proofs.region_laws.entities.Regions.{flag_none, flag_one, region_among, region_holds, region_only}
 use Rattle.regions.proofs.region_laws.regions_part_entities.Goals as goal
 
 pub returns-clause-hosted : goal.returns-clause-hosted

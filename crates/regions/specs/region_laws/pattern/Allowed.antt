@@ -4,7 +4,7 @@ use Rattle.std.specs.Prelude.{◌≡◌, ◌≢◌, ◌==◌, List, [], find, sl
 use Rattle.std.specs.Option.{option_map_or}
 use Rattle.edm_types.specs.declared.model.Mult.TheVariants.{Many}
 use Rattle.round_trip.specs.Words.{SetId, PropId, AssocId, Value, Null, EntityModel, Prop, Assoc, End, Hosted, At, InDomain, props_of, key_props, value_beside}
-use Rattle.round_trip.specs.soundness.Joined.{prop}
+use Rattle.round_trip.specs.soundness.mappings.Joined.{prop}
 use Rattle.condition_logic.specs.declared.atoms.AtomOf.{AtomOf}
 use Rattle.regions.specs.declared.region.Region.{Region}
 use Rattle.regions.specs.declared.pattern.Focus.{Focus}

@@ -3,7 +3,7 @@
 use Rattle.std.specs.Prelude.{◌≡◌, ◌≢◌, []}
 use Rattle.round_trip.specs.Words.{PropId, Prop, At}
 use Rattle.emc_base.specs.declared.value.Kind.TheVariants as kind
-use Rattle.round_trip.specs.soundness.Joined.{Member, prop}
+use Rattle.round_trip.specs.soundness.mappings.Joined.{Member, prop}
 use Rattle.round_trip.specs.soundness.Kinds.{IsEnum}
 use Rattle.regions.specs.Basis.{Basis}
 

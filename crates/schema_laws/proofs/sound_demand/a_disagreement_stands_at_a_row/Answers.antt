@@ -1,4 +1,4 @@
-use Rattle.schema_laws.proofs.sound_demand.Disagreeing.{fails_at_entities, tuples_of_entities, tuples_of_hosts, tuples_of_links}
+use Rattle.schema_laws.proofs.sound_demand.tuples.Disagreeing.{fails_at_entities, tuples_of_entities, tuples_of_hosts, tuples_of_links}
 use Rattle.schema_laws.proofs.sound_demand.a_disagreement_stands_at_a_row.Goals as goal
 
 pub returns-clause-entities : goal.returns-clause-entities

@@ -1,5 +1,5 @@
-use Rattle.schema_laws.proofs.sound_demand.OneOwner.{one_joined, one_owner, owned_or_joined}
-use Rattle.schema_laws.proofs.sound_demand.Owned.{has_owner}
+use Rattle.schema_laws.proofs.sound_demand.owners.OneOwner.{one_joined, one_owner, owned_or_joined}
+use Rattle.schema_laws.proofs.sound_demand.owners.Owned.{has_owner}
 use Rattle.schema_laws.proofs.sound_demand.each_table_has_one_owner.Goals as goal
 
 pub returns-clause-owner : goal.returns-clause-owner

@@ -1,4 +1,4 @@
-use Rattle.schema_laws.proofs.sound_demand.Tuples.{agrees_at_entities, agrees_at_hosts, shows_every_row}
+use Rattle.schema_laws.proofs.sound_demand.tuples.Tuples.{agrees_at_entities, agrees_at_hosts, shows_every_row}
 use Rattle.schema_laws.proofs.sound_demand.tuples_are_decided_at_their_key.Goals as goal
 
 pub returns-clause-entities : goal.returns-clause-entities

@@ -1,4 +1,4 @@
-use Rattle.schema_laws.proofs.sound_demand.Tuples.{joined_tuple, same_link_tuple, same_tuple}
+use Rattle.schema_laws.proofs.sound_demand.tuples.Tuples.{joined_tuple, same_link_tuple, same_tuple}
 use Rattle.schema_laws.proofs.sound_demand.tuples_of_one_key_are_one.Goals as goal
 
 pub returns-clause-entities : goal.returns-clause-entities

@@ -1,4 +1,4 @@
-use Rattle.schema_laws.proofs.state_demand.ByRows.{fragment_by_rows, link_fragment_by_rows}
+use Rattle.schema_laws.proofs.state_demand.tables.ByRows.{fragment_by_rows, link_fragment_by_rows}
 use Rattle.schema_laws.proofs.state_demand.agreement_is_by_rows.Goals as goal
 
 pub returns-clause-fragments : goal.returns-clause-fragments

@@ -1,5 +1,5 @@
-use Rattle.schema_laws.proofs.state_demand.NoClash.{Decides-no_clash}
-use Rattle.schema_laws.proofs.state_demand.ReadBack.{no_clash_from_none}
+use Rattle.schema_laws.proofs.state_demand.writings.NoClash.{Decides-no_clash}
+use Rattle.schema_laws.proofs.state_demand.tables.ReadBack.{no_clash_from_none}
 use Rattle.schema_laws.proofs.state_demand.clash_is_decided.Goals as goal
 
 pub returns-clause-decided : goal.returns-clause-decided

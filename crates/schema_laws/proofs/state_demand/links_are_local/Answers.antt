@@ -1,4 +1,4 @@
-use Rattle.schema_laws.proofs.state_demand.Joined.{local_link, one_link}
+use Rattle.schema_laws.proofs.state_demand.owners.Joined.{local_link, one_link}
 use Rattle.schema_laws.proofs.state_demand.links_are_local.Goals as goal
 
 pub returns-clause-local : goal.returns-clause-local

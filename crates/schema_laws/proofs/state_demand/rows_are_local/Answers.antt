@@ -1,4 +1,4 @@
-use Rattle.schema_laws.proofs.state_demand.Owners.{local, one, whole}
+use Rattle.schema_laws.proofs.state_demand.owners.Owners.{local, one, whole}
 use Rattle.schema_laws.proofs.state_demand.rows_are_local.Goals as goal
 
 pub returns-clause-local : goal.returns-clause-local

@@ -1,4 +1,4 @@
-use Rattle.schema_laws.proofs.state_demand.ReadBack.{cells_told, rows_told}
+use Rattle.schema_laws.proofs.state_demand.tables.ReadBack.{cells_told, rows_told}
 use Rattle.schema_laws.proofs.state_demand.rows_are_read_back.Goals as goal
 
 pub returns-clause-rows : goal.returns-clause-rows

@@ -1,4 +1,4 @@
-use Rattle.schema_laws.proofs.state_demand.Selecting.{Decides-key, Decides-selects, Decides-value}
+use Rattle.schema_laws.proofs.state_demand.writings.Selecting.{Decides-key, Decides-selects, Decides-value}
 use Rattle.schema_laws.proofs.state_demand.selection_is_decided.Goals as goal
 
 pub returns-clause-values : goal.returns-clause-values

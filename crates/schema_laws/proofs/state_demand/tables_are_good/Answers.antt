@@ -1,4 +1,4 @@
-use Rattle.schema_laws.proofs.state_demand.Good.{legal_tables, satisfied, stored}
+use Rattle.schema_laws.proofs.state_demand.tables.Good.{legal_tables, satisfied, stored}
 use Rattle.schema_laws.proofs.state_demand.tables_are_good.Goals as goal
 
 pub returns-clause-legal : goal.returns-clause-legal

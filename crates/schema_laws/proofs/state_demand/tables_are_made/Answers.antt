@@ -1,6 +1,6 @@
 use Rattle.schema_laws.specs.state_demand.Writings.{writings_of}
-use Rattle.schema_laws.proofs.state_demand.Tables.{tables_are}
-use Rattle.schema_laws.proofs.state_demand.Writings.{are_writings}
+use Rattle.schema_laws.proofs.state_demand.tables.Tables.{tables_are}
+use Rattle.schema_laws.proofs.state_demand.writings.Writings.{are_writings}
 use Rattle.schema_laws.proofs.state_demand.tables_are_made.Goals as goal
 
 pub returns-clause-by_list : goal.returns-clause-by_list

@@ -1,4 +1,4 @@
-use Rattle.schema_laws.proofs.state_demand.Writings.{are_writings}
+use Rattle.schema_laws.proofs.state_demand.writings.Writings.{are_writings}
 use Rattle.schema_laws.proofs.state_demand.writings_are_listed.Goals as goal
 
 pub returns : goal.returns

@@ -1,6 +1,6 @@
 use Rattle.std.proofs.Common.{◌∷◌, [], ◌∙◌, sym, ap}
 use Rattle.std.specs.Option.{option_and_then, option_map}
-use Rattle.csdl_names.specs.csdl_lists.References.{rest_after}
+use Rattle.groupings.specs.name_places.Fronts.{rest_after}
 use Rattle.schema_names.proofs.Rests.{rest_append}
 use Rattle.schema_names.proofs.local_names.rest_of.Goals as goal
 

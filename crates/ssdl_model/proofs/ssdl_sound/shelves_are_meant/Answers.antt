@@ -1,5 +1,5 @@
 use Rattle.std.proofs.Common.{refl}
-use Rattle.ssdl_model.proofs.ssdl_sound.ShelvesKeep.{shelves_keep}
+use Rattle.ssdl_model.proofs.ssdl_sound.shelves.ShelvesKeep.{shelves_keep}
 use Rattle.ssdl_model.proofs.ssdl_sound.shelves_are_meant.Goals as goal
 
 pub returns : goal.returns

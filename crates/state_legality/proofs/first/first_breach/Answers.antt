@@ -1,7 +1,7 @@
 use Rattle.std.proofs.Common.{Option, sym, subst}
 use Rattle.groupings.specs.least_fault.Least.{IsLeast}
 use Rattle.round_trip.specs.Words.{Breach, IsBreachOf}
-use Rattle.round_trip.specs.Breaches.{BreaksRule}
+use Rattle.round_trip.specs.legality.Breaches.{BreaksRule}
 use Rattle.entity_state.specs.breach_order.Founds.{found_cmp}
 use Rattle.entity_state.specs.declared.breach_order.found.Found.{Found}
 use Rattle.entity_state.proofs.breach_order.FirstFound.{first_of_least}

@@ -4,7 +4,7 @@ use Rattle.emc_base.specs.Lists.{At}
 use Rattle.round_trip.specs.Words.{End}
 use Rattle.table_owners.specs.declared.places.LinkPlace.{LinkPlace}
 use Rattle.regions.specs.Symbols.{is_linked}
-use Rattle.cells.specs.region_basis.BasisOf.{basis_of}
+use Rattle.region_states.specs.region_basis.BasisOf.{basis_of}
 use Rattle.symbolic_rows.specs.Written.{in_symbols, writings_at}
 use Rattle.symbolic_rows.proofs.Behind.{behind}
 use Rattle.symbolic_rows.proofs.Hosted.{fragment_there, host_writes}

@@ -1,5 +1,5 @@
 use Rattle.std.proofs.Common.{◌≡◌, ◌++◌, ◌==◌, ◌&&◌, filter, map, take}
-use Rattle.cells.specs.region_basis.BasisOf.{basis_of}
+use Rattle.region_states.specs.region_basis.BasisOf.{basis_of}
 use Rattle.regions.specs.Symbols.{fragment_writing, selects_region}
 use Rattle.symbolic_rows.specs.Written.{in_symbols}
 use Rattle.symbolic_rows.proofs.writings.add_entities.Given as goal

@@ -2,7 +2,7 @@ use Rattle.std.proofs.Common.{◌++◌, List, flat_map, map, refl, subst, ap, �
 use Rattle.std.proofs.lemmas.Option.{slice_get_read}
 use Rattle.emc_base.specs.Lists.{At}
 use Rattle.round_trip.specs.Words.{Assoc}
-use Rattle.cells.specs.region_basis.BasisOf.{basis_of}
+use Rattle.region_states.specs.region_basis.BasisOf.{basis_of}
 use Rattle.symbolic_rows.specs.Written.{in_symbols, writings_by}
 use Rattle.symbolic_rows.proofs.Behind.{all_numbered, one_more}
 use Rattle.symbolic_rows.proofs.writings.add_hosted.Goals as goal

@@ -1,6 +1,6 @@
 use Rattle.std.proofs.Common.{◌≡◌, ◌++◌, map, take, flat_map}
 use Rattle.std.specs.List.{enumerate_from}
-use Rattle.cells.specs.region_basis.BasisOf.{basis_of}
+use Rattle.region_states.specs.region_basis.BasisOf.{basis_of}
 use Rattle.symbolic_rows.specs.Written.{in_symbols, writings_by}
 use Rattle.symbolic_rows.proofs.writings.add_hosted.Given as goal
 

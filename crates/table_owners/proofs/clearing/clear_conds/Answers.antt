@@ -1,7 +1,7 @@
 use Rattle.std.proofs.Common.{refl}
 use Rattle.std.proofs.lemmas.Option.{slice_get_read}
 use Rattle.table_owners.specs.Clearing.{IsCondOn}
-use Rattle.table_owners.proofs.Cleared.{clears_next}
+use Rattle.table_owners.proofs.columns.Cleared.{clears_next}
 use Rattle.table_owners.proofs.clearing.clear_conds.Goals as goal
 
 pub loop-cond-preserved : goal.loop-cond-preserved

@@ -2,7 +2,7 @@ use Rattle.std.proofs.Common.{List, refl, subst}
 use Rattle.std.proofs.lemmas.Option.{slice_get_read}
 use Rattle.round_trip.specs.Words.{Cond, Pair}
 use Rattle.table_owners.specs.Clearing.{Clears, Each, IsCondOn, IsNamedByEntities, IsPairOn}
-use Rattle.table_owners.proofs.Cleared.{clears_both, clears_next}
+use Rattle.table_owners.proofs.columns.Cleared.{clears_both, clears_next}
 use Rattle.table_owners.proofs.clearing.clear_entities.Goals as goal
 
 pub loop-fragment-preserved : goal.loop-fragment-preserved

@@ -2,7 +2,7 @@ use Rattle.std.proofs.Common.{get_or}
 use Rattle.std.proofs.lemmas.Option.{slice_get-get_or}
 use Rattle.round_trip.specs.Words.{Pair}
 use Rattle.table_owners.specs.Clearing.{IsPairOn}
-use Rattle.table_owners.proofs.Cleared.{clears_next}
+use Rattle.table_owners.proofs.columns.Cleared.{clears_next}
 use Rattle.table_owners.proofs.clearing.clear_pairs.Goals as goal
 
 pub loop-pair-preserved : goal.loop-pair-preserved

@@ -4,11 +4,11 @@ use Rattle.std.specs.Option.{is_some}
 use Rattle.std.proofs.lemmas.Option.{slice_get_read, slice_get_within}
 use Rattle.emc_base.specs.Lists.{At}
 use Rattle.round_trip.specs.Words.{Table}
-use Rattle.table_owners.specs.link_places.Between.{schema_of}
+use Rattle.round_trip.specs.Between.{schema_of}
 use Rattle.table_owners.specs.Clearing.{IsStart, IsStartOf}
 use Rattle.table_owners.specs.Made.{Made}
-use Rattle.table_owners.proofs.Begun.{begun}
-use Rattle.table_owners.proofs.Items.{one_made}
+use Rattle.table_owners.proofs.columns.Begun.{begun}
+use Rattle.table_owners.proofs.lists.Items.{one_made}
 use Rattle.table_owners.proofs.free_columns.columns_of_written.Goals as goal
 
 pub loop-place-preserved : goal.loop-place-preserved

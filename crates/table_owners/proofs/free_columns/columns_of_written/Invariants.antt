@@ -1,5 +1,5 @@
 use Rattle.round_trip.specs.Words.{EntityModel}
-use Rattle.table_owners.specs.link_places.Between.{schema_of}
+use Rattle.round_trip.specs.Between.{schema_of}
 use Rattle.table_owners.specs.Clearing.{IsStart}
 use Rattle.table_owners.proofs.free_columns.columns_of_written.Given as goal
 

@@ -1,10 +1,10 @@
 use Rattle.std.proofs.Common.{List, sym, subst}
 use Rattle.std.proofs.lemmas.Result.{IfOk-weaker}
 use Rattle.round_trip.specs.Words.{Fragment, LinkFragment}
-use Rattle.table_owners.specs.link_places.Between.{schema_of}
+use Rattle.round_trip.specs.Between.{schema_of}
 use Rattle.table_owners.specs.Clearing.{Clears, Each, IsNamedByEntities, IsNamedByLinks}
 use Rattle.table_owners.specs.FreeColumns.{TellFree}
-use Rattle.table_owners.proofs.Free.{tell_free}
+use Rattle.table_owners.proofs.columns.Free.{tell_free}
 use Rattle.table_owners.proofs.free_columns.free_columns_of.Goals as goal
 
 pub returns : goal.returns

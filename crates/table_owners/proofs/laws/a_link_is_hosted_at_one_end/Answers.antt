@@ -1,4 +1,4 @@
-use Rattle.table_owners.proofs.OneEnd.{one_end}
+use Rattle.table_owners.proofs.ownership.OneEnd.{one_end}
 use Rattle.table_owners.proofs.laws.a_link_is_hosted_at_one_end.Goals as goal
 
 pub returns : goal.returns

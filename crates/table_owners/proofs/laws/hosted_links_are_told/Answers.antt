@@ -1,4 +1,4 @@
-use Rattle.table_owners.proofs.Hosting.{told_hosted}
+use Rattle.table_owners.proofs.ownership.Hosting.{told_hosted}
 use Rattle.table_owners.proofs.laws.hosted_links_are_told.Goals as goal
 
 pub returns : goal.returns

@@ -1,9 +1,9 @@
 use Rattle.std.proofs.Common.{◌≡◌, map, sym, ap, subst, ◌∙◌}
 use Rattle.std.proofs.lemmas.List.{take_all}
-use Rattle.table_owners.specs.link_places.Between.{schema_of}
+use Rattle.round_trip.specs.Between.{schema_of}
 use Rattle.table_owners.specs.Owners.{TellOwners}
 use Rattle.table_owners.specs.Sources.{owner_by}
-use Rattle.table_owners.proofs.Owning.{tell_owners}
+use Rattle.table_owners.proofs.ownership.Owning.{tell_owners}
 use Rattle.table_owners.proofs.owners.owners_of.Goals as goal
 
 pub returns : goal.returns

@@ -1,6 +1,6 @@
 use Rattle.std.proofs.Common.{◌≡◌, ◌≤◌, length, ap, arith}
-use Rattle.table_owners.specs.link_places.Between.{schema_of}
-use Rattle.table_owners.proofs.Pairing.{tell_pairings}
+use Rattle.round_trip.specs.Between.{schema_of}
+use Rattle.table_owners.proofs.ownership.Pairing.{tell_pairings}
 use Rattle.table_owners.proofs.pairings.pairings_of.Goals as goal
 
 pub returns : goal.returns

@@ -2,7 +2,7 @@ use Rattle.std.proofs.Common.{◌≡◌, List, take, get_or, filter_map, sym, su
 use Rattle.std.proofs.lemmas.List.{take_more}
 use Rattle.round_trip.specs.Words.{ColId}
 use Rattle.table_owners.specs.Sources.{prop_beside}
-use Rattle.table_owners.proofs.Found.{nothing_found, one_found}
+use Rattle.table_owners.proofs.lists.Found.{nothing_found, one_found}
 use Rattle.table_owners.proofs.pairings.props_beside.Goals as goal
 use Rattle.table_owners.proofs.pairings.props_beside.Goals.{in-Some+in_ok-push, in_default}
 

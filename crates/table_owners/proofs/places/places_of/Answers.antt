@@ -3,12 +3,12 @@ use Rattle.std.proofs.lemmas.Option.{slice_get_read}
 use Rattle.std.proofs.lemmas.Result.{IfOk-weaker}
 use Rattle.emc_base.specs.Lists.{At}
 use Rattle.round_trip.specs.Words.{LinkFragment}
-use Rattle.table_owners.specs.link_places.Between.{schema_of}
+use Rattle.round_trip.specs.Between.{schema_of}
 use Rattle.table_owners.specs.declared.places.LinkPlace.{LinkPlace}
 use Rattle.table_owners.specs.Places.{IsLinkPlace, TellPlaces, maps_to}
 use Rattle.table_owners.specs.Puts.{Puts}
-use Rattle.table_owners.proofs.Placing.{tell_places}
-use Rattle.table_owners.proofs.PutItems.{all_put, none_put, one_put}
+use Rattle.table_owners.proofs.ownership.Placing.{tell_places}
+use Rattle.table_owners.proofs.lists.PutItems.{all_put, none_put, one_put}
 use Rattle.table_owners.proofs.places.places_of.Goals as goal
 
 pub loop-number-init : goal.loop-number-init

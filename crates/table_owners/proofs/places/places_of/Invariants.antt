@@ -1,4 +1,4 @@
-use Rattle.table_owners.specs.link_places.Between.{schema_of}
+use Rattle.round_trip.specs.Between.{schema_of}
 use Rattle.table_owners.specs.Places.{IsLinkPlace, maps_to}
 use Rattle.table_owners.specs.Puts.{Puts}
 use Rattle.table_owners.proofs.places.places_of.Given as goal

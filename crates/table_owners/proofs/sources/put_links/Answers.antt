@@ -2,12 +2,12 @@ use Rattle.std.proofs.Common.{◌+◌, ◌≤◌, List, length, Option, Some, le
 use Rattle.std.proofs.lemmas.Option.{slice_get_read}
 use Rattle.emc_base.specs.Lists.{At}
 use Rattle.round_trip.specs.Words.{LinkFragment}
-use Rattle.table_owners.specs.link_places.Between.{schema_of}
+use Rattle.round_trip.specs.Between.{schema_of}
 use Rattle.table_owners.specs.declared.sources.Source.{Source}
 use Rattle.table_owners.specs.declared.sources.Source.TheVariants.{Links}
 use Rattle.table_owners.specs.Puts.{Puts}
 use Rattle.table_owners.specs.Sources.{IsLinkSource, links_to}
-use Rattle.table_owners.proofs.PutItems.{all_put, none_put, one_put}
+use Rattle.table_owners.proofs.lists.PutItems.{all_put, none_put, one_put}
 use Rattle.table_owners.proofs.sources.put_links.Goals as goal
 
 pub loop-number-init : goal.loop-number-init

@@ -1,6 +1,6 @@
 use Rattle.std.proofs.Common.{◌≡◌, length}
 use Rattle.round_trip.specs.Words.{EntityModel}
-use Rattle.table_owners.specs.link_places.Between.{schema_of}
+use Rattle.round_trip.specs.Between.{schema_of}
 use Rattle.table_owners.specs.Puts.{Puts}
 use Rattle.table_owners.specs.Sources.{IsLinkSource, links_to}
 use Rattle.table_owners.proofs.sources.put_links.Given as goal

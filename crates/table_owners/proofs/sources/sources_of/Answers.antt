@@ -1,7 +1,7 @@
 use Rattle.std.proofs.Common.{rules, ◌≡◌, length, replicate, None, ap, ◌∙◌}
 use Rattle.std.proofs.lemmas.List.{length-replicate}
-use Rattle.table_owners.specs.link_places.Between.{schema_of}
-use Rattle.table_owners.proofs.Sourcing.{are_sources}
+use Rattle.round_trip.specs.Between.{schema_of}
+use Rattle.table_owners.proofs.columns.Sourcing.{are_sources}
 use Rattle.table_owners.proofs.sources.sources_of.Goals as goal
 
 pub returns-clause-size : goal.returns-clause-size

@@ -1,7 +1,7 @@
 use Rattle.std.proofs.Common.{List, sym, subst}
 use Rattle.round_trip.specs.Words.{Pair}
 use Rattle.round_trip.specs.FailsAt.{IsHostedAt}
-use Rattle.table_owners.specs.link_places.Between.{schema_of}
+use Rattle.round_trip.specs.Between.{schema_of}
 use Rattle.table_owners.proofs.sources.standing_of.Goals as goal
 
 pub returns-then-is_hosted : goal.returns-then-is_hosted

@@ -5,7 +5,7 @@ use Rattle.emc_base.proofs.Loops.{take-enumerated}
 use Rattle.emc_base.proofs.Numbered.{numbered_at}
 use Rattle.std.specs.List.{enumerate_from}
 use Rattle.round_trip.specs.Words.{Assoc}
-use Rattle.cells.specs.region_basis.BasisOf.{basis_of}
+use Rattle.region_states.specs.region_basis.BasisOf.{basis_of}
 use Rattle.update_views.specs.Making.{joined_by}
 use Rattle.update_views.proofs.Added.{next_image}
 use Rattle.update_views.proofs.making.joined_rows.Goals as goal

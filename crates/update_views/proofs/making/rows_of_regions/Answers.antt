@@ -1,7 +1,7 @@
 use Rattle.std.proofs.Common.{◌++◌, ◌∷◌, [], Some, sym, ap, ◌∙◌}
 use Rattle.std.proofs.lemmas.Option.{slice_get-get_or}
 use Rattle.emc_base.specs.Lists.{At}
-use Rattle.cells.specs.region_basis.BasisOf.{basis_of}
+use Rattle.region_states.specs.region_basis.BasisOf.{basis_of}
 use Rattle.update_views.specs.view_rows.Made.{rows_of_region}
 use Rattle.update_views.proofs.Added.{next_image}
 use Rattle.update_views.proofs.making.rows_of_regions.Goals as goal

@@ -1,5 +1,5 @@
 use Rattle.std.proofs.Common.{◌≡◌, map, take}
-use Rattle.cells.specs.region_basis.BasisOf.{basis_of}
+use Rattle.region_states.specs.region_basis.BasisOf.{basis_of}
 use Rattle.update_views.specs.view_rows.Made.{rows_of_region}
 use Rattle.update_views.proofs.making.rows_of_regions.Given as goal
 

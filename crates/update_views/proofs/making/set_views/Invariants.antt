@@ -1,4 +1,4 @@
-use Rattle.cells.specs.region_basis.BasisOf.{basis_of}
+use Rattle.region_states.specs.region_basis.BasisOf.{basis_of}
 use Rattle.region_partition.proofs.set_regions.Sets.{AreOfFirst}
 use Rattle.update_views.specs.Making.{IsSetView}
 use Rattle.update_views.proofs.making.set_views.Given as goal

@@ -1,7 +1,7 @@
 use Rattle.std.proofs.Common.{inl, ap, ◌∙◌}
 use Rattle.round_trip.specs.Words.{values_of}
 use Rattle.cells.specs.Parts.{schema_in}
-use Rattle.schema_laws.proofs.sound_demand.Owned.{owned}
+use Rattle.schema_laws.proofs.sound_demand.owners.Owned.{owned}
 use Rattle.witness_state.proofs.Pairing.{key_told}
 use Rattle.witness_state.proofs.places.cell_place.Goals as goal
 

@@ -1,6 +1,6 @@
-use Rattle.worked_examples.proofs.sound_examples.BossesMapped.{hosted_sound, joined_sound}
-use Rattle.worked_examples.proofs.sound_examples.SoundStores as stores
-use Rattle.worked_examples.proofs.sound_examples.Bosses.{sound}
+use Rattle.worked_examples.proofs.sound_examples.mappings.BossesMapped.{hosted_sound, joined_sound}
+use Rattle.worked_examples.proofs.sound_examples.stores.SoundStores as stores
+use Rattle.worked_examples.proofs.sound_examples.models.Bosses.{sound}
 use Rattle.worked_examples.proofs.sound_examples.bosses_are_sound.Goals as goal
 
 pub returns : goal.returns

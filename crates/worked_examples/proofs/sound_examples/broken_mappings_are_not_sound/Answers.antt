@@ -1,5 +1,5 @@
-use Rattle.worked_examples.proofs.sound_examples.SeatsMapped.{no_swapped}
-use Rattle.worked_examples.proofs.sound_examples.BrokenMappings as broken
+use Rattle.worked_examples.proofs.sound_examples.mappings.SeatsMapped.{no_swapped}
+use Rattle.worked_examples.proofs.sound_examples.mappings.BrokenMappings as broken
 use Rattle.worked_examples.proofs.sound_examples.broken_mappings_are_not_sound.Goals as goal
 
 pub returns : goal.returns

@@ -1,4 +1,4 @@
-use Rattle.worked_examples.proofs.sound_examples.BrokenModels as broken
+use Rattle.worked_examples.proofs.sound_examples.models.BrokenModels as broken
 use Rattle.worked_examples.proofs.sound_examples.broken_models_are_not_sound.Goals as goal
 
 pub returns : goal.returns

@@ -1,4 +1,4 @@
-use Rattle.worked_examples.proofs.sound_examples.BrokenStores as broken
+use Rattle.worked_examples.proofs.sound_examples.stores.BrokenStores as broken
 use Rattle.worked_examples.proofs.sound_examples.broken_stores_are_not_sound.Goals as goal
 
 pub returns : goal.returns

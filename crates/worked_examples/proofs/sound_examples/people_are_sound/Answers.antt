@@ -1,6 +1,6 @@
-use Rattle.worked_examples.proofs.sound_examples.PeopleMapped.{people_sound}
-use Rattle.worked_examples.proofs.sound_examples.SoundStores as stores
-use Rattle.worked_examples.proofs.sound_examples.People.{sound}
+use Rattle.worked_examples.proofs.sound_examples.mappings.PeopleMapped.{people_sound}
+use Rattle.worked_examples.proofs.sound_examples.stores.SoundStores as stores
+use Rattle.worked_examples.proofs.sound_examples.models.People.{sound}
 use Rattle.worked_examples.proofs.sound_examples.people_are_sound.Goals as goal
 
 pub returns : goal.returns

@@ -1,5 +1,5 @@
 use Rattle.round_trip.specs.Words.{Schema}
-use Rattle.table_owners.specs.link_places.Between.{schema_of}
+use Rattle.round_trip.specs.Between.{schema_of}
 use Rattle.cells.proofs.cells.Cells.of.Goals as goal
 
 pub returns : goal.returns

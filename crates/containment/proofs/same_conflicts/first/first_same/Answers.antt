@@ -4,7 +4,7 @@ use Rattle.std.proofs.lemmas.Option.{same_Some}
 use Rattle.round_trip.specs.Words.{PropId}
 use Rattle.round_trip.specs.declared.FailKind.TheVariants as kind
 use Rattle.regions.specs.declared.region.Region.{Region}
-use Rattle.cells.specs.region_basis.BasisOf.{basis_of}
+use Rattle.region_states.specs.region_basis.BasisOf.{basis_of}
 use Rattle.region_states.specs.conflicts.Conflicts.{IsConflictAt}
 use Rattle.region_states.specs.conflicts.SameFacts.{are_rivals, is_lost}
 use Rattle.region_states.specs.declared.conflicts.conflict.Conflict.TheVariants as conflict

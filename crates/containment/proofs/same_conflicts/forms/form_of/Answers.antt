@@ -2,7 +2,7 @@ use Rattle.std.proofs.Common.{refl, subst, Contains}
 use Rattle.std.proofs.lemmas.Option.{slice_get_read}
 use Rattle.emc_base.proofs.Mapped.{contains_at}
 use Rattle.regions.specs.declared.pattern.Pattern.{Pattern}
-use Rattle.cells.specs.region_basis.BasisOf.{basis_of}
+use Rattle.region_states.specs.region_basis.BasisOf.{basis_of}
 use Rattle.containment.proofs.same_conflicts.Certain.{columns_there}
 use Rattle.containment.proofs.same_conflicts.forms.form_of.Goals as goal
 

@@ -2,7 +2,7 @@ use Rattle.std.proofs.Common.{◌≡◌, ◌<◌, ℕ, ◌++◌, ◌∷◌, [], 
 use Rattle.std.specs.List.{enumerate_from}
 use Rattle.emc_base.proofs.Loops.{take-enumerated}
 use Rattle.regions.specs.declared.pattern.Symbol.{Symbol}
-use Rattle.cells.specs.region_basis.BasisOf.{basis_of}
+use Rattle.region_states.specs.region_basis.BasisOf.{basis_of}
 use Rattle.containment.specs.same_conflicts.Forms.{held_at}
 use Rattle.containment.specs.declared.same_conflicts.forms.Held.{Held}
 use Rattle.containment.proofs.same_conflicts.Lists.{map_more}

@@ -6,7 +6,7 @@ use Rattle.emc_base.specs.Lists.{At}
 use Rattle.emc_base.proofs.Loops.{take_item}
 use Rattle.emc_base.proofs.Mapped.{contains_at, contains_map}
 use Rattle.round_trip.specs.Words.{PropId}
-use Rattle.cells.specs.region_basis.BasisOf.{basis_of}
+use Rattle.region_states.specs.region_basis.BasisOf.{basis_of}
 use Rattle.region_states.specs.conflicts.SameFacts.{is_lost}
 use Rattle.containment.specs.declared.same_conflicts.written.Written.{Written}
 use Rattle.containment.specs.same_conflicts.Written.{IsWritten, region_in}

@@ -1,6 +1,6 @@
 use Rattle.std.proofs.Common.{◌≡◌, All, false, take}
 use Rattle.region_states.specs.conflicts.SameFacts.{is_lost}
-use Rattle.cells.specs.region_basis.BasisOf.{basis_of}
+use Rattle.region_states.specs.region_basis.BasisOf.{basis_of}
 use Rattle.containment.specs.same_conflicts.Written.{region_in}
 use Rattle.containment.proofs.same_conflicts.lost.first_lost.Given as goal
 

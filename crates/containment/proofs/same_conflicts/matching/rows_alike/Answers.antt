@@ -2,7 +2,7 @@ use Rattle.std.proofs.Common.{◌<◌, length, Bool, refl, sym, ◌∙◌, arith
 use Rattle.std.proofs.lemmas.Option.{slice_get_read}
 use Rattle.emc_base.specs.Lists.{At}
 use Rattle.regions.specs.declared.pattern.PatternRow.{PatternRow}
-use Rattle.cells.specs.region_basis.BasisOf.{basis_of}
+use Rattle.region_states.specs.region_basis.BasisOf.{basis_of}
 use Rattle.region_states.specs.conflicts.SameFacts.{match_all, rows_match}
 use Rattle.containment.proofs.same_conflicts.Walked.{match_below_all, match_more, no_match_place}
 use Rattle.containment.proofs.same_conflicts.matching.rows_alike.Goals as goal

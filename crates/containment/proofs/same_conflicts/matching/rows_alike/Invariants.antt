@@ -1,5 +1,5 @@
 use Rattle.region_states.specs.conflicts.SameFacts.{rows_match}
-use Rattle.cells.specs.region_basis.BasisOf.{basis_of}
+use Rattle.region_states.specs.region_basis.BasisOf.{basis_of}
 use Rattle.containment.proofs.same_conflicts.Walked.{MatchBelow}
 use Rattle.containment.proofs.same_conflicts.matching.rows_alike.Given as goal
 

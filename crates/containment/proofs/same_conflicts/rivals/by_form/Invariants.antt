@@ -1,5 +1,5 @@
 use Rattle.member_groups.specs.group_numbers.Numbers.{HoldsEach}
-use Rattle.cells.specs.region_basis.BasisOf.{basis_of}
+use Rattle.region_states.specs.region_basis.BasisOf.{basis_of}
 use Rattle.containment.specs.same_conflicts.Rivals.{IsFormAt}
 use Rattle.containment.proofs.same_conflicts.rivals.by_form.Given as goal
 

@@ -1,7 +1,7 @@
 use Rattle.std.proofs.Common.{◌≡◌, ◌<◌, ℕ, All, AllPairs, Contains, List, length, sym, subst, ◌∙◌}
 use Rattle.std.specs.BTreeMap.{values}
 use Rattle.std.specs.Global.{Vec}
-use Rattle.cells.specs.region_basis.BasisOf.{basis_of}
+use Rattle.region_states.specs.region_basis.BasisOf.{basis_of}
 use Rattle.containment.proofs.same_conflicts.Bases.{basis_is}
 use Rattle.containment.specs.same_conflicts.Rivals.{AreTwoOf, DifferAt}
 use Rattle.containment.proofs.same_conflicts.Grouping.{places_below}

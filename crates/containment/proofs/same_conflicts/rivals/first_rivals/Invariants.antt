@@ -1,5 +1,5 @@
 use Rattle.std.proofs.Common.{AllPairs}
-use Rattle.cells.specs.region_basis.BasisOf.{basis_of}
+use Rattle.region_states.specs.region_basis.BasisOf.{basis_of}
 use Rattle.containment.specs.same_conflicts.Rivals.{DifferAt}
 use Rattle.containment.proofs.same_conflicts.Left.{AreLeft}
 use Rattle.containment.proofs.same_conflicts.rivals.first_rivals.Given as goal

@@ -1,6 +1,6 @@
 use Rattle.std.proofs.Common.{◌≡◌, All, false, take}
 use Rattle.emc_base.specs.Lists.{At}
-use Rattle.cells.specs.region_basis.BasisOf.{basis_of}
+use Rattle.region_states.specs.region_basis.BasisOf.{basis_of}
 use Rattle.containment.specs.same_conflicts.Matching.{rows_alike}
 use Rattle.containment.proofs.same_conflicts.rivals.rival_of.Given as goal
 

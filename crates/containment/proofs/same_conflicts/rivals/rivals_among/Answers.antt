@@ -4,7 +4,7 @@ use Rattle.std.proofs.lemmas.List.Quantifiers.{all_pairs_push}
 use Rattle.std.proofs.lemmas.Option.{slice_get_read}
 use Rattle.emc_base.specs.Lists.{At}
 use Rattle.emc_base.proofs.Lists.{at_once}
-use Rattle.cells.specs.region_basis.BasisOf.{basis_of}
+use Rattle.region_states.specs.region_basis.BasisOf.{basis_of}
 use Rattle.containment.specs.declared.same_conflicts.written.Written.{Written}
 use Rattle.containment.specs.same_conflicts.Matching.{rows_alike}
 use Rattle.containment.specs.same_conflicts.Rivals.{DifferAt}

@@ -1,5 +1,5 @@
 use Rattle.std.proofs.Common.{AllPairs, take}
-use Rattle.cells.specs.region_basis.BasisOf.{basis_of}
+use Rattle.region_states.specs.region_basis.BasisOf.{basis_of}
 use Rattle.containment.specs.same_conflicts.Rivals.{DifferAt}
 use Rattle.containment.proofs.same_conflicts.rivals.rivals_among.Given as goal
 

@@ -1,6 +1,6 @@
 use Rattle.std.proofs.Common.{◌+◌, List, refl, sym, subst, take}
 use Rattle.std.proofs.lemmas.Option.{slice_get_read}
-use Rattle.cells.specs.region_basis.BasisOf.{basis_of}
+use Rattle.region_states.specs.region_basis.BasisOf.{basis_of}
 use Rattle.containment.specs.declared.same_conflicts.written.Written.{Written}
 use Rattle.containment.specs.same_conflicts.Written.{AreWritten}
 use Rattle.containment.proofs.same_conflicts.Beside.{written_more}

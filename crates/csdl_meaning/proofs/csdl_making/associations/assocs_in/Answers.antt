@@ -1,7 +1,7 @@
 use Rattle.std.proofs.Common.{refl, ◌∙◌}
 use Rattle.std.proofs.lemmas.Option.{slice_get_read}
 use Rattle.csdl_meaning.specs.ModelMeaning.{assoc_of}
-use Rattle.csdl_meaning.proofs.csdl_making.Places.{found_more}
+use Rattle.emc_base.proofs.Turns.{found_more}
 use Rattle.csdl_meaning.proofs.csdl_making.associations.assocs_in.Goals as goal
 
 pub loop-set-preserved : goal.loop-set-preserved

@@ -5,7 +5,7 @@ use Rattle.csdl_names.specs.declared.lookups.PropPlace.{PropPlace}
 use Rattle.csdl_meaning.specs.ModelMeaning.{prop_id}
 use Rattle.csdl_meaning.specs.csdl_making.Making.{id_of_place}
 use Rattle.csdl_meaning.proofs.csdl_making.Numbered.{found_inside}
-use Rattle.csdl_meaning.proofs.csdl_making.Places.{found_more}
+use Rattle.emc_base.proofs.Turns.{found_more}
 use Rattle.csdl_meaning.proofs.csdl_making.associations.ids_of_type.Goals as goal
 
 pub found_id-requires-clause-inside : goal.found_id-requires-clause-inside

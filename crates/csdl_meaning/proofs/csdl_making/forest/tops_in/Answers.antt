@@ -1,7 +1,7 @@
 use Rattle.std.proofs.Common.{◌≡◌, Bool, true, false, not, Option, Some, None, refl, sym, ap, ◌∙◌}
 use Rattle.std.specs.Option.{is_none, is_some}
 use Rattle.csdl_meaning.specs.Meaning.{base_in, is_top}
-use Rattle.csdl_meaning.proofs.csdl_making.Places.{kept_next}
+use Rattle.emc_base.proofs.Turns.{kept_next}
 use Rattle.csdl_meaning.proofs.csdl_making.forest.tops_in.Goals as goal
 
 -- a test that is the other way round

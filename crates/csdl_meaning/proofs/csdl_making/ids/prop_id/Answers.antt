@@ -1,5 +1,5 @@
 use Rattle.std.proofs.Common.{◌≡◌, ◌+◌, ◌<◌, ℕ, List, get_or, length, ap, ◌∙◌, arith}
-use Rattle.round_trip.specs.soundness.Inheritance.{prop_numbered}
+use Rattle.round_trip.specs.soundness.models.Inheritance.{prop_numbered}
 use Rattle.csdl_meaning.specs.Meaning.{declared_before}
 use Rattle.csdl_meaning.proofs.csdl_making.Numbered.{start_at, starts_long}
 use Rattle.csdl_meaning.proofs.csdl_making.ids.prop_id.Goals as goal

@@ -4,7 +4,7 @@ use Rattle.std.proofs.lemmas.Option.{slice_get-get_or}
 use Rattle.emc_base.specs.Lists.{At}
 use Rattle.graphs.specs.base_chains.Chains.{base_at}
 use Rattle.graphs.proofs.base_chains.Chains.{base_read}
-use Rattle.graphs.proofs.base_chains.Orders.{stays_within}
+use Rattle.graphs.proofs.base_chains.orders.Orders.{stays_within}
 use Rattle.csdl_meaning.specs.csdl_making.Making.{list_at}
 use Rattle.csdl_meaning.proofs.csdl_making.Joins.{joining_all, joining_more}
 use Rattle.csdl_meaning.proofs.csdl_making.lists.inherited.Goals as goal

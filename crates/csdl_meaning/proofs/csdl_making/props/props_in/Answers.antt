@@ -3,7 +3,7 @@ use Rattle.std.specs.List.{enumerate_from, flat_map}
 use Rattle.round_trip.specs.Words.{Prop}
 use Rattle.csdl_names.specs.declared.csdl_lists.raw.RawType.{RawType}
 use Rattle.csdl_meaning.specs.Meaning.{prop_of}
-use Rattle.csdl_meaning.proofs.csdl_making.Places.{all_placed, at_place, flat_more}
+use Rattle.emc_base.proofs.Turns.{all_placed, at_place, flat_more}
 use Rattle.csdl_meaning.proofs.csdl_making.props.props_in.Goals as goal
 
 pub loop-place-preserved : goal.loop-place-preserved

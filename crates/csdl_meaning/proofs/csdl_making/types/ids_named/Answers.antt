@@ -1,7 +1,7 @@
 use Rattle.std.proofs.Common.{refl, ◌∙◌}
 use Rattle.std.proofs.lemmas.Option.{slice_get_read}
 use Rattle.csdl_meaning.specs.Meaning.{prop_named}
-use Rattle.csdl_meaning.proofs.csdl_making.Places.{found_more}
+use Rattle.emc_base.proofs.Turns.{found_more}
 use Rattle.csdl_meaning.proofs.csdl_making.types.ids_named.Goals as goal
 
 pub loop-name-preserved : goal.loop-name-preserved

@@ -5,7 +5,7 @@ use Rattle.csdl_names.specs.declared.csdl_lists.raw.RawType.{RawType}
 use Rattle.csdl_meaning.specs.Meaning.{type_of}
 use Rattle.csdl_meaning.specs.csdl_making.Making.{list_at}
 use Rattle.csdl_meaning.proofs.csdl_making.Numbered.{type_is}
-use Rattle.csdl_meaning.proofs.csdl_making.Places.{all_placed, at_place, mapped_more}
+use Rattle.emc_base.proofs.Turns.{all_placed, at_place, mapped_more}
 use Rattle.csdl_meaning.proofs.csdl_making.types.make_types.Goals as goal
 
 -- what was taken out at one place changes no later one

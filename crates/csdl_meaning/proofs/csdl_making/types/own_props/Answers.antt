@@ -1,6 +1,6 @@
 use Rattle.std.proofs.Common.{[], ◌∷◌, ◌++◌, ◌+◌, sym, refl, ◌∙◌}
 use Rattle.std.proofs.lemmas.List.FromFn.{map-range_with_len_more}
-use Rattle.round_trip.specs.soundness.Inheritance.{prop_numbered}
+use Rattle.round_trip.specs.soundness.models.Inheritance.{prop_numbered}
 use Rattle.csdl_meaning.specs.Meaning.{declared_before}
 use Rattle.csdl_meaning.proofs.csdl_making.types.own_props.Goals as goal
 

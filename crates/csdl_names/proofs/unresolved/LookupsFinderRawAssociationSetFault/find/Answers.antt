@@ -2,7 +2,8 @@ use Rattle.std.proofs.Common.{codes}
 use Rattle.layouts.specs.declared.fault.Fault.{Fault}
 use Rattle.layouts.specs.rule_places.Places.{InList}
 use Rattle.csdl_names.specs.csdl_lists.References.{names_in}
-use Rattle.csdl_names.specs.Unresolved.{IsUnresolvedInSetEnd, NamesNothing}
+use Rattle.csdl_names.specs.Unresolved.{IsUnresolvedInSetEnd}
+use Rattle.layouts.specs.rule_places.Names.{NamesNothing}
 use Rattle.layouts.proofs.rule_places.Rules.{least_joined}
 use Rattle.csdl_names.proofs.LeastFound.{names_nothing}
 use Rattle.csdl_names.proofs.unresolved.LookupsFinderRawAssociationSetFault.find.Goals as goal

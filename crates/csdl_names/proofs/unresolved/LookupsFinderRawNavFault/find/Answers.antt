@@ -4,7 +4,8 @@ use Rattle.layouts.specs.declared.fault.Fault.{Fault}
 use Rattle.layouts.specs.declared.rule.Rule.TheVariants.{Resolves}
 use Rattle.layouts.specs.rule_places.Places.{IsAt}
 use Rattle.csdl_names.specs.csdl_lists.References.{names_in}
-use Rattle.csdl_names.specs.Unresolved.{LacksRole, NamesNothing}
+use Rattle.csdl_names.specs.Unresolved.{LacksRole}
+use Rattle.layouts.specs.rule_places.Names.{NamesNothing}
 use Rattle.layouts.proofs.rule_places.Rules.{least_joined}
 use Rattle.csdl_names.proofs.LeastFound.{names_nothing}
 use Rattle.csdl_names.proofs.unresolved.LookupsFinderRawNavFault.find.Goals as goal

@@ -1,5 +1,5 @@
 use Rattle.std.proofs.Common.{◌≡◌, map, take}
-use Rattle.round_trip.specs.soundness.Inheritance.{prop_numbered}
+use Rattle.round_trip.specs.soundness.models.Inheritance.{prop_numbered}
 use Rattle.data_tests.proofs.staff_example.firm.prop_ids.Given as goal
 
 -- the ids of the places that were passed

@@ -1,5 +1,5 @@
 use Rattle.std.proofs.Common.{Some, sym, subst}
-use Rattle.round_trip.specs.soundness.Models.{IsSoundModel}
+use Rattle.round_trip.specs.soundness.models.Models.{IsSoundModel}
 use Rattle.data_tests.proofs.staff_example.SoundStaff.{staff_is_sound}
 use Rattle.data_tests.proofs.staff_example.firm.staff.Goals as goal
 

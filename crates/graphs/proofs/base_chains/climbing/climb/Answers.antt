@@ -2,7 +2,7 @@ use Rattle.std.proofs.Common.{◌≡◌, ◌<◌, ℕ, true, List, length, set, 
 use Rattle.graphs.specs.base_chains.Chains.{base_at}
 use Rattle.graphs.specs.base_chains.Climbs.{IsSeen, IsWayUp}
 use Rattle.graphs.proofs.base_chains.Chains.{base_read}
-use Rattle.graphs.proofs.base_chains.Climbs.{not_seen, read_seen, way_more}
+use Rattle.graphs.proofs.base_chains.walks.Climbs.{not_seen, read_seen, way_more}
 use Rattle.graphs.proofs.base_chains.climbing.climb.Goals as goal
 use Rattle.graphs.proofs.base_chains.climbing.climb.Goals.{in-Some+then-index, in_default}
 

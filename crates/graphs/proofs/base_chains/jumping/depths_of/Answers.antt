@@ -7,9 +7,9 @@ use Rattle.emc_base.proofs.Mapped.{contains_at}
 use Rattle.graphs.specs.base_chains.Chains.{base_at}
 use Rattle.graphs.specs.base_chains.Jumps.{depth}
 use Rattle.graphs.proofs.base_chains.Chains.{base_read}
-use Rattle.graphs.proofs.base_chains.Filled.{Is, filled_all, filled_more, made_base}
+use Rattle.graphs.proofs.base_chains.orders.Filled.{Is, filled_all, filled_more, made_base}
 use Rattle.graphs.proofs.base_chains.Levels.{depth_by_base, depth_few, forest_by_order}
-use Rattle.graphs.proofs.base_chains.Orders.{stays_within}
+use Rattle.graphs.proofs.base_chains.orders.Orders.{stays_within}
 use Rattle.graphs.proofs.base_chains.jumping.depths_of.Goals as goal
 
 pub depth_at-above-requires : goal.depth_at-above-requires

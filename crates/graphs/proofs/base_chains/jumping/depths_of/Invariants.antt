@@ -1,7 +1,7 @@
 use Rattle.std.proofs.Common.{length}
 use Rattle.graphs.specs.base_chains.Chains.{base_at}
 use Rattle.graphs.specs.base_chains.Jumps.{depth}
-use Rattle.graphs.proofs.base_chains.Filled.{Is, IsFilled}
+use Rattle.graphs.proofs.base_chains.orders.Filled.{Is, IsFilled}
 use Rattle.graphs.proofs.base_chains.jumping.depths_of.Given as goal
 
 -- the depths of the places that were passed

@@ -3,7 +3,7 @@ use Rattle.std.proofs.lemmas.Option.{slice_get-get_or}
 use Rattle.emc_base.specs.Lists.{At}
 use Rattle.graphs.specs.base_chains.Chains.{base_at}
 use Rattle.graphs.specs.base_chains.Jumps.{IsJump}
-use Rattle.graphs.proofs.base_chains.Filled.{filled_all, filled_more, made_above}
+use Rattle.graphs.proofs.base_chains.orders.Filled.{filled_all, filled_more, made_above}
 use Rattle.graphs.proofs.base_chains.Levels.{forest_by_order}
 use Rattle.graphs.proofs.base_chains.jumping.jumps_of.Goals as goal
 

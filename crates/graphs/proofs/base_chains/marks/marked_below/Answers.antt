@@ -4,8 +4,8 @@ use Rattle.emc_base.proofs.Mapped.{contains_at}
 use Rattle.graphs.specs.base_chains.Chains.{base_at}
 use Rattle.graphs.specs.base_chains.MarksBelow.{IsCarried}
 use Rattle.graphs.proofs.base_chains.Chains.{base_read, has_base}
-use Rattle.graphs.proofs.base_chains.Orders.{stays_within}
-use Rattle.graphs.proofs.base_chains.Passing.{IsPassed, next_place, passed_all, passed_more, passed_start}
+use Rattle.graphs.proofs.base_chains.orders.Orders.{stays_within}
+use Rattle.graphs.proofs.base_chains.orders.Passing.{IsPassed, next_place, passed_all, passed_more, passed_start}
 use Rattle.graphs.proofs.base_chains.marks.marked_below.Goals as goal
 
 pub loop-place-init : goal.loop-place-init

@@ -1,6 +1,6 @@
 use Rattle.std.proofs.Common.{length}
 use Rattle.graphs.specs.base_chains.Chains.{base_at}
-use Rattle.graphs.proofs.base_chains.Passing.{IsPassed}
+use Rattle.graphs.proofs.base_chains.orders.Passing.{IsPassed}
 use Rattle.graphs.proofs.base_chains.marks.marked_below.Given as goal
 
 -- the marks of the places that were passed were carried up

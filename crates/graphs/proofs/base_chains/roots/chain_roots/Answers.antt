@@ -6,9 +6,9 @@ use Rattle.emc_base.specs.Lists.{At}
 use Rattle.emc_base.proofs.Mapped.{contains_at}
 use Rattle.graphs.specs.base_chains.Chains.{base_at, root}
 use Rattle.graphs.proofs.base_chains.Chains.{base_read}
-use Rattle.graphs.proofs.base_chains.Filled.{Is, filled_all, filled_more, made_base, map_of_each}
+use Rattle.graphs.proofs.base_chains.orders.Filled.{Is, filled_all, filled_more, made_base, map_of_each}
 use Rattle.graphs.proofs.base_chains.Levels.{forest_by_order}
-use Rattle.graphs.proofs.base_chains.Orders.{stays_within}
+use Rattle.graphs.proofs.base_chains.orders.Orders.{stays_within}
 use Rattle.graphs.proofs.base_chains.Tops.{root_step}
 use Rattle.graphs.proofs.base_chains.roots.chain_roots.Goals as goal
 

@@ -1,6 +1,6 @@
 use Rattle.std.proofs.Common.{length}
 use Rattle.graphs.specs.base_chains.Chains.{base_at, root}
-use Rattle.graphs.proofs.base_chains.Filled.{Is, IsFilled}
+use Rattle.graphs.proofs.base_chains.orders.Filled.{Is, IsFilled}
 use Rattle.graphs.proofs.base_chains.roots.chain_roots.Given as goal
 
 -- the roots of the places that were passed

@@ -5,8 +5,8 @@ use Rattle.std.proofs.lemmas.Option.{slice_get-get_or}
 use Rattle.emc_base.specs.Lists.{At}
 use Rattle.graphs.specs.base_chains.Chains.{base_at}
 use Rattle.graphs.proofs.base_chains.Chains.{base_read}
-use Rattle.graphs.proofs.base_chains.Orders.{order_short, stays_within}
-use Rattle.graphs.proofs.base_chains.Sums.{few_above, sizing_all, sizing_more}
+use Rattle.graphs.proofs.base_chains.orders.Orders.{order_short, stays_within}
+use Rattle.graphs.proofs.base_chains.orders.Sums.{few_above, sizing_all, sizing_more}
 use Rattle.graphs.proofs.base_chains.sizes.chain_sizes.Goals as goal
 
 pub size_at-inherited-requires : goal.size_at-inherited-requires

@@ -1,6 +1,6 @@
 use Rattle.std.proofs.Common.{length}
 use Rattle.graphs.specs.base_chains.Chains.{base_at}
-use Rattle.graphs.proofs.base_chains.Sums.{IsSizing}
+use Rattle.graphs.proofs.base_chains.orders.Sums.{IsSizing}
 use Rattle.graphs.proofs.base_chains.sizes.chain_sizes.Given as goal
 
 -- the sizes of the places that were passed

@@ -3,7 +3,7 @@ use Rattle.graphs.specs.base_chains.Chains.{base_at}
 use Rattle.graphs.specs.base_chains.Climbs.{cycle_of}
 use Rattle.graphs.specs.base_chains.Walks.{IsFirst, IsWalk}
 use Rattle.graphs.specs.declared.base_chains.walking.Walk.{Walk}
-use Rattle.graphs.proofs.base_chains.Turns.{IsWalking, walk_cycle, walk_more, walk_ordered}
+use Rattle.graphs.proofs.base_chains.walks.Turns.{IsWalking, walk_cycle, walk_more, walk_ordered}
 use Rattle.graphs.proofs.base_chains.walking.walk_bases.Goals as goal
 use Rattle.graphs.proofs.base_chains.walking.walk_bases.Goals.{in-None, in-Some}
 

@@ -1,5 +1,5 @@
 use Rattle.graphs.specs.base_chains.Chains.{base_at}
-use Rattle.graphs.proofs.base_chains.Turns.{IsWalking}
+use Rattle.graphs.proofs.base_chains.walks.Turns.{IsWalking}
 use Rattle.std.proofs.Common.{length}
 use Rattle.graphs.proofs.base_chains.walking.walk_bases.Given as goal
 

@@ -1,4 +1,4 @@
-use Rattle.std.proofs.Common.{sym, subst, refl}
+use Rattle.std.proofs.Common.{sym, subst, refl, Some, [], ◌∷◌}
 use Rattle.json_form.specs.declared.pointer.Step.TheVariants.{Member}
 use Rattle.groupings.specs.least_fault.Least.{IsLeast}
 use Rattle.groupings.proofs.least_fault.Leasts.{least_only}
@@ -6,7 +6,6 @@ use Rattle.layouts.specs.declared.fault.Fault.{Fault}
 use Rattle.layouts.specs.FaultOrder.{fault_cmp_total}
 use Rattle.layouts.specs.Faults.{fault_cmp}
 use Rattle.layouts.proofs.Faults.{same_fault}
-use Rattle.std.proofs.Common.{Some, [], ◌∷◌}
 use Rattle.std.specs.Prelude.{IsTrue}
 use Rattle.layouts.specs.rule_places.Places.{IsAt}
 use Rattle.layouts.proofs.rule_places.sites.fault_if.Goals as goal

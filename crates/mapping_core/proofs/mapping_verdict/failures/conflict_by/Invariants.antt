@@ -1,4 +1,4 @@
-use Rattle.cells.specs.region_basis.BasisOf.{basis_of}
+use Rattle.region_states.specs.region_basis.BasisOf.{basis_of}
 use Rattle.region_states.specs.conflicts.There.{FailsThere}
 use Rattle.mapping_core.proofs.mapping_verdict.Sets.{IsSoBefore}
 use Rattle.mapping_core.proofs.mapping_verdict.failures.conflict_by.Given as goal

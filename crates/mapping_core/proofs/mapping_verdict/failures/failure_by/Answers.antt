@@ -1,4 +1,4 @@
-use Rattle.cells.specs.region_basis.BasisOf.{basis_of}
+use Rattle.region_states.specs.region_basis.BasisOf.{basis_of}
 use Rattle.mapping_core.proofs.mapping_verdict.failures.failure_by.Goals as goal
 
 -- no set has a conflict of the kind

@@ -2,7 +2,7 @@ use Rattle.std.proofs.Common.{◌≡◌, None, ◌∙◌}
 use Rattle.std.proofs.lemmas.Result.{IfOk-weaker}
 use Rattle.cells.specs.Parts.{schema_in}
 use Rattle.region_states.specs.conflicts.There.{NoneFailsBy}
-use Rattle.cells.specs.region_basis.BasisOf.{basis_of}
+use Rattle.region_states.specs.region_basis.BasisOf.{basis_of}
 use Rattle.round_trip.specs.Words.{Keeps, RoundTrips}
 use Rattle.round_trip.specs.declared.FailKind.TheVariants as variant
 use Rattle.mapping_core.proofs.mapping_verdict.EachKind.{each_kind, none_independent}

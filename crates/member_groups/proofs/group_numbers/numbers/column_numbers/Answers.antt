@@ -1,6 +1,6 @@
 use Rattle.std.proofs.Common.{ℕ, ◌+◌, List, sym, subst}
 use Rattle.round_trip.specs.Words.{GroupId}
-use Rattle.round_trip.specs.soundness.Joined.{col}
+use Rattle.round_trip.specs.soundness.mappings.Joined.{col}
 use Rattle.member_groups.specs.declared.joined_groups.labels.Label.{Label}
 use Rattle.member_groups.specs.joined_groups.Labels.{label_of}
 use Rattle.member_groups.specs.group_numbers.Numbers.{AreNumbered, Grows, Notes}

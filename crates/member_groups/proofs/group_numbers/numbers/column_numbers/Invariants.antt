@@ -1,4 +1,4 @@
-use Rattle.round_trip.specs.soundness.Joined.{col}
+use Rattle.round_trip.specs.soundness.mappings.Joined.{col}
 use Rattle.member_groups.specs.joined_groups.Labels.{label_of}
 use Rattle.member_groups.specs.group_numbers.Numbers.{AreNumbered, Grows}
 use Rattle.member_groups.proofs.group_numbers.numbers.column_numbers.Given as goal

@@ -1,4 +1,4 @@
-use Rattle.round_trip.specs.soundness.Joined.{prop}
+use Rattle.round_trip.specs.soundness.mappings.Joined.{prop}
 use Rattle.member_groups.specs.joined_groups.Labels.{label_of}
 use Rattle.member_groups.specs.group_numbers.Numbers.{AreNumbered, Grows}
 use Rattle.member_groups.proofs.group_numbers.numbers.prop_numbers.Given as goal

@@ -1,5 +1,5 @@
 use Rattle.std.proofs.Common.{List, refl, subst}
-use Rattle.table_owners.specs.link_places.Between.{schema_of}
+use Rattle.round_trip.specs.Between.{schema_of}
 use Rattle.round_trip.specs.Words.{Fragment}
 use Rattle.member_groups.specs.joined_groups.Groups.{TellsGroups}
 use Rattle.member_groups.specs.declared.mapping_asks.asks.Ask.{Ask}

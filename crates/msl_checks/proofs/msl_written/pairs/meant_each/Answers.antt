@@ -1,6 +1,6 @@
 use Rattle.std.proofs.Common.{refl, ap, ◌∙◌}
 use Rattle.std.proofs.lemmas.Option.{slice_get_read}
-use Rattle.csdl_meaning.proofs.csdl_making.Places.{mapped_more}
+use Rattle.emc_base.proofs.Turns.{mapped_more}
 use Rattle.msl_rules.specs.Found.{pair_in}
 use Rattle.msl_meaning.specs.msl_found.NamedAt.{named_at}
 use Rattle.msl_meaning.specs.declared.msl_found.in_table.InTable.{InTable}

@@ -2,7 +2,7 @@ use Rattle.std.proofs.Common.{ap, refl, ◌∙◌}
 use Rattle.std.specs.List.{filter_map}
 use Rattle.std.proofs.lemmas.List.{take_all}
 use Rattle.std.proofs.lemmas.Option.{slice_get_read}
-use Rattle.csdl_meaning.proofs.csdl_making.Places.{found_more}
+use Rattle.emc_base.proofs.Turns.{found_more}
 use Rattle.msl_meaning.specs.msl_found.NamedAt.{named_at}
 use Rattle.msl_rules.specs.Found.{pair_in}
 use Rattle.msl_fragments.specs.msl_owners.KeyPairs.{of_key}

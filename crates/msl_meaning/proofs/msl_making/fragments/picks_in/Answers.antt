@@ -1,6 +1,6 @@
 use Rattle.std.proofs.Common.{refl, ◌∙◌}
 use Rattle.std.proofs.lemmas.Option.{slice_get_read}
-use Rattle.csdl_meaning.proofs.csdl_making.Places.{found_more}
+use Rattle.emc_base.proofs.Turns.{found_more}
 use Rattle.msl_rules.specs.Found.{pick_in}
 use Rattle.msl_meaning.proofs.msl_making.fragments.picks_in.Goals as goal
 

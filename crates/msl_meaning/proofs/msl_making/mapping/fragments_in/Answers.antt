@@ -2,7 +2,7 @@ use Rattle.std.proofs.Common.{ℕ, List, sym, ap, ◌∙◌}
 use Rattle.std.specs.List.{enumerate_from, filter_map, flat_map}
 use Rattle.round_trip.specs.Words.{Fragment}
 use Rattle.msl_rules.specs.declared.msl_lists.raw.RawSetMapping.{RawSetMapping}
-use Rattle.csdl_meaning.proofs.csdl_making.Places.{all_placed, at_place, flat_more}
+use Rattle.emc_base.proofs.Turns.{all_placed, at_place, flat_more}
 use Rattle.msl_rules.specs.MappingMeaning.{fragment_at}
 use Rattle.msl_rules.specs.Sites.{sites_of_set}
 use Rattle.msl_meaning.proofs.msl_making.Behind.{found_in_all}

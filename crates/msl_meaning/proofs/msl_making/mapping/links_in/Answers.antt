@@ -2,7 +2,7 @@ use Rattle.std.proofs.Common.{ℕ, Option, sym, ap, ◌∙◌}
 use Rattle.std.specs.List.{enumerate_from, filter_map}
 use Rattle.round_trip.specs.Words.{LinkFragment}
 use Rattle.msl_rules.specs.declared.msl_lists.raw.RawLinkMapping.{RawLinkMapping}
-use Rattle.csdl_meaning.proofs.csdl_making.Places.{all_placed, at_place, found_more}
+use Rattle.emc_base.proofs.Turns.{all_placed, at_place, found_more}
 use Rattle.msl_rules.specs.MappingMeaning.{link_at}
 use Rattle.msl_rules.specs.Sites.{link_place}
 use Rattle.msl_meaning.proofs.msl_making.Behind.{found_by_images}

@@ -3,7 +3,7 @@ use Rattle.std.specs.List.{enumerate_from, flat_map}
 use Rattle.round_trip.specs.Words.{Fragment}
 use Rattle.schema_names.specs.SchemaNames.{set_named}
 use Rattle.msl_rules.specs.declared.msl_lists.raw.RawTypeMapping.{RawTypeMapping}
-use Rattle.csdl_meaning.proofs.csdl_making.Places.{all_placed, at_place}
+use Rattle.emc_base.proofs.Turns.{all_placed, at_place}
 use Rattle.msl_meaning.specs.msl_making.Walk.{fragments_of}
 use Rattle.msl_meaning.proofs.msl_making.Behind.{flat_behind}
 use Rattle.msl_meaning.proofs.msl_making.Walked.{of_no_set, of_set}

@@ -3,7 +3,7 @@ use Rattle.std.specs.List.{enumerate_from, filter_map}
 use Rattle.round_trip.specs.Words.{Fragment}
 use Rattle.json_form.specs.Pointers.{pointer_of}
 use Rattle.msl_rules.specs.declared.msl_lists.raw.RawFragment.{RawFragment}
-use Rattle.csdl_meaning.proofs.csdl_making.Places.{all_placed, at_place}
+use Rattle.emc_base.proofs.Turns.{all_placed, at_place}
 use Rattle.msl_rules.specs.Sites.{fragment_place}
 use Rattle.msl_meaning.specs.msl_making.Walk.{fragment_of}
 use Rattle.msl_meaning.proofs.msl_making.Behind.{found_behind}

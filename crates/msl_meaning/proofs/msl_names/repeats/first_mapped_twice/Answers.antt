@@ -4,7 +4,7 @@ use Rattle.layouts.specs.declared.fault.Fault.{Fault}
 use Rattle.layouts.specs.rule_places.Places.{InList}
 use Rattle.layouts.proofs.rule_places.Rules.{least_joined}
 use Rattle.layouts.proofs.rule_places.Seen.{least_behind}
-use Rattle.csdl_names.specs.Repeated.{IsRepeatedIn}
+use Rattle.layouts.specs.rule_places.Names.{IsRepeatedIn}
 use Rattle.msl_meaning.proofs.msl_names.repeats.first_mapped_twice.Goals as goal
 
 pub returns : goal.returns

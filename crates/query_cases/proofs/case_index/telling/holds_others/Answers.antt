@@ -1,6 +1,6 @@
 use Rattle.std.proofs.Common.{◌≡◌, Contains, sym, subst, ◌∙◌}
 use Rattle.std.specs.BTreeMap.{keys}
-use Rattle.schema_laws.proofs.state_demand.Lists.{none_in_nil}
+use Rattle.schema_laws.proofs.state_demand.lists.Lists.{none_in_nil}
 use Rattle.query_cases.proofs.case_index.Unnumbered.{none_known}
 use Rattle.query_cases.proofs.case_index.telling.holds_others.Goals as goal
 

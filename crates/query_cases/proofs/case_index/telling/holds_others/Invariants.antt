@@ -1,5 +1,5 @@
 use Rattle.std.proofs.Common.{Contains}
-use Rattle.cells.specs.region_basis.BasisOf.{basis_of}
+use Rattle.region_states.specs.region_basis.BasisOf.{basis_of}
 use Rattle.query_cases.specs.case_cells.Holding.{MayHold}
 use Rattle.query_cases.proofs.case_index.telling.holds_others.Given as goal
 

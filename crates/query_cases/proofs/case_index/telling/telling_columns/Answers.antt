@@ -1,6 +1,6 @@
 use Rattle.std.proofs.Common.{ℕ, All, sym, subst}
 use Rattle.std.proofs.lemmas.List.Elements.{All-push}
-use Rattle.cells.specs.region_basis.BasisOf.{basis_of}
+use Rattle.region_states.specs.region_basis.BasisOf.{basis_of}
 use Rattle.query_cases.specs.declared.case_index.telling.Column.{Column}
 use Rattle.query_cases.specs.case_index.Telling.{Tells}
 use Rattle.query_cases.proofs.case_index.Kept.{all_listed}

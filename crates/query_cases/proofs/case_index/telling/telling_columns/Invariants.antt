@@ -1,5 +1,5 @@
 use Rattle.std.proofs.Common.{All}
-use Rattle.cells.specs.region_basis.BasisOf.{basis_of}
+use Rattle.region_states.specs.region_basis.BasisOf.{basis_of}
 use Rattle.query_cases.specs.case_index.Telling.{Tells}
 use Rattle.query_cases.proofs.case_index.telling.telling_columns.Given as goal
 

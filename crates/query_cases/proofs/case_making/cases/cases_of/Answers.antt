@@ -1,7 +1,7 @@
 use Rattle.std.proofs.Common.{length, refl}
 use Rattle.std.proofs.lemmas.Option.{slice_get_read}
 use Rattle.cells.specs.Cells.{is_free_in}
-use Rattle.cells.specs.region_basis.BasisOf.{basis_of}
+use Rattle.region_states.specs.region_basis.BasisOf.{basis_of}
 use Rattle.case_laws.specs.region_cases.Cases.{case_of}
 use Rattle.query_cases.proofs.case_making.Made.{one_more_made}
 use Rattle.query_cases.proofs.case_making.cases.cases_of.Goals as goal

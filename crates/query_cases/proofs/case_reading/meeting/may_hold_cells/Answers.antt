@@ -2,7 +2,7 @@ use Rattle.std.proofs.Common.{length, refl, subst}
 use Rattle.std.proofs.lemmas.Bool.{both_ways}
 use Rattle.std.proofs.lemmas.Option.{slice_get_read}
 use Rattle.emc_base.proofs.Lists.{at_once}
-use Rattle.cells.specs.region_basis.BasisOf.{basis_of}
+use Rattle.region_states.specs.region_basis.BasisOf.{basis_of}
 use Rattle.round_trip.specs.Words.{cell_of}
 use Rattle.query_cases.specs.case_cells.Holding.{MayHold}
 use Rattle.query_cases.proofs.case_reading.Turns.{CellMay, cells_may, one_below}

@@ -1,4 +1,4 @@
-use Rattle.cells.specs.region_basis.BasisOf.{basis_of}
+use Rattle.region_states.specs.region_basis.BasisOf.{basis_of}
 use Rattle.query_cases.proofs.case_reading.Turns.{Below, CellMay}
 use Rattle.query_cases.proofs.case_reading.meeting.may_hold_cells.Given as goal
 

@@ -3,7 +3,7 @@ use Rattle.std.proofs.lemmas.Bool.{both_ways}
 use Rattle.std.proofs.lemmas.List.{length-map}
 use Rattle.std.proofs.lemmas.Option.{slice_get-map, slice_get_read}
 use Rattle.emc_base.proofs.Lists.{at_once}
-use Rattle.cells.specs.region_basis.BasisOf.{basis_of}
+use Rattle.region_states.specs.region_basis.BasisOf.{basis_of}
 use Rattle.round_trip.specs.Words.{At}
 use Rattle.case_laws.specs.declared.region_cases.case.CaseRow.{CaseRow}
 use Rattle.case_laws.specs.candidates.Rows.{shown_row, shown_rows}

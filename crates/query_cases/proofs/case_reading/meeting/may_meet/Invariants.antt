@@ -1,5 +1,5 @@
 use Rattle.case_laws.specs.candidates.Rows.{shown_rows}
-use Rattle.cells.specs.region_basis.BasisOf.{basis_of}
+use Rattle.region_states.specs.region_basis.BasisOf.{basis_of}
 use Rattle.query_cases.proofs.case_reading.Turns.{Below, MayRow, PairSo}
 use Rattle.query_cases.proofs.case_reading.meeting.may_meet.Given as goal
 

@@ -1,7 +1,7 @@
 use Rattle.std.proofs.Common.{◌≡◌, ◌≤◌, ◌+◌, ℕ, List, length, arith, refl, sym, subst}
 use Rattle.std.specs.Global.{Vec}
 use Rattle.cells.specs.Cells.{is_free_in}
-use Rattle.cells.specs.region_basis.BasisOf.{basis_of}
+use Rattle.region_states.specs.region_basis.BasisOf.{basis_of}
 use Rattle.region_partition.proofs.set_regions.Sets.{AreOfFirst, one_more}
 use Rattle.query_views.specs.Answers.{Lends}
 use Rattle.query_views.specs.declared.lending.LentEntity.{LentEntity}

@@ -1,5 +1,5 @@
 use Rattle.cells.specs.Cells.{is_free_in}
-use Rattle.cells.specs.region_basis.BasisOf.{basis_of}
+use Rattle.region_states.specs.region_basis.BasisOf.{basis_of}
 use Rattle.region_partition.proofs.set_regions.Sets.{AreOfFirst}
 use Rattle.query_views.proofs.Candidates.{AreLent}
 use Rattle.query_views.proofs.loaded.Loaded.of.Given as goal

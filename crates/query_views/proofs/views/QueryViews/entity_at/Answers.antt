@@ -2,7 +2,7 @@ use Rattle.std.proofs.Common.{◌≢◌, ◌==◌, List, [], Option, None, lengt
 use Rattle.cells.specs.Cells.{is_free_in}
 use Rattle.case_laws.specs.candidates.Rows.{AreRowsAt, shown_row, shown_rows}
 use Rattle.case_laws.specs.declared.candidates.placed.PlacedRow.{PlacedRow}
-use Rattle.cells.specs.region_basis.BasisOf.{basis_of}
+use Rattle.region_states.specs.region_basis.BasisOf.{basis_of}
 use Rattle.case_laws.specs.candidates.Viewed.{IsViewed}
 use Rattle.round_trip.specs.Words.{Entity}
 use Rattle.query_views.specs.First.{FindsFirst, cases_in, readings_in}

@@ -1,5 +1,5 @@
 use Rattle.std.proofs.Common.{List, sym, subst}
-use Rattle.cells.specs.region_basis.BasisOf.{basis_of}
+use Rattle.region_states.specs.region_basis.BasisOf.{basis_of}
 use Rattle.case_laws.specs.declared.region_cases.case.Case.{Case}
 use Rattle.query_views.specs.Views.{IsReaderOf}
 use Rattle.query_views.proofs.Zips.{zip_at}

@@ -5,7 +5,7 @@ use Rattle.std.proofs.lemmas.Option.{get_or_from_slice_get}
 use Rattle.emc_base.proofs.Lists.{at_once}
 use Rattle.case_laws.specs.candidates.Rows.{shown_rows}
 use Rattle.query_cases.specs.declared.case_reading.reading.Reading.{Reading}
-use Rattle.cells.specs.region_basis.BasisOf.{basis_of}
+use Rattle.region_states.specs.region_basis.BasisOf.{basis_of}
 use Rattle.case_laws.specs.declared.region_cases.case.Case.{Case}
 use Rattle.query_views.specs.First.{IsPassed, MeetsBy}
 use Rattle.query_views.proofs.views.SetReader.first_among.Goals as goal

@@ -1,6 +1,6 @@
 use Rattle.std.proofs.Common.{All, take}
 use Rattle.case_laws.specs.candidates.Rows.{shown_rows}
-use Rattle.cells.specs.region_basis.BasisOf.{basis_of}
+use Rattle.region_states.specs.region_basis.BasisOf.{basis_of}
 use Rattle.query_views.specs.First.{IsPassed}
 use Rattle.query_views.proofs.views.SetReader.first_among.Given as goal
 

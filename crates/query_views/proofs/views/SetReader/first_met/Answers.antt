@@ -1,7 +1,7 @@
 use Rattle.std.proofs.Common.{◌<◌, ℕ, List, All, AllPairs, length, sym, subst}
 use Rattle.case_laws.specs.candidates.Rows.{shown_rows}
 use Rattle.query_cases.specs.case_reading.Reading.{IsReadingOf}
-use Rattle.cells.specs.region_basis.BasisOf.{basis_of}
+use Rattle.region_states.specs.region_basis.BasisOf.{basis_of}
 use Rattle.query_views.specs.First.{FindsAmong}
 use Rattle.query_views.proofs.Firsts.{finds_first}
 use Rattle.query_views.proofs.Zips.{zip_long}

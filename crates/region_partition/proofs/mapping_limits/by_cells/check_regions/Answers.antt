@@ -1,6 +1,6 @@
 use Rattle.std.proofs.Common.{flat_map}
 use Rattle.std.specs.List.{enumerate_from}
-use Rattle.cells.specs.region_basis.BasisOf.{basis_of}
+use Rattle.region_states.specs.region_basis.BasisOf.{basis_of}
 use Rattle.region_partition.specs.mapping_limits.Checked.{fault_of}
 use Rattle.region_partition.specs.mapping_limits.FirstLimit.{regions_passed}
 use Rattle.region_partition.proofs.mapping_limits.Told.{handed_on}

@@ -1,4 +1,4 @@
-use Rattle.round_trip.specs.soundness.Joined.{prop}
+use Rattle.round_trip.specs.soundness.mappings.Joined.{prop}
 use Rattle.member_groups.specs.MemberGroups.{constants_in}
 use Rattle.cells.proofs.Few.{some_found}
 use Rattle.region_partition.proofs.mapping_limits.by_cells.count_constants.Goals as goal

@@ -1,7 +1,7 @@
 use Rattle.std.proofs.Common.{◌≡◌, [], List, Result, Ok, Err, IfOk}
 use Rattle.std.specs.Bool.{⊤}
 use Rattle.round_trip.specs.Words.{LimitFault}
-use Rattle.cells.specs.region_basis.BasisOf.{basis_of}
+use Rattle.region_states.specs.region_basis.BasisOf.{basis_of}
 use Rattle.region_partition.specs.declared.mapping_limits.passed.Passed.{Passed}
 use Rattle.region_partition.specs.mapping_limits.Checked.{TellsFirst}
 use Rattle.region_partition.proofs.mapping_limits.Bases.{are_parts, few_regions}

@@ -1,7 +1,7 @@
 use Rattle.std.proofs.Common.{List, Some, slice_get, refl, sym, ap, ◌∙◌}
 use Rattle.round_trip.specs.Words.{LimitFault}
-use Rattle.cells.specs.region_basis.BasisOf.{basis_of}
-use Rattle.cells.proofs.region_basis.Bases.{basis_told}
+use Rattle.region_states.specs.region_basis.BasisOf.{basis_of}
+use Rattle.region_states.proofs.region_basis.Bases.{basis_told}
 use Rattle.region_partition.proofs.mapping_limits.first.first_limit.Goals as goal
 
 pub returns-in-Ok-clause-first : goal.returns-in-Ok-clause-first

@@ -3,11 +3,11 @@ use Rattle.std.proofs.lemmas.Option.{slice_get-get_or}
 use Rattle.emc_base.specs.Lists.{At}
 use Rattle.emc_base.proofs.Numbered.{filter_kept, filter_left}
 use Rattle.round_trip.specs.Words.{PropId}
-use Rattle.round_trip.specs.soundness.Joined.{prop}
+use Rattle.round_trip.specs.soundness.mappings.Joined.{prop}
 use Rattle.condition_logic.specs.declared.atoms.AtomOf.{AtomOf}
 use Rattle.regions.specs.Lists.{choices}
 use Rattle.regions.specs.Regions.{atoms_at}
-use Rattle.cells.specs.region_basis.BasisOf.{basis_of}
+use Rattle.region_states.specs.region_basis.BasisOf.{basis_of}
 use Rattle.region_partition.specs.region_lists.Listing.{beside}
 use Rattle.region_partition.proofs.region_lists.Further.{choices_more}
 use Rattle.region_partition.proofs.region_lists.choices.atom_choices.Goals as goal

@@ -4,8 +4,7 @@ use Rattle.emc_base.specs.Lists.{At}
 use Rattle.round_trip.specs.Words.{Assoc, AssocId}
 use Rattle.regions.specs.Basis.{Host}
 use Rattle.regions.specs.Regions.{flagged, flags_at}
-use Rattle.cells.specs.region_basis.BasisOf.{basis_of, host_at}
-use Rattle.cells.specs.region_basis.BasisOf.{hosts_told}
+use Rattle.region_states.specs.region_basis.BasisOf.{basis_of, host_at, hosts_told}
 use Rattle.region_partition.specs.region_lists.Listing.{beside, joined_choices}
 use Rattle.region_partition.proofs.region_lists.Further.{joined_more}
 use Rattle.region_partition.proofs.region_lists.Hosts.{flags_here, hosts_before, hosts_here, hosts_more, hosts_whole}

@@ -1,6 +1,6 @@
 use Rattle.std.proofs.Common.{◌≡◌, map}
 use Rattle.regions.specs.Regions.{flags_at}
-use Rattle.cells.specs.region_basis.BasisOf.{basis_of}
+use Rattle.region_states.specs.region_basis.BasisOf.{basis_of}
 use Rattle.region_partition.specs.region_lists.Listing.{joined_choices}
 use Rattle.region_partition.proofs.region_lists.Hosts.{hosts_before}
 use Rattle.region_partition.proofs.region_lists.choices.linked_choices.Given as goal

@@ -3,8 +3,8 @@ use Rattle.std.specs.Option.{option_copied, option_map_or}
 use Rattle.round_trip.specs.Words.{EntitySet}
 use Rattle.regions.specs.Regions.{types_of}
 use Rattle.regions.specs.region_laws.Counting.{count_by}
-use Rattle.regions.proofs.region_laws.Counted.{regions_capped}
-use Rattle.cells.specs.region_basis.BasisOf.{basis_of}
+use Rattle.regions.proofs.region_laws.listing.Counted.{regions_capped}
+use Rattle.region_states.specs.region_basis.BasisOf.{basis_of}
 use Rattle.region_partition.specs.region_lists.Counts.{capped}
 use Rattle.region_partition.proofs.region_lists.counting.count.Goals as goal
 

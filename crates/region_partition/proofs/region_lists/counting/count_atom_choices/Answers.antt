@@ -3,10 +3,10 @@ use Rattle.std.proofs.lemmas.Option.{slice_get-get_or}
 use Rattle.emc_base.specs.Lists.{At}
 use Rattle.emc_base.proofs.Numbered.{filter_kept, filter_left}
 use Rattle.round_trip.specs.Words.{PropId}
-use Rattle.round_trip.specs.soundness.Joined.{prop}
+use Rattle.round_trip.specs.soundness.mappings.Joined.{prop}
 use Rattle.regions.specs.Regions.{atoms_at}
 use Rattle.regions.specs.region_laws.Counting.{product_of}
-use Rattle.cells.specs.region_basis.BasisOf.{basis_of}
+use Rattle.region_states.specs.region_basis.BasisOf.{basis_of}
 use Rattle.region_partition.specs.region_lists.Counts.{capped}
 use Rattle.region_partition.proofs.region_lists.Products.{more_factor}
 use Rattle.region_partition.proofs.region_lists.counting.count_atom_choices.Goals as goal

@@ -1,8 +1,8 @@
 use Rattle.std.proofs.Common.{◌≡◌, filter, length, map, take}
-use Rattle.round_trip.specs.soundness.Joined.{prop}
+use Rattle.round_trip.specs.soundness.mappings.Joined.{prop}
 use Rattle.regions.specs.Regions.{atoms_at}
 use Rattle.regions.specs.region_laws.Counting.{product_of}
-use Rattle.cells.specs.region_basis.BasisOf.{basis_of}
+use Rattle.region_states.specs.region_basis.BasisOf.{basis_of}
 use Rattle.region_partition.specs.region_lists.Counts.{capped}
 use Rattle.region_partition.proofs.region_lists.counting.count_atom_choices.Given as goal
 

@@ -5,7 +5,7 @@ use Rattle.round_trip.specs.Words.{Assoc}
 use Rattle.regions.specs.Basis.{Host}
 use Rattle.regions.specs.Regions.{flags_at}
 use Rattle.regions.specs.region_laws.Counting.{product_of}
-use Rattle.cells.specs.region_basis.BasisOf.{basis_of, host_at}
+use Rattle.region_states.specs.region_basis.BasisOf.{basis_of, host_at}
 use Rattle.region_partition.specs.region_lists.Counts.{capped}
 use Rattle.region_partition.proofs.region_lists.Hosts.{hosts_before, hosts_more, hosts_whole}
 use Rattle.region_partition.proofs.region_lists.Products.{more_factors}

@@ -1,7 +1,7 @@
 use Rattle.std.proofs.Common.{◌≡◌, length, map}
 use Rattle.regions.specs.Regions.{flags_at}
 use Rattle.regions.specs.region_laws.Counting.{product_of}
-use Rattle.cells.specs.region_basis.BasisOf.{basis_of}
+use Rattle.region_states.specs.region_basis.BasisOf.{basis_of}
 use Rattle.region_partition.specs.region_lists.Counts.{capped}
 use Rattle.region_partition.proofs.region_lists.Hosts.{hosts_before}
 use Rattle.region_partition.proofs.region_lists.counting.count_flag_choices.Given as goal

@@ -3,7 +3,7 @@ use Rattle.std.proofs.lemmas.Option.{slice_get-get_or}
 use Rattle.emc_base.specs.Lists.{At}
 use Rattle.round_trip.specs.Words.{EntityType, TypeId}
 use Rattle.regions.specs.region_laws.Counting.{count_by}
-use Rattle.cells.specs.region_basis.BasisOf.{basis_of}
+use Rattle.region_states.specs.region_basis.BasisOf.{basis_of}
 use Rattle.region_partition.specs.region_lists.Counts.{capped}
 use Rattle.region_partition.proofs.region_lists.Taken.{more_counted}
 use Rattle.region_partition.proofs.region_lists.Types.{type_left, type_listed, types_before, types_whole}

@@ -1,6 +1,6 @@
 use Rattle.std.proofs.Common.{◌≡◌, sum_by}
 use Rattle.regions.specs.region_laws.Counting.{count_by}
-use Rattle.cells.specs.region_basis.BasisOf.{basis_of}
+use Rattle.region_states.specs.region_basis.BasisOf.{basis_of}
 use Rattle.region_partition.specs.region_lists.Counts.{capped}
 use Rattle.region_partition.proofs.region_lists.Types.{types_before}
 use Rattle.region_partition.proofs.region_lists.counting.count_of_set.Given as goal

@@ -1,9 +1,9 @@
 use Rattle.std.proofs.Common.{◌*◌, List, map, filter, length, ap, ◌∙◌}
 use Rattle.round_trip.specs.Words.{PropId, props_of}
-use Rattle.round_trip.specs.soundness.Joined.{prop}
+use Rattle.round_trip.specs.soundness.mappings.Joined.{prop}
 use Rattle.regions.specs.Regions.{atoms_at, flags_at}
 use Rattle.regions.specs.region_laws.Counting.{product_of}
-use Rattle.cells.specs.region_basis.BasisOf.{basis_of}
+use Rattle.region_states.specs.region_basis.BasisOf.{basis_of}
 use Rattle.region_partition.specs.region_lists.Counts.{capped}
 use Rattle.region_partition.proofs.region_lists.Counts.{capped_product}
 use Rattle.region_partition.proofs.region_lists.counting.count_of_type.Goals as goal

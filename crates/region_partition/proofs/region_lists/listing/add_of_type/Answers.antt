@@ -1,10 +1,10 @@
 use Rattle.std.proofs.Common.{◌≡◌, ◌++◌, List, map, filter, ap, subst, ◌∙◌, IfOk}
 use Rattle.round_trip.specs.Words.{PropId}
-use Rattle.round_trip.specs.soundness.Joined.{prop}
+use Rattle.round_trip.specs.soundness.mappings.Joined.{prop}
 use Rattle.regions.specs.declared.region.Region.{Region}
 use Rattle.regions.specs.Lists.{choices}
 use Rattle.regions.specs.Regions.{atoms_at}
-use Rattle.cells.specs.region_basis.BasisOf.{basis_of}
+use Rattle.region_states.specs.region_basis.BasisOf.{basis_of}
 use Rattle.region_partition.proofs.region_lists.OfTypes.{regions_by_choices}
 use Rattle.region_partition.proofs.region_lists.listing.add_of_type.Goals as goal
 

@@ -4,7 +4,7 @@ use Rattle.emc_base.specs.Lists.{At}
 use Rattle.round_trip.specs.Words.{EntityType, TypeId}
 use Rattle.regions.specs.declared.region.Region.{Region}
 use Rattle.regions.specs.Regions.{regions_by}
-use Rattle.cells.specs.region_basis.BasisOf.{basis_of}
+use Rattle.region_states.specs.region_basis.BasisOf.{basis_of}
 use Rattle.region_partition.proofs.region_lists.Taken.{flat_map_one}
 use Rattle.region_partition.proofs.region_lists.Types.{type_left, type_listed, types_before, types_whole}
 use Rattle.region_partition.proofs.region_lists.listing.regions_of_set.Goals as goal

@@ -1,6 +1,6 @@
 use Rattle.std.proofs.Common.{◌≡◌, flat_map}
 use Rattle.regions.specs.Regions.{regions_by}
-use Rattle.cells.specs.region_basis.BasisOf.{basis_of}
+use Rattle.region_states.specs.region_basis.BasisOf.{basis_of}
 use Rattle.region_partition.proofs.region_lists.Types.{types_before}
 use Rattle.region_partition.proofs.region_lists.listing.regions_of_set.Given as goal
 

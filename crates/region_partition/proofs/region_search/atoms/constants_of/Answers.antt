@@ -1,5 +1,5 @@
 use Rattle.std.proofs.Common.{arith, ◌∙◌}
-use Rattle.round_trip.specs.soundness.Joined.{prop}
+use Rattle.round_trip.specs.soundness.mappings.Joined.{prop}
 use Rattle.cells.specs.Parts.{schema_in}
 use Rattle.region_partition.proofs.region_search.Constants.{group_has, none_past, told_by}
 use Rattle.region_partition.proofs.region_search.atoms.constants_of.Goals as goal

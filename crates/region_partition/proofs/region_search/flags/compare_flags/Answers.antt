@@ -6,7 +6,7 @@ use Rattle.std.proofs.lemmas.Option.{slice_get-get_or}
 use Rattle.emc_base.specs.Lists.{At}
 use Rattle.emc_base.proofs.Numbered.{numbered_at}
 use Rattle.round_trip.specs.Words.{Assoc}
-use Rattle.cells.specs.region_basis.BasisOf.{basis_of, host_at}
+use Rattle.region_states.specs.region_basis.BasisOf.{basis_of, host_at}
 use Rattle.region_partition.specs.region_search.Standing.{all_cmp, host_cmp}
 use Rattle.region_partition.proofs.region_search.Passing.{after, goes_on, stops, turn}
 use Rattle.region_partition.proofs.region_search.flags.compare_flags.Goals as goal

@@ -1,6 +1,6 @@
 use Rattle.std.proofs.Common.{◌≡◌, drop}
 use Rattle.std.specs.List.{enumerate_from, flat_map}
-use Rattle.cells.specs.region_basis.BasisOf.{basis_of, host_at}
+use Rattle.region_states.specs.region_basis.BasisOf.{basis_of, host_at}
 use Rattle.region_partition.specs.region_search.Standing.{all_cmp, host_cmp}
 use Rattle.region_partition.proofs.region_search.flags.compare_flags.Given as goal
 

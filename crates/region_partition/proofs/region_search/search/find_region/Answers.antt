@@ -6,9 +6,9 @@ use Rattle.emc_base.proofs.Lists.{at_once}
 use Rattle.round_trip.specs.Words.{Hosted}
 use Rattle.regions.specs.Regions.{Holds}
 use Rattle.regions.specs.declared.region.Region.{Region}
-use Rattle.cells.specs.region_basis.BasisOf.{basis_of}
+use Rattle.region_states.specs.region_basis.BasisOf.{basis_of}
 use Rattle.region_partition.specs.region_search.Standing.{FindsEqual, region_cmp}
-use Rattle.cells.proofs.region_basis.Bases.{basis_is}
+use Rattle.region_states.proofs.region_basis.Bases.{basis_is}
 use Rattle.region_partition.proofs.region_search.Finding.{none_equal, none_other}
 use Rattle.region_partition.proofs.region_search.search.find_region.Goals as goal
 

@@ -1,6 +1,6 @@
 use Rattle.std.proofs.Common.{rules, of_calls, Option, ℕ, sym, subst}
 use Rattle.std.proofs.lemmas.Fn.{always_returns_same}
-use Rattle.cells.specs.region_basis.BasisOf.{basis_of}
+use Rattle.region_states.specs.region_basis.BasisOf.{basis_of}
 use Rattle.region_partition.specs.region_search.Standing.{FindsEqual, region_cmp}
 use Rattle.region_partition.proofs.region_search.Searched.{finds_equal}
 use Rattle.region_partition.proofs.region_search.search.place_of.Goals as goal

@@ -3,9 +3,9 @@ use Rattle.emc_base.specs.Lists.{At}
 use Rattle.emc_base.proofs.Mapped.{contains_at}
 use Rattle.regions.specs.declared.region.Region.{Region}
 use Rattle.regions.specs.region_laws.RegionAt.{region_at}
-use Rattle.regions.proofs.region_laws.Regions.{region_among, region_holds, region_only}
-use Rattle.cells.specs.region_basis.BasisOf.{basis_of}
-use Rattle.cells.proofs.region_basis.Bases.{basis_is}
+use Rattle.regions.proofs.region_laws.entities.Regions.{region_among, region_holds, region_only}
+use Rattle.region_states.specs.region_basis.BasisOf.{basis_of}
+use Rattle.region_states.proofs.region_basis.Bases.{basis_is}
 use Rattle.region_partition.proofs.region_search.search.region_of.Goals as goal
 
 -- the region of the entity is listed, and holds it

@@ -1,5 +1,5 @@
 use Rattle.std.proofs.Common.{◌≡◌, drop}
-use Rattle.cells.specs.region_basis.BasisOf.{basis_of}
+use Rattle.region_states.specs.region_basis.BasisOf.{basis_of}
 use Rattle.region_partition.specs.region_search.Standing.{all_cmp, told_cmp}
 use Rattle.region_partition.proofs.region_search.standing.compare_all.Given as goal
 

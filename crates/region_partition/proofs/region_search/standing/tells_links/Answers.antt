@@ -1,6 +1,6 @@
 use Rattle.std.proofs.Common.{sym, ap, ◌∙◌, is_eq}
 use Rattle.regions.specs.Regions.{TellsLinks}
-use Rattle.cells.specs.region_basis.BasisOf.{basis_of}
+use Rattle.region_states.specs.region_basis.BasisOf.{basis_of}
 use Rattle.region_partition.specs.region_search.Standing.{all_cmp, host_cmp}
 use Rattle.region_partition.proofs.region_search.Linked.{Decides-host}
 use Rattle.region_partition.proofs.region_search.Passing.{Decides-all_cmp}

@@ -6,7 +6,7 @@ use Rattle.region_partition.specs.declared.region_lists.listing.RegionsFault.The
 use Rattle.region_partition.specs.region_lists.Outcome.{TellsLimit}
 use Rattle.regions.specs.declared.region.Region.{Region}
 use Rattle.regions.specs.Regions.{count_of}
-use Rattle.cells.specs.region_basis.BasisOf.{basis_of}
+use Rattle.region_states.specs.region_basis.BasisOf.{basis_of}
 use Rattle.region_partition.proofs.set_regions.Sets.{AreOfFirst, AreRegionsOf, one_more}
 use Rattle.region_partition.proofs.set_regions.all_regions.regions_of_sets.Goals as goal
 

@@ -1,4 +1,4 @@
-use Rattle.cells.specs.region_basis.BasisOf.{basis_of}
+use Rattle.region_states.specs.region_basis.BasisOf.{basis_of}
 use Rattle.region_partition.proofs.set_regions.Sets.{AreOfFirst, AreRegionsOf}
 use Rattle.region_partition.proofs.set_regions.all_regions.regions_of_sets.Given as goal
 

@@ -1,4 +1,4 @@
-use Rattle.regions.proofs.region_laws.pattern.Agreeing.{entity_agrees, host_agrees, link_agrees}
+use Rattle.regions.proofs.region_laws.pattern.rows.Agreeing.{entity_agrees, host_agrees, link_agrees}
 use Rattle.regions.proofs.region_laws.pattern_laws.agreement_is_by_regions.Goals as goal
 
 pub returns-clause-entities : goal.returns-clause-entities

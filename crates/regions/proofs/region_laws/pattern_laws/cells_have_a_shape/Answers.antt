@@ -1,4 +1,4 @@
-use Rattle.regions.proofs.region_laws.pattern.Groups.{is_plain}
+use Rattle.regions.proofs.region_laws.pattern.types.Groups.{is_plain}
 use Rattle.regions.proofs.region_laws.pattern.Keys.{end_cell, key_cell, owned_here}
 use Rattle.regions.proofs.region_laws.pattern.Laws.{end_once, part_in_key, same_group, telling_tested, untested_once}
 use Rattle.regions.proofs.region_laws.pattern_laws.cells_have_a_shape.Goals as goal

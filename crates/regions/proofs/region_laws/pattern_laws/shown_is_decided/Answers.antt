@@ -1,4 +1,4 @@
-use Rattle.regions.proofs.region_laws.pattern.Shown.{link_shown, shown}
+use Rattle.regions.proofs.region_laws.pattern.rows.Shown.{link_shown, shown}
 use Rattle.regions.proofs.region_laws.pattern_laws.shown_is_decided.Goals as goal
 
 pub returns-clause-fragments : goal.returns-clause-fragments

@@ -1,4 +1,4 @@
-use Rattle.regions.proofs.region_laws.pattern.Allowed.{link_allowed, partners_told, region_allowed}
+use Rattle.regions.proofs.region_laws.pattern.values.Allowed.{link_allowed, partners_told, region_allowed}
 use Rattle.regions.proofs.region_laws.pattern_laws.values_are_allowed.Goals as goal
 
 pub returns-clause-entities : goal.returns-clause-entities

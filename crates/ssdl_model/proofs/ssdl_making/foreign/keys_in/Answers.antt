@@ -1,6 +1,6 @@
 use Rattle.std.proofs.Common.{refl, ◌∙◌}
 use Rattle.std.proofs.lemmas.Option.{slice_get_read}
-use Rattle.csdl_meaning.proofs.csdl_making.Places.{found_more}
+use Rattle.emc_base.proofs.Turns.{found_more}
 use Rattle.ssdl_model.specs.ssdl_making.StoreMeaning.{key_of_association}
 use Rattle.ssdl_model.proofs.ssdl_making.foreign.keys_in.Goals as goal
 

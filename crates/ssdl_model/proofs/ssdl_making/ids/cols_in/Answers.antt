@@ -1,7 +1,7 @@
 use Rattle.std.proofs.Common.{ap, option_map, refl, ◌∙◌}
 use Rattle.std.proofs.lemmas.Option.{slice_get_read}
 use Rattle.csdl_names.specs.declared.lookups.PropPlace.{PropPlace}
-use Rattle.csdl_meaning.proofs.csdl_making.Places.{found_more}
+use Rattle.emc_base.proofs.Turns.{found_more}
 use Rattle.ssdl_model.specs.ssdl_making.StoreMeaning.{col_named, col_numbered}
 use Rattle.ssdl_model.proofs.ssdl_making.ids.cols_in.Goals as goal
 

@@ -1,7 +1,7 @@
 use Rattle.std.proofs.Common.{List, inl, inr, sym, subst}
 use Rattle.round_trip.specs.Words.{Pair}
 use Rattle.round_trip.specs.FailsAt.{IsHostedAt}
-use Rattle.table_owners.specs.link_places.Between.{schema_of}
+use Rattle.round_trip.specs.Between.{schema_of}
 use Rattle.table_owners.proofs.link_places.placed.is_at_an_end.Goals as goal
 
 pub returns-then-is_hosted : goal.returns-then-is_hosted

@@ -1,7 +1,7 @@
 use Rattle.std.proofs.Common.{◌↔◌, ◌++◌, IsTrue, List, subst₂}
 use Rattle.round_trip.specs.Words.{Pair}
 use Rattle.round_trip.specs.FailsAt.{IsHostedAt}
-use Rattle.table_owners.specs.link_places.Between.{schema_of}
+use Rattle.round_trip.specs.Between.{schema_of}
 use Rattle.table_owners.proofs.link_places.placed.is_joined.Goals as goal
 
 pub returns-then-are_optional : goal.returns-then-are_optional

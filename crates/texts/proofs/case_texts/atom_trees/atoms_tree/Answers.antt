@@ -3,7 +3,7 @@ use Rattle.std.proofs.lemmas.Option.{slice_get_read}
 use Rattle.serde_json.specs.Data.{no_members, put}
 use Rattle.serde_json.specs.View.{members_view}
 use Rattle.json_form.proofs.Objects.{put_all-take}
-use Rattle.cells.specs.region_basis.BasisOf.{basis_of}
+use Rattle.region_states.specs.region_basis.BasisOf.{basis_of}
 use Rattle.texts.specs.case_texts.CaseTree.{atom_member}
 use Rattle.texts.proofs.case_texts.atom_trees.atoms_tree.Goals as goal
 

@@ -2,7 +2,7 @@ use Rattle.std.proofs.Common.{◌≡◌, map, take}
 use Rattle.serde_json.specs.Data.{no_members}
 use Rattle.serde_json.specs.View.{members_view}
 use Rattle.json_form.specs.Trees.{put_all}
-use Rattle.cells.specs.region_basis.BasisOf.{basis_of}
+use Rattle.region_states.specs.region_basis.BasisOf.{basis_of}
 use Rattle.texts.specs.case_texts.CaseTree.{atom_member}
 use Rattle.texts.proofs.case_texts.atom_trees.atoms_tree.Given as goal
 

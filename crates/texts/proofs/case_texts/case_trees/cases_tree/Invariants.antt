@@ -1,6 +1,6 @@
 use Rattle.std.proofs.Common.{◌≡◌, map, take}
 use Rattle.serde_json.specs.View.{view}
-use Rattle.cells.specs.region_basis.BasisOf.{basis_of}
+use Rattle.region_states.specs.region_basis.BasisOf.{basis_of}
 use Rattle.texts.specs.case_texts.CaseTree.{case_tree}
 use Rattle.texts.proofs.case_texts.case_trees.cases_tree.Given as goal
 

@@ -6,7 +6,7 @@ use Rattle.round_trip.specs.Words.{Assoc, AssocId}
 use Rattle.serde_json.specs.Data.{no_members, object}
 use Rattle.json_form.specs.Trees.{put_all}
 use Rattle.table_owners.specs.declared.places.LinkPlace.TheVariants as place
-use Rattle.cells.specs.region_basis.BasisOf.{basis_of, host_at, host_by}
+use Rattle.region_states.specs.region_basis.BasisOf.{basis_of, host_at, host_by}
 use Rattle.symbolic_rows.proofs.Behind.{all_numbered}
 use Rattle.texts.specs.case_texts.CaseTree.{link_member}
 use Rattle.texts.proofs.case_texts.Turns.{put_more}

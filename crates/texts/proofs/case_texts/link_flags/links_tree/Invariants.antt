@@ -3,7 +3,7 @@ use Rattle.std.specs.List.{enumerate_from}
 use Rattle.serde_json.specs.Data.{no_members}
 use Rattle.serde_json.specs.View.{members_view}
 use Rattle.json_form.specs.Trees.{put_all}
-use Rattle.cells.specs.region_basis.BasisOf.{basis_of, host_at}
+use Rattle.region_states.specs.region_basis.BasisOf.{basis_of, host_at}
 use Rattle.texts.specs.case_texts.CaseTree.{link_member}
 use Rattle.texts.proofs.case_texts.link_flags.links_tree.Given as goal
 

@@ -3,7 +3,7 @@ use Rattle.std.proofs.lemmas.Option.{slice_get-get_or}
 use Rattle.emc_base.specs.Lists.{At}
 use Rattle.round_trip.specs.Words.{Assoc, AssocId}
 use Rattle.regions.specs.Basis.{Host}
-use Rattle.cells.specs.region_basis.BasisOf.{basis_of, host_at, hosts_told}
+use Rattle.region_states.specs.region_basis.BasisOf.{basis_of, host_at, hosts_told}
 use Rattle.region_partition.proofs.region_lists.Hosts.{hosts_before, hosts_here, hosts_more, hosts_whole}
 use Rattle.update_views.specs.declared.region_table.telling.Test.{Test}
 use Rattle.update_views.specs.region_table.Made.{link_test}

@@ -1,5 +1,5 @@
 use Rattle.std.proofs.Common.{◌≡◌, ◌++◌, map}
-use Rattle.cells.specs.region_basis.BasisOf.{basis_of}
+use Rattle.region_states.specs.region_basis.BasisOf.{basis_of}
 use Rattle.region_partition.proofs.region_lists.Hosts.{hosts_before}
 use Rattle.update_views.specs.region_table.Made.{link_test}
 use Rattle.update_views.proofs.region_table.making.add_links.Given as goal

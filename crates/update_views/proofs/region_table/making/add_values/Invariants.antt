@@ -1,6 +1,6 @@
 use Rattle.std.proofs.Common.{◌≡◌, ◌++◌, filter, map, take}
-use Rattle.round_trip.specs.soundness.Joined.{prop}
-use Rattle.cells.specs.region_basis.BasisOf.{basis_of}
+use Rattle.round_trip.specs.soundness.mappings.Joined.{prop}
+use Rattle.region_states.specs.region_basis.BasisOf.{basis_of}
 use Rattle.update_views.specs.region_table.Made.{value_test}
 use Rattle.update_views.proofs.region_table.making.add_values.Given as goal
 

@@ -4,7 +4,7 @@ use Rattle.emc_base.specs.Lists.{At}
 use Rattle.emc_base.proofs.Loops.{take-enumerated}
 use Rattle.round_trip.specs.Words.{EntityType, TypeId}
 use Rattle.regions.specs.Regions.{regions_by}
-use Rattle.cells.specs.region_basis.BasisOf.{basis_of}
+use Rattle.region_states.specs.region_basis.BasisOf.{basis_of}
 use Rattle.region_partition.specs.region_lists.Counts.{capped}
 use Rattle.region_partition.proofs.region_lists.Types.{type_left, type_listed}
 use Rattle.update_views.specs.declared.region_table.numbering.TypeTests.{TypeTests}

@@ -1,6 +1,6 @@
 use Rattle.std.proofs.Common.{◌≡◌, map, take}
 use Rattle.std.specs.List.{enumerate_from}
-use Rattle.cells.specs.region_basis.BasisOf.{basis_of}
+use Rattle.region_states.specs.region_basis.BasisOf.{basis_of}
 use Rattle.update_views.specs.region_table.Made.{count_before, type_tests}
 use Rattle.update_views.proofs.region_table.making.types_of_set.Given as goal
 

@@ -1,5 +1,5 @@
-use Rattle.cells.specs.region_basis.BasisOf.{basis_of}
-use Rattle.cells.proofs.region_basis.Bases.{basis_is}
+use Rattle.region_states.specs.region_basis.BasisOf.{basis_of}
+use Rattle.region_states.proofs.region_basis.Bases.{basis_is}
 use Rattle.update_views.proofs.Made.{made_views}
 use Rattle.update_views.proofs.views.UpdateViews.of.Goals as goal
 

@@ -2,7 +2,7 @@ use Rattle.std.proofs.Common.{◌≡◌, ◌++◌, map}
 use Rattle.std.proofs.lemmas.Result.{IfOk-weaker}
 use Rattle.conflict_laws.specs.clash.ClashValues.{with_others}
 use Rattle.regions.specs.Settled.{possible}
-use Rattle.cells.specs.region_basis.BasisOf.{basis_of}
+use Rattle.region_states.specs.region_basis.BasisOf.{basis_of}
 use Rattle.witness_state.specs.region_values.Changes.{both_changes, by_change}
 use Rattle.witness_state.proofs.region_values.Others.{others_behind}
 use Rattle.witness_state.proofs.region_values.clashes.add_others.Goals as goal

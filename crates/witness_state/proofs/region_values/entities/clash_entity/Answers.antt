@@ -6,7 +6,7 @@ use Rattle.std.proofs.lemmas.Option.{slice_get_read}
 use Rattle.emc_base.specs.Lists.{At}
 use Rattle.round_trip.specs.Words.{Entity}
 use Rattle.regions.specs.Patterns.{Valuation}
-use Rattle.cells.specs.region_basis.BasisOf.{basis_of}
+use Rattle.region_states.specs.region_basis.BasisOf.{basis_of}
 use Rattle.region_states.specs.Entities.{focus_entity}
 use Rattle.conflict_laws.specs.clash.ClashValues.{differ_under}
 use Rattle.witness_state.specs.declared.region_values.changes.Change.{Change}

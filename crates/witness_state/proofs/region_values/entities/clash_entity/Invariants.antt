@@ -1,7 +1,7 @@
 use Rattle.std.proofs.Common.{◌≡◌, false, take}
 use Rattle.std.specs.List.{list_any}
 use Rattle.conflict_laws.specs.clash.ClashValues.{differ_under}
-use Rattle.cells.specs.region_basis.BasisOf.{basis_of}
+use Rattle.region_states.specs.region_basis.BasisOf.{basis_of}
 use Rattle.witness_state.specs.region_values.Changes.{by_change}
 use Rattle.witness_state.proofs.region_values.entities.clash_entity.Given as goal
 

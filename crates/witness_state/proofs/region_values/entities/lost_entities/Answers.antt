@@ -1,5 +1,5 @@
 use Rattle.std.proofs.Common.{ap, ◌∙◌}
-use Rattle.cells.specs.region_basis.BasisOf.{basis_of}
+use Rattle.region_states.specs.region_basis.BasisOf.{basis_of}
 use Rattle.region_states.specs.Entities.{focus_entity}
 use Rattle.witness_state.proofs.region_values.Lost.{is_one, is_other}
 use Rattle.witness_state.proofs.region_values.entities.lost_entities.Goals as goal

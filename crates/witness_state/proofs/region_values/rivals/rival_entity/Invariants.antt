@@ -1,6 +1,6 @@
 use Rattle.std.proofs.Common.{◌≡◌, map, take}
 use Rattle.region_states.specs.defaults.Defaults.{changed, default_valuation}
-use Rattle.cells.specs.region_basis.BasisOf.{basis_of}
+use Rattle.region_states.specs.region_basis.BasisOf.{basis_of}
 use Rattle.conflict_laws.specs.rival.RivalValues.{rival_value}
 use Rattle.witness_state.proofs.region_values.rivals.rival_entity.Given as goal
 

@@ -1,6 +1,6 @@
 use Rattle.std.proofs.Common.{Some, None, ap, ◌∙◌}
 use Rattle.std.specs.Option.{option_map_or}
-use Rattle.cells.specs.region_basis.BasisOf.{basis_of}
+use Rattle.region_states.specs.region_basis.BasisOf.{basis_of}
 use Rattle.conflict_laws.specs.rival.RivalValues.{shared_value}
 use Rattle.witness_state.proofs.region_values.Faced.{is_null, is_shared}
 use Rattle.witness_state.proofs.region_values.rivals.rival_value.Goals as goal

@@ -1,7 +1,7 @@
 use Rattle.std.proofs.Common.{◌≡◌, ◌+◌, ℕ, Option, Some, None, drop}
 use Rattle.std.specs.Option.{option_map_or}
 use Rattle.round_trip.specs.Words.{props_of}
-use Rattle.cells.specs.region_basis.BasisOf.{basis_of}
+use Rattle.region_states.specs.region_basis.BasisOf.{basis_of}
 use Rattle.conflict_laws.specs.rival.RivalValues.{group_place}
 use Rattle.witness_state.proofs.region_values.shared.place_of.Given as goal
 

@@ -1,6 +1,6 @@
 use Rattle.std.proofs.Common.{sym, arith}
 use Rattle.emc_base.proofs.Lists.{item_at}
-use Rattle.cells.specs.region_basis.BasisOf.{basis_of}
+use Rattle.region_states.specs.region_basis.BasisOf.{basis_of}
 use Rattle.witness_state.proofs.region_values.Passed.{none_more, none_there, one_there}
 use Rattle.witness_state.proofs.region_values.Telling.{tells_at}
 use Rattle.witness_state.proofs.region_values.shared.tells_other.Goals as goal

@@ -1,6 +1,6 @@
 use Rattle.std.proofs.Common.{◌≡◌, false, take}
 use Rattle.std.specs.List.{enumerate_from, list_any}
-use Rattle.cells.specs.region_basis.BasisOf.{basis_of}
+use Rattle.region_states.specs.region_basis.BasisOf.{basis_of}
 use Rattle.witness_state.proofs.region_values.Telling.{tells_at}
 use Rattle.witness_state.proofs.region_values.shared.tells_other.Given as goal
 

@@ -1,4 +1,4 @@
-use Rattle.round_trip.specs.soundness.Joined.{prop}
+use Rattle.round_trip.specs.soundness.mappings.Joined.{prop}
 use Rattle.member_groups.specs.joined_groups.Labels.{label_of}
 use Rattle.std.proofs.Common.{length}
 use Rattle.member_groups.proofs.group_numbers.Labels.{numbered_still}

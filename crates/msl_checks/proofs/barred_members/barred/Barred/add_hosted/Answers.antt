@@ -1,8 +1,8 @@
 use Rattle.std.proofs.Common.{◌⊎◌, List, subst₂}
 use Rattle.std.proofs.lemmas.Result.{IfOk-weaker}
 use Rattle.round_trip.specs.Words.{Pair}
-use Rattle.round_trip.specs.soundness.Joined.{Member}
-use Rattle.table_owners.specs.link_places.Between.{schema_of}
+use Rattle.round_trip.specs.soundness.mappings.Joined.{Member}
+use Rattle.round_trip.specs.Between.{schema_of}
 use Rattle.msl_checks.specs.barred_members.Added.{Adds, HostsAt}
 use Rattle.msl_checks.proofs.barred_members.Adding.{adds_both}
 use Rattle.msl_checks.proofs.barred_members.barred.Barred.add_hosted.Goals as goal

@@ -1,5 +1,5 @@
 use Rattle.std.proofs.lemmas.Result.{IfOk-weaker}
-use Rattle.table_owners.specs.link_places.Between.{schema_of}
+use Rattle.round_trip.specs.Between.{schema_of}
 use Rattle.msl_checks.specs.barred_members.Added.{Each, HostsAt, IsColumn}
 use Rattle.msl_checks.proofs.barred_members.Adding.{adds_as, adds_nothing}
 use Rattle.msl_checks.proofs.barred_members.barred.Barred.add_partner.Goals as goal

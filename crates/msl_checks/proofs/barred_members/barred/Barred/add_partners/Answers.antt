@@ -2,7 +2,7 @@ use Rattle.std.proofs.Common.{List, refl, subst}
 use Rattle.std.proofs.lemmas.List.{take_all}
 use Rattle.std.proofs.lemmas.Option.{slice_get_read}
 use Rattle.round_trip.specs.Words.{LinkFragment}
-use Rattle.table_owners.specs.link_places.Between.{schema_of}
+use Rattle.round_trip.specs.Between.{schema_of}
 use Rattle.msl_checks.specs.barred_members.Added.{Adds, Each, Hosts}
 use Rattle.msl_checks.proofs.barred_members.Adding.{adds_next}
 use Rattle.msl_checks.proofs.barred_members.barred.Barred.add_partners.Goals as goal

@@ -1,6 +1,6 @@
 use Rattle.std.proofs.Common.{take}
 use Rattle.round_trip.specs.Words.{EntityModel, Mapping}
-use Rattle.table_owners.specs.link_places.Between.{schema_of}
+use Rattle.round_trip.specs.Between.{schema_of}
 use Rattle.msl_checks.specs.barred_members.Added.{Adds, Each, Hosts}
 use Rattle.msl_checks.proofs.barred_members.barred.Barred.add_partners.Given as goal
 

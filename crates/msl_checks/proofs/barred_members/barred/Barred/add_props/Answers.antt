@@ -2,7 +2,7 @@ use Rattle.std.proofs.Common.{get_or, subst, true}
 use Rattle.std.specs.BTreeSet.{Updates}
 use Rattle.std.proofs.lemmas.Option.{slice_get-get_or}
 use Rattle.round_trip.specs.Words.{PropId}
-use Rattle.round_trip.specs.soundness.Joined.{prop}
+use Rattle.round_trip.specs.soundness.mappings.Joined.{prop}
 use Rattle.msl_checks.specs.barred_members.Added.{IsProp}
 use Rattle.member_groups.specs.joined_groups.Labels.{label_cmp}
 use Rattle.msl_checks.specs.declared.barred_members.barred.Barred.{Barred}

@@ -1,6 +1,6 @@
 use Rattle.std.proofs.Common.{List, refl, subst}
 use Rattle.round_trip.specs.Words.{Assoc, Fragment, LinkFragment}
-use Rattle.table_owners.specs.link_places.Between.{schema_of}
+use Rattle.round_trip.specs.Between.{schema_of}
 use Rattle.member_groups.specs.joined_groups.Groups.{TellsGroups}
 use Rattle.msl_checks.specs.barred_members.Added.{Adds, Constrains, Each, Hosts}
 use Rattle.msl_checks.specs.declared.barred_members.barred.Barred.{Barred}

@@ -1,6 +1,6 @@
 use Rattle.std.proofs.Common.{◌↔◌, List, ℕ, IsTrue, not, refl, subst}
 use Rattle.round_trip.specs.Words.{LinkFragment}
-use Rattle.round_trip.specs.soundness.Owners.{IsPlaced}
+use Rattle.round_trip.specs.soundness.mappings.Owners.{IsPlaced}
 use Rattle.msl_rules.specs.MappingMeaning.{link_with}
 use Rattle.msl_rules.proofs.Named.{denies}
 use Rattle.msl_checks.specs.msl_written.Within.{schema_in}

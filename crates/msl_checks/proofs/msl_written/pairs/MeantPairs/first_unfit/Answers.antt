@@ -3,7 +3,7 @@ use Rattle.layouts.specs.declared.fault.Fault.{Fault}
 use Rattle.layouts.specs.declared.rule.Rule.TheVariants.{Corresponds}
 use Rattle.layouts.specs.rule_places.Places.{IsAt}
 use Rattle.round_trip.specs.Words.{Pair}
-use Rattle.round_trip.specs.soundness.Fragments.{WritesToFitting}
+use Rattle.round_trip.specs.soundness.mappings.Fragments.{WritesToFitting}
 use Rattle.msl_checks.specs.msl_written.Within.{meant_in, schema_in, table_in}
 use Rattle.msl_checks.proofs.msl_written.Meant.{least_by_meant}
 use Rattle.msl_checks.proofs.msl_written.pairs.MeantPairs.first_unfit.Goals as goal

@@ -2,7 +2,7 @@ use Rattle.std.proofs.Common.{refl, ap, ◌∙◌}
 use Rattle.std.specs.List.{filter_map}
 use Rattle.std.proofs.lemmas.List.{take_all}
 use Rattle.std.proofs.lemmas.Option.{slice_get-get_or}
-use Rattle.csdl_meaning.proofs.csdl_making.Places.{found_more}
+use Rattle.emc_base.proofs.Turns.{found_more}
 use Rattle.msl_checks.specs.msl_written.Within.{meant_in}
 use Rattle.msl_checks.proofs.msl_written.Meant.{filter_map-map}
 use Rattle.msl_checks.proofs.msl_written.pairs.MeantPairs.found.Goals as goal

@@ -1,6 +1,6 @@
 use Rattle.std.proofs.Common.{ap, sym, slice_get, ◌∙◌}
 use Rattle.round_trip.specs.Words.{TableId}
-use Rattle.round_trip.specs.soundness.Joined.Member.{col}
+use Rattle.round_trip.specs.soundness.mappings.Joined.Member.{col}
 use Rattle.msl_checks.specs.barred_members.Told.{is_told}
 use Rattle.msl_checks.specs.msl_written.Within.{schema_in, table_in}
 use Rattle.msl_checks.proofs.msl_written.Free.{same_made, told_free}

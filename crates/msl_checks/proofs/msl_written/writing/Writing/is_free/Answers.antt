@@ -1,7 +1,7 @@
 use Rattle.std.proofs.Common.{◌↔◌, IsTrue, not, sym, subst}
 use Rattle.edm_types.specs.declared.mapping.CondOn.{CondOn}
-use Rattle.round_trip.specs.soundness.Joined.{IsBarred, member_of}
-use Rattle.round_trip.specs.soundness.Joined.Member.{prop}
+use Rattle.round_trip.specs.soundness.mappings.Joined.{IsBarred, member_of}
+use Rattle.round_trip.specs.soundness.mappings.Joined.Member.{prop}
 use Rattle.msl_checks.specs.msl_written.Within.{schema_in, table_in}
 use Rattle.msl_checks.proofs.msl_written.Free.{told_free}
 use Rattle.msl_checks.proofs.msl_written.writing.Writing.is_free.Goals as goal

@@ -1,6 +1,6 @@
 use Rattle.std.proofs.Common.{◌≡◌, ◌++◌, ◌&&◌, Bool, true, false, not, List, [], ◌∷◌, ap, sym, ◌∙◌}
 use Rattle.round_trip.specs.Words.{Mapping, Pair, key_columns}
-use Rattle.table_owners.specs.link_places.Between.{schema_of}
+use Rattle.round_trip.specs.Between.{schema_of}
 use Rattle.table_owners.specs.declared.table_writers.writer.Owner.TheVariants as owner
 use Rattle.table_owners.specs.declared.table_writers.writer.Writer.{Writer}
 use Rattle.msl_rules.specs.OwnerRules.{PlacedWriter, are_exactly, is_one, placed, writers_of_both}

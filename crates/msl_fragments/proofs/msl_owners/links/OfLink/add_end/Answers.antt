@@ -1,7 +1,7 @@
 use Rattle.std.proofs.Common.{◌≡◌, ◌↔◌, true, false, List, [], ◌∷◌, IsTrue, ap, sym, subst, ◌∙◌}
 use Rattle.round_trip.specs.Words.{Mapping, Pair, key_columns}
 use Rattle.round_trip.specs.FailsAt.{IsHostedAt}
-use Rattle.table_owners.specs.link_places.Between.{schema_of}
+use Rattle.round_trip.specs.Between.{schema_of}
 use Rattle.table_owners.specs.declared.table_writers.writer.Writer.{Writer}
 use Rattle.msl_rules.specs.OwnerRules.{PlacedWriter, are_exactly, placed, writers_of_end}
 use Rattle.msl_fragments.specs.msl_owners.SetWriters.{writer_of_set}

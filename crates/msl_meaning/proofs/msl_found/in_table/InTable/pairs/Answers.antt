@@ -1,6 +1,6 @@
 use Rattle.std.proofs.Common.{refl, ◌∙◌}
 use Rattle.std.proofs.lemmas.Option.{slice_get_read}
-use Rattle.csdl_meaning.proofs.csdl_making.Places.{found_more}
+use Rattle.emc_base.proofs.Turns.{found_more}
 use Rattle.msl_rules.specs.Found.{pair_in}
 use Rattle.msl_meaning.specs.msl_found.NamedAt.{named_at}
 use Rattle.msl_meaning.proofs.msl_found.in_table.InTable.pairs.Goals as goal

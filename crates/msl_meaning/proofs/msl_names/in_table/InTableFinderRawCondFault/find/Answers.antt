@@ -1,7 +1,7 @@
 use Rattle.std.proofs.Common.{ℕ, List, codes, ap, ◌∙◌}
 use Rattle.layouts.specs.declared.fault.Fault.{Fault}
 use Rattle.layouts.proofs.rule_places.Rules.{least_where_some}
-use Rattle.csdl_names.specs.Unresolved.{NamesNothing}
+use Rattle.layouts.specs.rule_places.Names.{NamesNothing}
 use Rattle.schema_names.specs.SchemaNames.{column_named}
 use Rattle.msl_rules.proofs.Named.{names_nothing}
 use Rattle.msl_meaning.proofs.msl_names.in_table.InTableFinderRawCondFault.find.Goals as goal

@@ -2,7 +2,7 @@ use Rattle.std.proofs.Common.{ℕ, MatchOption, codes, ap, sym, ◌∙◌}
 use Rattle.layouts.specs.declared.fault.Fault.{Fault}
 use Rattle.layouts.proofs.rule_places.LeastFound.{at_none, first_only, none_of}
 use Rattle.layouts.proofs.rule_places.Rules.{least_joined, least_where_some}
-use Rattle.csdl_names.specs.Unresolved.{NamesNothing}
+use Rattle.layouts.specs.rule_places.Names.{NamesNothing}
 use Rattle.schema_names.specs.SchemaNames.{table_named}
 use Rattle.msl_rules.specs.NameRules.{LacksColumns}
 use Rattle.msl_rules.proofs.Named.{names_nothing}

@@ -4,7 +4,7 @@ use Rattle.layouts.specs.declared.fault.Fault.{Fault}
 use Rattle.layouts.specs.declared.rule.Rule.TheVariants.{Resolves}
 use Rattle.layouts.specs.rule_places.Places.{IsAt}
 use Rattle.layouts.proofs.rule_places.Rules.{least_joined, least_where}
-use Rattle.csdl_names.specs.Unresolved.{NamesNothing}
+use Rattle.layouts.specs.rule_places.Names.{NamesNothing}
 use Rattle.schema_names.specs.SchemaNames.{association_set_named, table_named, NamesAssociation}
 use Rattle.msl_meaning.specs.msl_names.LinkNames.{IsUnresolvedInEnds, LacksLinkColumns}
 use Rattle.msl_rules.proofs.Named.{denies, least_named, names_nothing}

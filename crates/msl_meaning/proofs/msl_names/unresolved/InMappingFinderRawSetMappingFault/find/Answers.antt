@@ -2,7 +2,7 @@ use Rattle.std.proofs.Common.{codes, ap, ◌∙◌}
 use Rattle.layouts.specs.declared.fault.Fault.{Fault}
 use Rattle.layouts.specs.rule_places.Places.{InList}
 use Rattle.layouts.proofs.rule_places.Rules.{least_joined}
-use Rattle.csdl_names.specs.Unresolved.{NamesNothing}
+use Rattle.layouts.specs.rule_places.Names.{NamesNothing}
 use Rattle.schema_names.specs.SchemaNames.{set_named}
 use Rattle.msl_rules.specs.NameRules.{IsUnresolvedTypes}
 use Rattle.msl_rules.proofs.Named.{names_nothing}

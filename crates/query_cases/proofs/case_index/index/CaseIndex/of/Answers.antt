@@ -1,6 +1,6 @@
 use Rattle.std.proofs.Common.{Contains, subst}
 use Rattle.emc_base.proofs.Mapped.{contains_at}
-use Rattle.cells.specs.region_basis.BasisOf.{basis_of}
+use Rattle.region_states.specs.region_basis.BasisOf.{basis_of}
 use Rattle.query_cases.specs.case_index.Codes.{rows_code}
 use Rattle.query_cases.specs.case_index.Found.{places_at}
 use Rattle.query_cases.proofs.case_index.Coding.{same_code}

@@ -1,5 +1,5 @@
-use Rattle.cells.specs.region_basis.BasisOf.{basis_of}
-use Rattle.cells.proofs.region_basis.Bases.{basis_is}
+use Rattle.region_states.specs.region_basis.BasisOf.{basis_of}
+use Rattle.region_states.proofs.region_basis.Bases.{basis_is}
 use Rattle.update_views.proofs.region_table.Finding.{finds}
 use Rattle.update_views.proofs.region_table.numbering.RegionTable.of.Goals as goal
 

@@ -1,0 +1,4 @@
+pub mod Own
+pub mod OwnTold
+pub mod OwnCase
+pub mod OneCase

@@ -1,5 +1,0 @@
-use Rattle.cells.proofs.region_basis.Links.{links_of_basis}
-use Rattle.cells.proofs.region_basis.hosted_links_are_those_of_the_basis.Goals as goal
-
-pub returns : goal.returns
-returns c = record { links = λ parts are state s entity. links_of_basis parts are state s entity }

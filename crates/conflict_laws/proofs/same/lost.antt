@@ -1,0 +1,4 @@
+pub mod Lost
+pub mod LostTold
+pub mod Absent
+pub mod LeftOut

@@ -1,0 +1,4 @@
+pub mod Rivals
+pub mod RivalsFail
+pub mod RivalTold
+pub mod Written

@@ -1,0 +1,8 @@
+pub mod States
+pub mod Legal
+pub mod Links
+pub mod Entities
+pub mod HostedAt
+pub mod Moved
+pub mod SameTables
+pub mod Different

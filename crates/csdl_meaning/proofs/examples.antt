@@ -1,0 +1,2 @@
+pub mod NoTypeFaults
+pub mod SchoolKeeps

@@ -1,0 +1,4 @@
+pub mod KeptNames
+pub mod KeptTypes
+pub mod Given
+pub mod Resolved

@@ -1,0 +1,9 @@
+pub mod Bases
+pub mod Declared
+pub mod Props
+pub mod Names
+pub mod Keys
+pub mod Ids
+pub mod SoundKinds
+pub mod PropKinds
+pub mod Sound

@@ -1,0 +1,4 @@
+pub mod ClassesKeep
+pub mod ClassesResolve
+pub mod ClassesSets
+pub mod ClassesTypes

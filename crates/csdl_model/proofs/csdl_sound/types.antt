@@ -1,0 +1,4 @@
+pub mod MeantTypes
+pub mod PropIds
+pub mod Roots
+pub mod KeyIds

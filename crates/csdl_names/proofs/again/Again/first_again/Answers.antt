@@ -1,7 +1,0 @@
-use Rattle.csdl_names.proofs.Known.{again_by_names}
-use Rattle.csdl_names.proofs.again.Again.first_again.Goals as goal
-
-pub returns : goal.returns
-returns g c =
-    let self = c.args.self.now in
-    again_by_names g.T.Named.name_in self.others.now c.args.member.now self.last.now self.items.now c.in_ok-found.found c.in_ok-found.ensures

@@ -1,0 +1,4 @@
+pub mod Orders
+pub mod Filled
+pub mod Passing
+pub mod Sums

@@ -1,0 +1,4 @@
+pub mod Documents
+pub mod Stores
+pub mod Loads
+pub mod GivesBack

@@ -1,0 +1,2 @@
+pub mod KeptFragments
+pub mod KeptLinks

@@ -1,0 +1,4 @@
+pub mod OneOwner
+pub mod OwnedKeys
+pub mod PairedAlike
+pub mod Writing

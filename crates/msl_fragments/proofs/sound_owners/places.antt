@@ -1,0 +1,4 @@
+pub mod ApartPlaces
+pub mod PlaceTexts
+pub mod Decimals
+pub mod NumberedLists

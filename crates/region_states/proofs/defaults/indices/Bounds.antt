@@ -1,0 +1,107 @@
+-- Places of parts of keys and of properties, and the indices that they give.
+use Rattle.std.proofs.Common.{◌≡◌, ⊎_elim, ℕ, zero, suc, ◌==◌, ◌<◌, ◌≤◌, List, [], ◌∷◌, length, slice_get, Contains, Option, Some, None, refl, sym, ap, subst, arith}
+use Rattle.std.specs.Bool.{⊤}
+use Rattle.std.specs.Option.{option_map_or}
+use Rattle.std.proofs.lemmas.Bool.{cond_both}
+use Rattle.std.proofs.lemmas.Bool.Decides.{not_from_Decides}
+use Rattle.std.proofs.lemmas.List.Elements.{All-contains}
+use Rattle.std.proofs.lemmas.Option.{MatchOption-at_none, MatchOption-at_some, slice_get_within}
+use Rattle.emc_base.proofs.Mapped.{contains_at}
+use Rattle.round_trip.specs.Words.{EntityModel, EntityType, PropId, TypeId, AssocId, Assoc, HasBase, At, key_props, props_of}
+use Rattle.edm_types.specs.IsA.{base}
+use Rattle.round_trip.specs.soundness.models.Inheritance.{IsRootKey}
+use Rattle.round_trip.specs.soundness.models.Models.{IsSoundModel}
+use Rattle.graphs.proofs.base_chains.Chains.{Ends}
+use Rattle.schema_laws.proofs.sound_types.BasePlaces.{base_ends, base_here, base_place}
+use Rattle.schema_laws.proofs.state_demand.lists.Lists.{member_cases, none_in_nil}
+use Rattle.schema_laws.proofs.sound_demand.Keys.{inherits_keys}
+use Rattle.cells.specs.Limits.{IsSmallModel, most_props}
+use Rattle.regions.proofs.region_laws.values.Symbols.{Decides-prop}
+use Rattle.region_states.specs.defaults.Defaults.{place_in}
+use Rattle.region_states.specs.defaults.Fresh.{dependent, dependent_value, focus, focus_key, most_indices, partner, partner_key}
+use Rattle.region_states.proofs.defaults.indices.Uses.{index_below}
+
+-- a property's place among those of which it is one
+pub place_within : (p : PropId) (props : List PropId) → Contains props p → place_in p props < length props
+place_within p [] has = absurd (none_in_nil p has)
+place_within p (q ∷ props) has =
+    let P : ℕ → Type 0 = λ n. n < suc (length props) in
+    cond_both (q.index == p.index) 0 (suc (place_in p props)) P
+    (λ told. omega arith)
+    (λ told. ⊎_elim
+    (λ (here : p ≡ q). absurd (not_from_Decides (q.index == p.index) (Decides-prop q p) told (sym here)))
+    (λ (later : Contains props p). let rest = place_within p props later in omega (arith, rest))
+    (member_cases q props p has))
+
+abbrev AreFew : List PropId → Type 0
+AreFew key = length key ≤ 4
+
+module _ (model : EntityModel) (sound : IsSoundModel model) where
+  key_at : (t : TypeId) (type : EntityType) → At model.types t.index type → key_props model t ≡ type.key
+  key_at t type here = ap (λ found. option_map_or (λ (one : EntityType). one.key) found []) here
+
+  abbrev HasFew : TypeId → Type 0
+  HasFew t = length (key_props model t) ≤ 4
+
+  no_key : (t : TypeId) → slice_get model.types t.index ≡ None → HasFew t
+  no_key t none =
+      let empty : key_props model t ≡ [] = ap (λ found. option_map_or (λ (one : EntityType). one.key) found []) none in
+      subst AreFew (sym empty) (omega arith)
+
+  climb : (n : ℕ) (t : TypeId) → Ends (base_place model) n t.index → HasFew t
+  climb zero t end = absurd end
+  climb (suc n) t end = by (slice_get model.types t.index) refl
+      (λ u has. climb n u (MatchOption-at_some ⊤ (λ k. Ends (base_place model) n k) u.index (base_here model t u has) end))
+    where
+      by_base : (type : EntityType) → At model.types t.index type → ((u : TypeId) → HasBase model t u → HasFew u) → (above : Option TypeId) → type.base ≡ above → HasFew t
+      by_base type here up None none =
+          subst AreFew (sym (key_at t type here))
+          (MatchOption-at_none (IsRootKey model t type.key) (λ one. type.key ≡ key_props model one) none (sound.types t type here).key).few
+      by_base type here up (Some u) is =
+          let has : HasBase model t u = (type, here, is) in
+          subst AreFew (sym ((inherits_keys model sound).same t u (base t u has))) (up u has)
+
+      by : (found : Option EntityType) → slice_get model.types t.index ≡ found → ((u : TypeId) → HasBase model t u → HasFew u) → HasFew t
+      by None here up = no_key t here
+      by (Some type) here up = by_base type here up type.base refl
+
+  -- a key has at most four parts
+  pub keys_few : (t : TypeId) → length (key_props model t) ≤ 4
+  keys_few t = by (slice_get model.types t.index) refl
+    where
+      by : (found : Option EntityType) → slice_get model.types t.index ≡ found → HasFew t
+      by None here = no_key t here
+      by (Some type) here = climb (length model.types) t (base_ends model sound t.index (slice_get_within model.types t.index type here))
+
+  -- the indices of the parts of a key, and of a partner's
+  pub key_index : (t : TypeId) (p : PropId) → Contains (key_props model t) p → focus_key (place_in p (key_props model t)) < most_indices
+  key_index t p has =
+      let place = place_within p (key_props model t) has in
+      let few = keys_few t in
+      index_below (focus (place_in p (key_props model t))) (omega (arith, place, few))
+
+  module _ (small : IsSmallModel model) where
+    pub partner_index : (a : AssocId) (assoc : Assoc) → At model.assocs a.index assoc → (t : TypeId) (p : PropId) → Contains (key_props model t) p
+        → partner_key a.index (place_in p (key_props model t)) < most_indices
+    partner_index a assoc here t p has =
+        let place = place_within p (key_props model t) has in
+        let few = keys_few t in
+        let inside = slice_get_within model.assocs a.index assoc here in
+        let most = small.0 in
+        index_below (partner a.index (place_in p (key_props model t))) (omega (arith, inside, most), omega (arith, place, few))
+
+    props_few : (t : TypeId) → length (props_of model t) ≤ most_props
+    props_few t = by (slice_get model.types t.index) refl
+      where
+        by : (found : Option EntityType) → slice_get model.types t.index ≡ found → length (option_map_or (λ (one : EntityType). one.props) found []) ≤ most_props
+        by None here = omega arith
+        by (Some type) here =
+            let Few : EntityType → Type 0 = λ one. length one.props ≤ most_props in
+            All-contains Few model.types type small.1 (contains_at model.types t.index type here)
+
+    -- and of a dependent property
+    pub dependent_index : (t : TypeId) (p : PropId) → Contains (props_of model t) p → dependent_value (place_in p (props_of model t)) < most_indices
+    dependent_index t p has =
+        let place = place_within p (props_of model t) has in
+        let few = props_few t in
+        index_below (dependent (place_in p (props_of model t))) (omega (arith, place, few))

@@ -1,0 +1,6 @@
+pub mod Owning
+pub mod Flags
+pub mod Hosting
+pub mod Partners
+pub mod Regions
+pub mod Selected

@@ -1,0 +1,4 @@
+pub mod Listed
+pub mod Counted
+pub mod Apart
+pub mod Possible

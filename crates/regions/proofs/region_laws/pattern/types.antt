@@ -1,0 +1,4 @@
+pub mod Types
+pub mod Classes
+pub mod Groups
+pub mod Regions

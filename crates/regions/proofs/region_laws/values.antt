@@ -1,0 +1,4 @@
+pub mod Domains
+pub mod Symbols
+pub mod Atoms
+pub mod Told

@@ -1,0 +1,5 @@
+pub mod Concrete
+pub mod Patterns
+pub mod Cells
+pub mod Owned
+pub mod Rows

@@ -1,0 +1,4 @@
+pub mod Legal
+pub mod Breaches
+pub mod LegalTables
+pub mod TableBreaches

@@ -1,0 +1,5 @@
+pub mod Mappings
+pub mod Fragments
+pub mod Conditions
+pub mod Joined
+pub mod Owners

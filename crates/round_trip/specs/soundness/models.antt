@@ -1,0 +1,5 @@
+pub mod Models
+pub mod ModelIds
+pub mod ModelNames
+pub mod Inheritance
+pub mod Constraints

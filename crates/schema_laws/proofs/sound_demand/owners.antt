@@ -1,0 +1,3 @@
+pub mod OneOwner
+pub mod Owned
+pub mod Pairing

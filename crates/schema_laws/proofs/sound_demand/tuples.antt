@@ -1,0 +1,4 @@
+pub mod OneRow
+pub mod TupleKeys
+pub mod Tuples
+pub mod Disagreeing

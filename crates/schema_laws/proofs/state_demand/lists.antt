@@ -1,0 +1,4 @@
+pub mod Lists
+pub mod Distinct
+pub mod Permutations
+pub mod Places

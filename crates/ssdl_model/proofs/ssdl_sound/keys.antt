@@ -1,0 +1,4 @@
+pub mod KeptKeys
+pub mod KeySides
+pub mod MeantKeys
+pub mod SoundKeys

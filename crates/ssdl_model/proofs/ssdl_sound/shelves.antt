@@ -1,0 +1,3 @@
+pub mod ShelvesKeep
+pub mod ShelvesNames
+pub mod ShelvesTables

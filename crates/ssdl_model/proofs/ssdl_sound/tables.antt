@@ -1,0 +1,6 @@
+pub mod KeptTables
+pub mod MeantTables
+pub mod TablesFound
+pub mod SoundTables
+pub mod ColumnIds
+pub mod ColumnKinds

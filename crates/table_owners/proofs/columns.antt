@@ -1,0 +1,4 @@
+pub mod Begun
+pub mod Cleared
+pub mod Free
+pub mod Sourcing

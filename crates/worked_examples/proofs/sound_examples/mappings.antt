@@ -1,0 +1,10 @@
+pub mod Mappings
+pub mod FragmentFacts
+pub mod LinkFacts
+pub mod Schemas
+pub mod PeopleMapped
+pub mod BossesMapped
+pub mod ShopMapped
+pub mod SeatsMapped
+pub mod ItemsMapped
+pub mod BrokenMappings

@@ -1,0 +1,9 @@
+pub mod Above
+pub mod Models
+pub mod OneType
+pub mod People
+pub mod Staff
+pub mod Bosses
+pub mod Shop
+pub mod Lines
+pub mod BrokenModels

@@ -1,0 +1,5 @@
+pub mod Staff
+pub mod Salary
+pub mod ByKind
+pub mod TypeLost
+pub mod Owners

@@ -1,0 +1,4 @@
+pub mod Salary
+pub mod ByKind
+pub mod TypeLost
+pub mod Owners
