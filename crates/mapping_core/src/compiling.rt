@@ -26,7 +26,8 @@ pub fn compile(alloc: Global, csdl: &Bin, ssdl: &Bin, msl: &Bin) -> Result<Compi
     Ok(compiled)
 }
 
-/// The law that the clauses on what is accepted say what they said in their former wording; it goes with `specs/Former`, once it is proved. What is asked of a schema before it is decided, what is known of an accepted one, and what deciding and compiling answer, is what the former wording said.
+/// The law that what is asked of a schema before it is decided, what is known of an accepted one, and what deciding and compiling answer, is what the former
+/// wording said. It goes with `specs/Former`, once it is proved.
 pub fn accepted_is_told_as_before()
     ensures read { (schema : Schema) → (former.IsMeant schema × IsSoundSchema schema × IsDecided schema) ↔ IsRead schema }
     ensures accepted { (schema : Schema) → former.IsAccepted schema ↔ (IsSoundSchema schema × IsDecided schema × IsAccepted schema) }
