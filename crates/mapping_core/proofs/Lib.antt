@@ -5,4 +5,3 @@ pub mod Stored
 pub mod Comparing
 pub mod Telling
 pub mod OwnTables
-pub mod Former

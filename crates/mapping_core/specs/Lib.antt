@@ -6,5 +6,4 @@ pub mod Reading
 pub mod Words
 pub mod states
 pub mod ViewsText
-pub mod Former
 pub mod mapping_verdict

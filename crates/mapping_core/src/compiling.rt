@@ -1,13 +1,4 @@
-ghost use Rattle.std.specs.Prelude.{◌↔◌, List, ℕ, Result};
-ghost use Rattle.round_trip.specs.Words.{Schema};
-ghost use Rattle.round_trip.specs.soundness.mappings.Mappings.{IsSoundSchema};
-ghost use Rattle.mapping_core.specs.Accepted.{IsAccepted, IsDecided};
-ghost use Rattle.mapping_core.specs.Compiles.{Compiles, Decides};
-ghost use Rattle.mapping_core.specs.Former as former;
-ghost use Rattle.mapping_core.specs.Rules.{IsRead};
-ghost use Rattle.mapping_core.specs.declared.compiled.Compiled.{Compiled};
-ghost use Rattle.mapping_core.specs.declared.verdict.Refusal.{Refusal};
-ghost use Rattle.mapping_core.specs.declared.verdict.Verdict.{Verdict};
+ghost use Rattle.mapping_core.specs.Compiles.{Compiles};
 
 use crate::compiled::Compiled;
 use crate::deciding::decide;
@@ -25,12 +16,3 @@ pub fn compile(alloc: Global, csdl: &Bin, ssdl: &Bin, msl: &Bin) -> Result<Compi
     let compiled = decide(alloc, schema)?;
     Ok(compiled)
 }
-
-/// The law that what is asked of a schema before it is decided, what is known of an accepted one, and what deciding and compiling answer, is what the former
-/// wording said. It goes with `specs/Former`, once it is proved.
-pub fn accepted_is_told_as_before()
-    ensures read { (schema : Schema) → (former.IsMeant schema × IsSoundSchema schema × IsDecided schema) ↔ IsRead schema }
-    ensures accepted { (schema : Schema) → former.IsAccepted schema ↔ (IsSoundSchema schema × IsDecided schema × IsAccepted schema) }
-    ensures decides { (schema : Schema) (result : Result Compiled Refusal) → former.Decides schema result ↔ Decides schema result }
-    ensures compiles { (csdl ssdl msl : List ℕ) (result : Result Compiled Verdict) → former.Compiles csdl ssdl msl result ↔ Compiles csdl ssdl msl result }
-{}

@@ -16,7 +16,7 @@ mod viewing;
 
 pub use crate::mapping_verdict::Failure;
 pub use compiled::{Compiled, CompiledParts, MappingViews};
-pub use compiling::{accepted_is_told_as_before, compile};
+pub use compiling::compile;
 pub use data_documents::ShapeFault;
 pub use deciding::decide;
 pub use documents::{read_entities, read_tables};

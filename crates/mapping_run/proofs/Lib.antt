@@ -1,4 +1,3 @@
 pub mod FilesRead
 pub mod Answered
 pub mod Endings
-pub mod Former

@@ -6,4 +6,3 @@ pub mod World
 pub mod Runs
 pub mod RunSteps
 pub mod Arguments
-pub mod Former

@@ -5,10 +5,8 @@ mod answers;
 mod arguments;
 mod commands;
 mod inputs;
-mod wording;
 mod words;
 
 pub use answers::Status;
 pub use arguments::run_arguments;
 pub use commands::run;
-pub use wording::runs_are_told_as_before;
