@@ -5,3 +5,4 @@ pub mod joined_groups
 pub mod mapping_asks
 pub mod group_numbers
 pub mod group_constants
+pub mod OfNumbered

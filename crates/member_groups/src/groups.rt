@@ -3,11 +3,11 @@ ghost use Rattle.std.specs.Option.{option_copied};
 ghost use Rattle.round_trip.specs.soundness.mappings.Joined.{prop, col};
 ghost use Rattle.round_trip.specs.Between.{schema_of};
 ghost use Rattle.member_groups.specs.MemberGroups.{TellsMemberGroups, constants_in, group_in, is_tested_in};
+ghost use Rattle.member_groups.specs.OfNumbered.{AreOfNumbered};
 
 use crate::group_constants::constants_of;
 use crate::group_numbers::{Numbered, Numbers};
-use crate::joined_groups::Groups;
-use crate::mapping_asks::asks_of;
+use crate::mapping_asks::{Ask, asks_of};
 use crate::tested::tested_groups;
 use edm_types::{EntityModel, Mapping, StoreModel};
 use emc_base::{ColId, GroupId, Memory, PropId, Seq, TableId, Value};
@@ -34,17 +34,9 @@ impl MemberGroups {
     ) -> Result<MemberGroups, Memory>
         ensures { IfOk result (TellsMemberGroups (schema_of model.now store.now mapping.now)) }
     {
-        let groups = Groups::of(alloc, model, store, mapping.fragments.as_slice())?;
-        let numbers = Numbers::of(alloc, &groups, model, store)?;
-        let numbered = Numbered { groups, numbers };
+        let numbered = Numbered::of(alloc, model, store, mapping.fragments.as_slice())?;
         let asks = asks_of(alloc, mapping)?;
-        let tested = tested_groups(alloc, model, mapping, &numbered, &asks)?;
-        let constants = constants_of(alloc, model, &numbered, &asks, &tested)?;
-        Ok(MemberGroups {
-            numbers: numbered.numbers,
-            tested,
-            constants,
-        })
+        told_by(alloc, model, mapping, numbered, &asks)
     }
 
     /// The group of a property. `None` exactly where there is no such property.
@@ -74,4 +66,23 @@ impl MemberGroups {
     {
         self.tested.contains(&group.index)
     }
+}
+
+// The groups of these numbers, with what is tested of them and their constants.
+fn told_by(
+    alloc: Global,
+    model: &EntityModel,
+    mapping: &Mapping,
+    numbered: Numbered,
+    asks: &[Ask],
+) -> Result<MemberGroups, Memory>
+    ensures { IfOk result (AreOfNumbered model.now mapping.now numbered asks.now) }
+{
+    let tested = tested_groups(alloc, model, mapping, &numbered, asks)?;
+    let constants = constants_of(alloc, model, &numbered, asks, &tested)?;
+    Ok(MemberGroups {
+        numbers: numbered.numbers,
+        tested,
+        constants,
+    })
 }
