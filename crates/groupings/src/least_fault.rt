@@ -4,4 +4,4 @@ mod finder;
 mod least;
 
 pub use finder::{Finder, first_among};
-pub use least::earlier;
+pub use least::{earlier, earlier_of};

@@ -7,7 +7,7 @@ pub mod linked_places;
 pub mod name_places;
 
 pub use item_groups::{group, in_order};
-pub use least_fault::{Finder, earlier, first_among};
+pub use least_fault::{Finder, earlier, earlier_of, first_among};
 pub use linked_places::{Classes, Link};
 pub use name_places::{
     Named, Places, are_apart, first_places, holds_each_once, places_of, rest_after,

@@ -1,5 +1,5 @@
 -- What finders share: a find by its parts, the items of a list that was lent, those that were made of others, and the first that repeats.
-use Rattle.std.proofs.Common.{◌≡◌, ℕ, ◌<◌, List, [], ◌∷◌, length, get_or, map, Option, Some, None, slice_get, refl, sym, ap, subst, ◌∙◌}
+use Rattle.std.proofs.Common.{◌≡◌, ℕ, ◌<◌, List, [], ◌∷◌, length, get_or, map, Option, Some, None, Result, IfOk, slice_get, refl, sym, ap, subst, ◌∙◌}
 use Rattle.std.specs.Option.{option_map}
 use Rattle.std.proofs.lemmas.Option.{none-some, same_Some, slice_get-map, slice_get_read, slice_get_within}
 use Rattle.emc_base.specs.Lists.{At}
@@ -19,6 +19,11 @@ from_parts found rule spot place is_rule is_spot is_place = λ i. record { rule 
 pub along : {X : Type 0} (P : ℕ → X → Found → Type 0) (lent items : List X) (found : Option Found) → lent ≡ items
     → IsLeast found_cmp (Among P lent) found → IsLeast found_cmp (Among P items) found
 along {X} P lent items found same least = let Q : List X → Type 0 = λ list. IsLeast found_cmp (Among P list) found in subst Q same least
+
+-- the same of a search that may lack memory
+pub along_search : {X E : Type 0} (P : ℕ → X → Found → Type 0) (lent items : List X) (found : Result (Option Found) E) → lent ≡ items
+    → IfOk found (IsLeast found_cmp (Among P lent)) → IfOk found (IsLeast found_cmp (Among P items))
+along_search {X} P lent items found same least = let Q : List X → Type 0 = λ list. IfOk found (IsLeast found_cmp (Among P list)) in subst Q same least
 
 module _ {X Y : Type 0} (f : X → Y) where
   -- the image of what stands at a place

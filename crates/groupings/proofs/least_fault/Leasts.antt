@@ -1,14 +1,15 @@
 -- The least of what is found: what it is for one search more, for an equal one, and item by item.
-use Rattle.std.proofs.Common.{◌≡◌, ◌≢◌, ◌⊎◌, ⊎_elim, inl, inr, ℕ, ◌+◌, ◌<◌, ◌≤◌, List, length, Option, Some, None, Bool, true, false, cond, refl, sym, ap, subst, ◌∙◌, arith}
+use Rattle.std.proofs.Common.{◌≡◌, ◌≢◌, ◌⊎◌, ⊎_elim, inl, inr, ℕ, ◌+◌, ◌<◌, ◌≤◌, List, length, Option, Some, None, Result, IfOk, Bool, true, false, cond, refl, sym, ap, subst, ◌∙◌, arith}
 use Rattle.std.specs.declared.cmp.Ordering.{Ordering}
 use Rattle.std.specs.declared.cmp.Ordering.TheVariants.{Less, Equal, Greater}
 use Rattle.std.specs.Ordering.{is_gt, is_lt, ordering_reverse}
 use Rattle.std.specs.Cmp.{IsTotalOrder, tied_itself, upto}
 use Rattle.std.proofs.lemmas.Bool.{cases_eq}
 use Rattle.std.proofs.lemmas.Option.{slice_get_within}
+use Rattle.std.proofs.lemmas.Result.{IfOk-weaker}
 use Rattle.emc_base.proofs.Lists.{at_once}
 use Rattle.emc_base.specs.Lists.{At}
-use Rattle.groupings.specs.least_fault.Least.{Among, IsLeast, earlier}
+use Rattle.groupings.specs.least_fault.Least.{Among, IsEarlierOf, IsLeast, earlier}
 
 -- not greater, as a test, and back
 tested : (order : Ordering) → order ≢ Greater → is_gt order ≡ false
@@ -59,6 +60,17 @@ module _ {F : Type 0} (cmp : F → F → Ordering) (total : IsTotalOrder cmp) wh
       by false is =
           let before : cmp one other ≢ Greater = subst (λ order. order ≢ Greater) (sym (total.antisymm one other)) (turned (cmp other one) is) in
           (inl is_one.0, λ fault. ⊎_elim (is_one.1 fault) (λ holds. not_after one other fault before (is_other.1 fault holds)))
+
+  -- the same of two searches that may lack memory
+  pub least_of_searches : {E : Type 0} (P Q : F → Type 0) (one other result : Result (Option F) E) → IfOk one (IsLeast cmp P) → IfOk other (IsLeast cmp Q)
+      → IfOk result (IsEarlierOf cmp one other) → IfOk result (IsLeast cmp (λ fault. P fault ⊎ Q fault))
+  least_of_searches {E} P Q one other result is_one is_other is = IfOk-weaker result (IsEarlierOf cmp one other) (IsLeast cmp (λ fault. P fault ⊎ Q fault))
+      (λ found by.
+      let least = least_of_both P Q by.first by.second
+              (let S : Result (Option F) E → Type 0 = λ search. IfOk search (IsLeast cmp P) in subst S by.is_first is_one)
+              (let S : Result (Option F) E → Type 0 = λ search. IfOk search (IsLeast cmp Q) in subst S by.is_second is_other) in
+      subst (λ (it : Option F). IsLeast cmp (λ fault. P fault ⊎ Q fault) it) (sym by.is) least)
+      is
 
   module _ {X : Type 0} (P : ℕ → X → F → Type 0) (items : List X) where
     -- none yet

@@ -1,5 +1,5 @@
 -- The least of what may be found, by a total order.
-use Rattle.std.specs.Prelude.{◌≢◌, ℕ, List, Option, Some, None}
+use Rattle.std.specs.Prelude.{◌≡◌, ◌≢◌, ℕ, List, Option, Some, None, Result, Ok}
 use Rattle.std.specs.declared.cmp.Ordering.{Ordering}
 use Rattle.std.specs.declared.cmp.Ordering.TheVariants.{Greater}
 use Rattle.std.specs.Ordering.{ord_min}
@@ -16,6 +16,14 @@ module _ {F : Type 0} (cmp : F → F → Ordering) where
   earlier None other = other
   earlier (Some one) None = Some one
   earlier (Some one) (Some other) = Some (ord_min cmp one other)
+
+-- the lesser of what two searches found, both of which had memory
+pub record IsEarlierOf {F E : Type 0} (cmp : F → F → Ordering) (one other : Result (Option F) E) (found : Option F) : Type 0 where
+  pub first : Option F
+  pub second : Option F
+  pub is_first : one ≡ Ok first
+  pub is_second : other ≡ Ok second
+  pub is : found ≡ earlier cmp first second
 
 -- what P says of some item at its place
 pub record Among {X F : Type 0} (P : ℕ → X → F → Type 0) (items : List X) (fault : F) : Type 0 where

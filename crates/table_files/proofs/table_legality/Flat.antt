@@ -1,7 +1,8 @@
 -- What the three walks find is just what breaks the rules.
-use Rattle.std.proofs.Common.{◌≡◌, ◌⊎◌, inl, inr, ℕ, List, [], ◌∷◌, map, Option, refl, sym, ap, subst, ◌∙◌}
-use Rattle.groupings.specs.least_fault.Least.{Among, IsLeast, earlier}
-use Rattle.groupings.proofs.least_fault.Leasts.{least_of_both, least_same}
+use Rattle.std.proofs.Common.{◌≡◌, ◌⊎◌, inl, inr, ℕ, List, [], ◌∷◌, map, Option, Result, IfOk, refl, sym, ap, subst, ◌∙◌}
+use Rattle.std.proofs.lemmas.Result.{IfOk-weaker}
+use Rattle.groupings.specs.least_fault.Least.{Among, IsEarlierOf, IsLeast}
+use Rattle.groupings.proofs.least_fault.Leasts.{least_of_searches, least_same}
 use Rattle.round_trip.specs.Words.{Value, Null, place_at, StoreModel, Table, Column, Row, Tables, rows_in, cell_of, row_key}
 use Rattle.round_trip.specs.legality.TableBreaches.{StandsAtColumn, BreaksRowKey, BreaksForeignKey}
 use Rattle.entity_state.specs.breach_order.Founds.{found_cmp}
@@ -208,9 +209,12 @@ module _ (store : StoreModel) (tables : Tables) where
   breach_found found (inr (inr (inr reference))) = inr (reference_found found reference.0 reference.1)
 
   -- the least that the walks find is the least breach
-  pub least_breach : (cells keys references : Option Found) → IsLeast found_cmp FoundCells cells → IsLeast found_cmp FoundKeys keys
-      → IsLeast found_cmp FoundReferences references → IsLeast found_cmp (BreaksTables store tables) (earlier found_cmp (earlier found_cmp cells keys) references)
-  least_breach cells keys references first second third =
-      least_same found_cmp FoundBySome (BreaksTables store tables) (earlier found_cmp (earlier found_cmp cells keys) references) found_breaks breach_found
-      (least_of_both found_cmp found_cmp_total (λ found. FoundCells found ⊎ FoundKeys found) FoundReferences (earlier found_cmp cells keys) references
-      (least_of_both found_cmp found_cmp_total FoundCells FoundKeys cells keys first second) third)
+  pub least_breach : {E : Type 0} (cells keys references both found : Result (Option Found) E) → IfOk cells (IsLeast found_cmp FoundCells)
+      → IfOk keys (IsLeast found_cmp FoundKeys) → IfOk references (IsLeast found_cmp FoundReferences) → IfOk both (IsEarlierOf found_cmp cells keys)
+      → IfOk found (IsEarlierOf found_cmp both references) → IfOk found (IsLeast found_cmp (BreaksTables store tables))
+  least_breach cells keys references both found first second third of_tables all =
+      let InTables : Found → Type 0 = λ fault. FoundCells fault ⊎ FoundKeys fault in
+      IfOk-weaker found (IsLeast found_cmp FoundBySome) (IsLeast found_cmp (BreaksTables store tables))
+      (λ least. least_same found_cmp FoundBySome (BreaksTables store tables) least found_breaks breach_found)
+      (least_of_searches found_cmp found_cmp_total InTables FoundReferences both references found
+      (least_of_searches found_cmp found_cmp_total FoundCells FoundKeys cells keys both first second of_tables) third all)

@@ -11,7 +11,7 @@ use crate::table_legality::references::ForeignKeys;
 use edm_types::{Breach, Row, StoreModel};
 use emc_base::{Memory, Seq};
 use entity_state::Found;
-use groupings::{earlier, first_among};
+use groupings::{earlier_of, first_among};
 use std::alloc::Global;
 
 /// The first breach of the rules of tables: the least rule that is broken, at its first place. `None` comes exactly where the tables are
@@ -38,11 +38,11 @@ fn first_found(
 ) -> Result<Option<Found>, Memory>
     ensures { IfOk result (IsLeast found_cmp (BreaksTables store.now tables.now)) }
 {
-    let cells = first_among(alloc, &TableCells { tables }, store.tables.as_slice())?;
-    let keys = first_among(alloc, &TableKeys { tables }, store.tables.as_slice())?;
+    let cells = first_among(alloc, &TableCells { tables }, store.tables.as_slice());
+    let keys = first_among(alloc, &TableKeys { tables }, store.tables.as_slice());
     let foreign_keys = ForeignKeys { store, tables };
-    let references = first_among(alloc, &foreign_keys, store.keys.as_slice())?;
-    Ok(earlier(earlier(cells, keys), references))
+    let references = first_among(alloc, &foreign_keys, store.keys.as_slice());
+    earlier_of(earlier_of(cells, keys), references)
 }
 
 /// The law that legal tables have no breach: so each answer of [`first_breach`] comes exactly where its word holds.
