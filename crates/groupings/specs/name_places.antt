@@ -1,3 +1,4 @@
 pub mod GivenNames
+pub mod Hashes
 pub mod PlacesIn
 pub mod Fronts

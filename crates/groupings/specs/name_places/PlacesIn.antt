@@ -1,6 +1,6 @@
 -- The places of names, as they are known.
 use Rattle.std.specs.Prelude.{ℕ, List, Option}
-use Rattle.std.specs.BTreeMap.{get_by_text}
+use Rattle.indexmap.specs.IndexMap.{get_by_text}
 use Rattle.groupings.specs.declared.name_places.places.Places.{Places}
 
 -- the place that is known of a name

@@ -1,17 +1,18 @@
 ghost use Rattle.std.specs.Prelude.{◌≡◌, ◌↔◌, List, ℕ, IfOk, IsTrue, OnOk};
-ghost use Rattle.std.specs.BTreeMap.{get_by_text};
+ghost use Rattle.indexmap.specs.IndexMap.{get_by_text};
 ghost use Rattle.groupings.specs.name_places.GivenNames.{first_place, noted, IsGivenBefore};
 ghost use Rattle.groupings.specs.name_places.PlacesIn.{place_in};
 
+use crate::name_places::hashes::NameHashes;
 use crate::name_places::named::Named;
 use emc_base::{Memory, Seq, Txt};
+use indexmap::IndexMap;
 use std::alloc::Global;
-use std::collections::BTreeMap;
 
 /// The names of a list, each with the place where it is given first.
 #[derive(Drop)]
 pub struct Places {
-    by_name: BTreeMap<String, usize>,
+    by_name: IndexMap<String, usize, NameHashes>,
 }
 
 impl Places {
@@ -35,7 +36,7 @@ impl Places {
 pub fn first_places<T: Named>(alloc: Global, items: &[T]) -> Result<Places, Memory>
     ensures { IfOk result (λ places. place_in places ≡ first_place T.name_in items.now) }
 {
-    let mut by_name = BTreeMap::new(alloc);
+    let mut by_name = IndexMap::with_hasher(alloc, NameHashes::of(items));
     for (place, item) in items.iter().enumerate() {
         note_place(alloc, &mut by_name, item.name(), place)?;
     }
@@ -53,7 +54,7 @@ pub fn places_of<T: Named>(alloc: Global, items: &Seq<T>) -> Result<Places, Memo
 // Notes the place of a name, unless the name has one.
 fn note_place(
     alloc: Global,
-    by_name: &mut BTreeMap<String, usize>,
+    by_name: &mut IndexMap<String, usize, NameHashes>,
     name: &Txt,
     place: usize,
 ) -> Result<(), Memory>

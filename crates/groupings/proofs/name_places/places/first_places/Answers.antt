@@ -1,7 +1,7 @@
 use Rattle.std.proofs.Common.{ap, ◌∙◌, refl}
 use Rattle.std.proofs.lemmas.List.{take_all}
 use Rattle.std.proofs.lemmas.Option.{slice_get_read}
-use Rattle.std.specs.BTreeMap.{get_by_text}
+use Rattle.indexmap.specs.IndexMap.{get_by_text}
 use Rattle.groupings.specs.name_places.GivenNames.{first_place}
 use Rattle.groupings.proofs.name_places.FirstPlaces.{noted_more}
 use Rattle.groupings.proofs.name_places.places.first_places.Goals as goal

@@ -1,5 +1,5 @@
 use Rattle.std.proofs.Common.{◌≡◌, List, ℕ, take}
-use Rattle.std.specs.BTreeMap.{get_by_text}
+use Rattle.indexmap.specs.IndexMap.{get_by_text}
 use Rattle.groupings.specs.name_places.GivenNames.{first_place}
 use Rattle.groupings.proofs.name_places.places.first_places.Given as goal
 
