@@ -1,5 +1,6 @@
 -- Names that are given twice in a type, looked for at the place of the type.
-use Rattle.std.proofs.Common.{◌≡◌, ◌↔◌, ℕ, codes, slice_get, MatchOption, Option, Some, sym, subst}
+use Rattle.std.proofs.Common.{◌≡◌, ◌↔◌, ℕ, codes, slice_get, MatchOption, Option, Some, Result, IfOk, sym, subst}
+use Rattle.std.proofs.lemmas.Result.{IfOk-weaker}
 use Rattle.groupings.specs.least_fault.Least.{IsLeast}
 use Rattle.groupings.proofs.least_fault.Leasts.{least_same}
 use Rattle.layouts.specs.declared.fault.Fault.{Fault}
@@ -20,8 +21,9 @@ module _ (model : RawModel) where
   at_place i type fault found is =
       subst (λ (other : Option RawType). MatchOption other ⊥ (λ one. IsRepeatedInType i one fault) ↔ IsRepeatedInType i type fault) (sym is) (λ holds. holds, λ holds. holds)
 
-  pub types_found : (found : Option Fault) → IsLeast fault_cmp (InList (codes "EntityType") IsWrongAt model.types) found
-      → IsLeast fault_cmp (InList (codes "EntityType") IsRepeatedInType model.types) found
-  types_found found = least_same fault_cmp (InList (codes "EntityType") IsWrongAt model.types) (InList (codes "EntityType") IsRepeatedInType model.types) found
+  pub types_found : {E : Type 0} (found : Result (Option Fault) E) → IfOk found (IsLeast fault_cmp (InList (codes "EntityType") IsWrongAt model.types))
+      → IfOk found (IsLeast fault_cmp (InList (codes "EntityType") IsRepeatedInType model.types))
+  types_found found = IfOk-weaker found (IsLeast fault_cmp (InList (codes "EntityType") IsWrongAt model.types)) (IsLeast fault_cmp (InList (codes "EntityType") IsRepeatedInType model.types))
+      (λ least. least_same fault_cmp (InList (codes "EntityType") IsWrongAt model.types) (InList (codes "EntityType") IsRepeatedInType model.types) least
       (in_list_at (codes "EntityType") IsWrongAt IsRepeatedInType model.types (λ i type here fault. (at_place i type fault (slice_get model.types i) here).0))
-      (in_list_at (codes "EntityType") IsRepeatedInType IsWrongAt model.types (λ i type here fault. (at_place i type fault (slice_get model.types i) here).1))
+      (in_list_at (codes "EntityType") IsRepeatedInType IsWrongAt model.types (λ i type here fault. (at_place i type fault (slice_get model.types i) here).1)))

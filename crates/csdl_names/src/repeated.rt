@@ -1,4 +1,6 @@
-ghost use Rattle.std.specs.Prelude.{◌≡◌, IfOk};
+ghost use Rattle.std.specs.Prelude.{◌≡◌, IfOk, codes};
+ghost use Rattle.json_form.specs.declared.pointer.Step.TheVariants.{Member};
+ghost use Rattle.layouts.specs.Inside.{Under};
 ghost use Rattle.groupings.specs.least_fault.Least.{IsLeast};
 ghost use Rattle.layouts.specs.Faults.{fault_cmp};
 ghost use Rattle.groupings.specs.name_places.GivenNames.{first_place};
@@ -9,7 +11,7 @@ ghost use Rattle.csdl_names.specs.Repeated.{IsRepeated, IsRepeatedInBoth, IsRepe
 use crate::csdl_lists::{RawAssociation, RawContainer, RawEnum, RawModel, RawType, Scope};
 use crate::lookups::Lookups;
 use emc_base::{Memory, Seq};
-use groupings::{Finder, Named, Places, earlier, places_of};
+use groupings::{Finder, Named, Places, earlier_of, places_of};
 use layouts::{Again, Fault, behind_member, first_at, first_twice};
 use std::alloc::Global;
 
@@ -86,15 +88,15 @@ fn first_in_both<T: Named, U: Named>(
     ensures { IfOk result (λ found. IsLeast fault_cmp (IsRepeatedInBoth T.name_in U.name_in first.now firsts.now second.now seconds.now) found) }
 {
     let known = places_of(alloc, firsts)?;
-    let found = first_twice(alloc, first, "Name", firsts, &known)?;
+    let found = first_twice(alloc, first, "Name", firsts, &known);
     let search = Again {
         others: &[&known],
         items: seconds,
         own,
         last: "Name",
     };
-    let other = search.first_again(alloc, second)?;
-    Ok(earlier(found, other))
+    let other = search.first_again(alloc, second);
+    earlier_of(found, other)
 }
 
 // The least of the names of associations, types and enumeration types that are given twice.
@@ -108,32 +110,32 @@ fn first_in_schema(alloc: Global, model: &RawModel, scope: &Scope) -> Result<Opt
         "Name",
         &model.associations,
         &scope.associations,
-    )?;
+    );
     let types = Again {
         others: &[&scope.associations],
         items: &model.types,
         own: &scope.types,
         last: "Name",
     };
-    let of_types = types.first_again(alloc, "EntityType")?;
+    let of_types = types.first_again(alloc, "EntityType");
     let enums = Again {
         others: &[&scope.associations, &scope.types],
         items: &model.enums,
         own: &scope.enums,
         last: "Name",
     };
-    let of_enums = enums.first_again(alloc, "EnumType")?;
-    Ok(earlier(of_associations, earlier(of_types, of_enums)))
+    let of_enums = enums.first_again(alloc, "EnumType");
+    earlier_of(of_associations, earlier_of(of_types, of_enums))
 }
 
-// The least of the names of sets that are given twice.
+// The least of the names of sets that are given twice, seen from the model.
 fn first_in_container(
     alloc: Global,
     container: &RawContainer,
     scope: &Scope,
 ) -> Result<Option<Fault>, Memory>
     requires { place_in scope.now.sets ≡ first_place (λ set. set.name) container.now.sets }
-    ensures { IfOk result (λ found. IsLeast fault_cmp (IsRepeatedInContainer container.now) found) }
+    ensures { IfOk result (λ found. IsLeast fault_cmp (Under (Member (codes "EntityContainer")) (IsRepeatedInContainer container.now)) found) }
 {
     let found = first_in_both(
         alloc,
@@ -143,7 +145,7 @@ fn first_in_container(
         &container.sets,
         &scope.sets,
     )?;
-    Ok(found)
+    behind_member(alloc, "EntityContainer", found)
 }
 
 /// The least of the names that are given twice in their scope. Of two names the later one is told, in the order of places.
@@ -154,12 +156,11 @@ pub fn first_repeated(alloc: Global, lookups: &Lookups<'_>) -> Result<Option<Fau
 {
     let model = lookups.model;
     let scope = lookups.scope;
-    let schema = first_in_schema(alloc, model, scope)?;
-    let inside = first_in_container(alloc, &model.container, scope)?;
-    let container = behind_member(alloc, "EntityContainer", inside)?;
-    let types = first_at(alloc, "EntityType", &InTypes { lookups }, &model.types)?;
-    let enums = first_at(alloc, "EnumType", &Inside {}, &model.enums)?;
-    let roles = first_at(alloc, "Association", &Inside {}, &model.associations)?;
-    let in_items = earlier(types, earlier(enums, roles));
-    Ok(earlier(schema, earlier(container, in_items)))
+    let schema = first_in_schema(alloc, model, scope);
+    let container = first_in_container(alloc, &model.container, scope);
+    let types = first_at(alloc, "EntityType", &InTypes { lookups }, &model.types);
+    let enums = first_at(alloc, "EnumType", &Inside {}, &model.enums);
+    let roles = first_at(alloc, "Association", &Inside {}, &model.associations);
+    let in_items = earlier_of(types, earlier_of(enums, roles));
+    earlier_of(schema, earlier_of(container, in_items))
 }

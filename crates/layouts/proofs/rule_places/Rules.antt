@@ -1,5 +1,5 @@
 -- Faults of rules: by what a test says, by the numbers of rules, and by the places of items.
-use Rattle.std.proofs.Common.{◌≡◌, ◌≢◌, ◌↔◌, ◌⊎◌, ⊎_elim, inl, inr, ℕ, ◌<◌, ◌≤◌, List, ◌∷◌, MatchOption, Option, Some, None, refl, sym, ap, subst, ◌∙◌, arith}
+use Rattle.std.proofs.Common.{◌≡◌, ◌≢◌, ◌↔◌, ◌⊎◌, ⊎_elim, inl, inr, ℕ, ◌<◌, ◌≤◌, List, ◌∷◌, MatchOption, Option, Some, None, Result, IfOk, refl, sym, ap, subst, ◌∙◌, arith}
 use Rattle.std.specs.declared.cmp.Ordering.{Ordering}
 use Rattle.std.specs.declared.cmp.Ordering.TheVariants.{Less, Equal, Greater}
 use Rattle.std.specs.Cmp.{nat_cmp_is, nat_cmp_total, tied_itself}
@@ -10,8 +10,8 @@ use Rattle.emc_base.specs.Lists.{At}
 use Rattle.json_form.specs.declared.pointer.Step.{Step}
 use Rattle.json_form.specs.declared.pointer.Step.TheVariants.{Member, Item}
 use Rattle.json_form.specs.Pointers.{steps_cmp}
-use Rattle.groupings.specs.least_fault.Least.{IsLeast, earlier}
-use Rattle.groupings.proofs.least_fault.Leasts.{least_of_both, least_same}
+use Rattle.groupings.specs.least_fault.Least.{IsEarlierOf, IsLeast, earlier}
+use Rattle.groupings.proofs.least_fault.Leasts.{least_of_both, least_of_searches, least_same}
 use Rattle.layouts.specs.declared.fault.Fault.{Fault}
 use Rattle.layouts.specs.declared.rule.Rule.{Rule}
 use Rattle.layouts.specs.FaultOrder.{fault_cmp_total}
@@ -177,6 +177,11 @@ pub least_joined : (P Q : Fault → Type 0) (one other both : Option Fault) → 
     → IsLeast fault_cmp (λ fault. P fault ⊎ Q fault) both
 least_joined P Q one other both is first second = subst (λ (found : Option Fault). IsLeast fault_cmp (λ fault. P fault ⊎ Q fault) found) (sym is)
     (least_of_both fault_cmp fault_cmp_total P Q one other first second)
+
+-- the same of searches that may lack memory
+pub least_searches : {E : Type 0} (P Q : Fault → Type 0) (one other both : Result (Option Fault) E) → IfOk both (IsEarlierOf fault_cmp one other)
+    → IfOk one (IsLeast fault_cmp P) → IfOk other (IsLeast fault_cmp Q) → IfOk both (IsLeast fault_cmp (λ fault. P fault ⊎ Q fault))
+least_searches P Q one other both is first second = least_of_searches fault_cmp fault_cmp_total P Q one other both first second is
 
 -- a search that asks for something which is there
 pub least_where_some : {X : Type 0} (P : X → Fault → Type 0) (known : Option X) (x : X) (found : Option Fault) → known ≡ Some x → IsLeast fault_cmp (P x) found
