@@ -1,5 +1,5 @@
-mod Texts
 pub mod Lists
+pub mod facts
 pub mod Loops
 pub mod Mapped
 pub mod Numbered

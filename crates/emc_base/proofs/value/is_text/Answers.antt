@@ -1,7 +1,7 @@
 use Rattle.std.proofs.Common.{◌↔◌, ℕ, length, ◌∙◌, ap, sym, subst}
 use Rattle.std.specs.Str.{chars}
 use Rattle.emc_base.specs.Domain.{IsWithin, IsText}
-use Rattle.emc_base.proofs.Texts.{IsText-chars}
+use Rattle.emc_base.proofs.facts.Texts.{IsText-chars}
 use Rattle.emc_base.proofs.value.is_text.Goals as goal
 
 pub returns : goal.returns

@@ -1,0 +1,11 @@
+pub mod Behind
+pub mod Domains
+pub mod Found
+pub mod Images
+pub mod Keys
+pub mod Orderings
+pub mod Pairs
+pub mod Standing
+pub mod Tests
+pub mod Zipped
+pub mod Texts
