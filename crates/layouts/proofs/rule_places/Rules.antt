@@ -6,6 +6,7 @@ use Rattle.std.specs.Cmp.{nat_cmp_is, nat_cmp_total, tied_itself}
 use Rattle.std.specs.Option.{option_map}
 use Rattle.std.specs.Ordering.{nat_cmp, ordering_then}
 use Rattle.std.proofs.lemmas.Bool.{cases_lt}
+use Rattle.std.proofs.lemmas.Result.{IfOk-weaker}
 use Rattle.emc_base.specs.Lists.{At}
 use Rattle.json_form.specs.declared.pointer.Step.{Step}
 use Rattle.json_form.specs.declared.pointer.Step.TheVariants.{Member, Item}
@@ -26,6 +27,11 @@ pub least_where : {B P : Type 0} (Q : Fault → Type 0) (found : Option Fault) �
     → IsLeast fault_cmp (λ fault. P × Q fault) found
 least_where {B} {P} Q found same = least_same fault_cmp (λ fault. B × Q fault) (λ fault. P × Q fault) found
     (λ fault holds. (same.0 holds.0, holds.1)) (λ fault holds. (same.1 holds.0, holds.1))
+
+-- the same of a search that may lack memory
+pub least_searched : {E B P : Type 0} (Q : Fault → Type 0) (found : Result (Option Fault) E) → (B ↔ P) → IfOk found (IsLeast fault_cmp (λ fault. B × Q fault))
+    → IfOk found (IsLeast fault_cmp (λ fault. P × Q fault))
+least_searched {E} {B} {P} Q found same = IfOk-weaker found (IsLeast fault_cmp (λ fault. B × Q fault)) (IsLeast fault_cmp (λ fault. P × Q fault)) (λ least. least_where Q least same)
 
 -- the least in a list is that in an equal list
 pub least_in_same : {X : Type 0} (member : List ℕ) (P : ℕ → X → Fault → Type 0) (items others : List X) (found : Option Fault) → items ≡ others

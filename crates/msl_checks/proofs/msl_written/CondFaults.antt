@@ -1,19 +1,16 @@
 -- What is wrong with a condition, by what it is on.
 use Rattle.std.proofs.Common.{◌↔◌, ◌⊎◌, ⊎_elim, List, [], ◌∷◌, codes, MatchOption, Option, Some, None}
 use Rattle.std.specs.Option.{option_and_then, option_map}
-use Rattle.json_form.specs.declared.pointer.Step.TheVariants.{Member}
 use Rattle.layouts.specs.declared.fault.Fault.{Fault}
-use Rattle.layouts.specs.declared.rule.Rule.TheVariants.{ConditionForm, ConditionValue, ForeignValue, KeyCondition}
-use Rattle.layouts.specs.rule_places.Places.{IsAt}
 use Rattle.round_trip.specs.Words.{Cond, CondOn, PropId}
 use Rattle.round_trip.specs.soundness.mappings.Joined.{ComparesNoBarred}
 use Rattle.msl_rules.specs.declared.msl_lists.raw.RawCond.{RawCond}
 use Rattle.msl_rules.specs.Found.{on_in, test_of}
-use Rattle.msl_rules.specs.FragmentRules.{IsIllFormed, IsOfKey}
 use Rattle.msl_meaning.specs.declared.msl_found.in_table.InTable.{InTable}
 use Rattle.msl_meaning.specs.msl_found.NamedAt.{named_at}
 use Rattle.msl_checks.specs.declared.msl_written.writing.Writing.{Writing}
-use Rattle.msl_checks.specs.msl_written.Within.{ComparesBarred, GivesNoValue, kind_in, named_in, schema_in, table_in}
+use Rattle.msl_checks.specs.msl_written.Within.{ComparesBarred, kind_in, schema_in, table_in}
+use Rattle.msl_checks.specs.msl_written.OnConditions.{IsForeign, IsKey, IsOn, IsValue}
 
 -- of nothing that is made of something
 pub made_of : {X Y : Type 0} (P : Y → Type 0) (f : X → Y) (o : Option X) → MatchOption o ⊥ (λ x. P (f x)) ↔ MatchOption (option_map f o) ⊥ P
@@ -29,33 +26,11 @@ abbrev pub on_by : RawCond → InTable → Option CondOn
 on_by cond found = on_in found.names.now.model.now found.names.now.store.now (named_at found.names.now.model.now found.ty) found.table cond
 
 module _ (writing : Writing) (key : List PropId) (cond : RawCond) where
-  -- V33
-  abbrev pub IsForm : Fault → Type 0
-  IsForm fault = IsIllFormed cond × IsAt ConditionForm [] fault
-
-  -- V34, of a condition that is on this
-  abbrev pub IsValue : Option CondOn → Fault → Type 0
-  IsValue known fault = MatchOption cond.value ⊥ (λ text. MatchOption known ⊥ (GivesNoValue writing text)) × IsAt ConditionValue (Member (codes "Value") ∷ []) fault
-
-  -- V35
-  abbrev pub IsKey : Option CondOn → Fault → Type 0
-  IsKey known fault = MatchOption known ⊥ (IsOfKey (schema_in writing.between) (named_in writing) writing.table key) × IsAt KeyCondition [] fault
-
-  -- V38
-  abbrev pub IsForeign : Option CondOn → Fault → Type 0
-  IsForeign known fault =
-      MatchOption (option_and_then (λ what. option_map (λ test. record { on = what; test = test }) (test_of (kind_in writing what) cond.value cond.is_null)) known) ⊥
-      (λ (meant : Cond). ¬ ComparesNoBarred (schema_in writing.between) (table_in writing) meant) × IsAt ForeignValue [] fault
-
-  -- these
-  abbrev pub IsOn : Option CondOn → Fault → Type 0
-  IsOn known fault = IsValue known fault ⊎ IsKey known fault ⊎ IsForeign known fault
-
   -- nothing of these is wrong with a condition that is on nothing
-  pub on_nothing : (fault : Fault) → ¬ IsOn None fault
+  pub on_nothing : (fault : Fault) → ¬ IsOn writing key cond None fault
   on_nothing fault =
-      ⊎_elim (λ (value : IsValue None fault). never_some cond.value value.0)
-      (⊎_elim (λ (of_key : IsKey None fault). of_key.0) (λ (foreign : IsForeign None fault). foreign.0))
+      ⊎_elim (λ (value : IsValue writing key cond None fault). never_some cond.value value.0)
+      (⊎_elim (λ (of_key : IsKey writing key cond None fault). of_key.0) (λ (foreign : IsForeign writing key cond None fault). foreign.0))
 
   -- what compares with what is barred
   pub compares : (what : CondOn) → ComparesBarred writing what cond

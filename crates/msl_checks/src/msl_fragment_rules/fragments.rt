@@ -10,7 +10,7 @@ ghost use Rattle.msl_checks.specs.msl_fragment_rules.FragmentFaults.{IsBroken};
 use crate::msl_fragment_rules::key::{leaves_key, set_key};
 use crate::msl_written::{Between, MeantPairs, Writing, first_condition_fault};
 use emc_base::Memory;
-use groupings::{Finder, earlier};
+use groupings::{Finder, earlier_of};
 use layouts::{Fault, Rule, behind_member, fault_here_if, first_at};
 use msl_meaning::picked_type;
 use msl_rules::{RawFragment, RawMapping, RawSetMapping, RawTypeMapping};
@@ -58,15 +58,15 @@ fn first_broken(
     ensures { IfOk result (λ found. IsLeast fault_cmp (IsBroken (schema_in writing.now.between) (named_in writing.now) set writing.now.table fragment.now) found) }
 {
     let pairs = MeantPairs::of(alloc, writing, &fragment.pairs)?;
-    let unfit = pairs.first_unfit(alloc)?;
     let leaves_key = leaves_key(alloc, &pairs, set)?;
-    let unwritten = fault_here_if(alloc, leaves_key, Rule::WritesKey)?;
     let key = set_key(writing.between.names.model, set);
-    let cond = first_condition_fault(alloc, writing, key, &fragment.conds)?;
-    let foreign = pairs.first_enum(alloc)?;
-    let again = pairs.first_again(alloc)?;
-    let behind = earlier(cond, earlier(foreign, again));
-    Ok(earlier(unfit, earlier(unwritten, behind)))
+    let unfit = pairs.first_unfit(alloc);
+    let unwritten = fault_here_if(alloc, leaves_key, Rule::WritesKey);
+    let cond = first_condition_fault(alloc, writing, key, &fragment.conds);
+    let foreign = pairs.first_enum(alloc);
+    let again = pairs.first_again(alloc);
+    let behind = earlier_of(cond, earlier_of(foreign, again));
+    earlier_of(unfit, earlier_of(unwritten, behind))
 }
 
 /// Searches the type mappings of a set.

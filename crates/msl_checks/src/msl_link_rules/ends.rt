@@ -12,7 +12,7 @@ use crate::msl_link_rules::of_link::OfLink;
 use crate::msl_written::{MeantPairs, Writing};
 use edm_types::End;
 use emc_base::Memory;
-use groupings::{Finder, earlier};
+use groupings::{Finder, earlier_of};
 use layouts::{Fault, Rule, fault_here_if};
 use msl_rules::RawEndMapping;
 use std::alloc::Global;
@@ -67,15 +67,15 @@ impl<'a> InEnds<'a> {
             table: self.table,
         };
         let pairs = MeantPairs::of(alloc, &writing, &end.pairs)?;
-        let unfit = pairs.first_unfit(alloc)?;
         let is_unwritten = is_key_unwritten(alloc, &self.of.between, self.table, known, end)?;
-        let key = fault_here_if(alloc, is_unwritten, Rule::WritesKey)?;
+        let unfit = pairs.first_unfit(alloc);
+        let key = fault_here_if(alloc, is_unwritten, Rule::WritesKey);
         let search = AtEnd {
             columns: self.columns,
             ends: &self.of.link.ends,
             place,
         };
-        let again = search.first_again(alloc, end)?;
-        Ok(earlier(unfit, earlier(key, again)))
+        let again = search.first_again(alloc, end);
+        earlier_of(unfit, earlier_of(key, again))
     }
 }

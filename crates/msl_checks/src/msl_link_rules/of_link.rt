@@ -13,7 +13,7 @@ use crate::msl_link_rules::ends::InEnds;
 use crate::msl_written::Between;
 use edm_types::{Assoc, End};
 use emc_base::{Memory, Txt};
-use groupings::earlier;
+use groupings::{earlier, earlier_of};
 use layouts::{Fault, Rule, fault_here_if, fault_if, first_at};
 use msl_meaning::make_link;
 use msl_rules::RawLinkMapping;
@@ -78,11 +78,11 @@ impl<'a> OfLink<'a> {
             table,
             columns: &columns,
         };
-        let ends = first_at(alloc, "EndProperty", &search, &self.link.ends)?;
-        let conds = first_link_condition_fault(alloc, &self.between, table, &self.link.conds)?;
         let is_unplaced = self.is_unplaced(alloc, table)?;
-        let placing = fault_here_if(alloc, is_unplaced, Rule::LinkPlace)?;
-        Ok(earlier(ends, earlier(conds, placing)))
+        let ends = first_at(alloc, "EndProperty", &search, &self.link.ends);
+        let conds = first_link_condition_fault(alloc, &self.between, table, &self.link.conds);
+        let placing = fault_here_if(alloc, is_unplaced, Rule::LinkPlace);
+        earlier_of(ends, earlier_of(conds, placing))
     }
 
     // Whether the links are neither hosted nor joined in the table at a place.

@@ -1,4 +1,4 @@
-ghost use Rattle.std.specs.Prelude.{◌≡◌, ◌↔◌, ◌⊎◌, codes, IfOk, IsTrue, MatchOption};
+ghost use Rattle.std.specs.Prelude.{◌≡◌, ◌↔◌, ◌⊎◌, codes, IfOk, IsTrue, MatchOption, Some};
 ghost use Rattle.std.specs.Option.{is_some};
 ghost use Rattle.groupings.specs.least_fault.Least.{IsLeast};
 ghost use Rattle.layouts.specs.Faults.{fault_cmp};
@@ -6,11 +6,12 @@ ghost use Rattle.layouts.specs.rule_places.Places.{InList};
 ghost use Rattle.msl_rules.specs.condition_values.Spelled.{spelled};
 ghost use Rattle.msl_rules.specs.FragmentRules.{IsCondFault, IsIllFormed, IsOfKey};
 ghost use Rattle.msl_checks.specs.msl_written.Within.{ComparesBarred, GivesNoValue, named_in, schema_in};
+ghost use Rattle.msl_checks.specs.msl_written.OnConditions.{IsOn};
 
 use crate::msl_written::writing::Writing;
 use edm_types::CondOn;
 use emc_base::{Kind, Memory, PropId, Seq, Txt};
-use groupings::{Finder, earlier};
+use groupings::{Finder, earlier_of};
 use layouts::{Fault, Rule, fault_here_if, fault_if, first_at};
 use msl_rules::{RawCond, spelled, value_of};
 use std::alloc::Global;
@@ -30,17 +31,32 @@ impl<'a> Finder<RawCond, Fault> for Conditions<'a> {
     ghost wrong = { λ s. IsCondFault (schema_in s.writing.now.between) (named_in s.writing.now) s.writing.now.table s.key.now };
 
     fn find(&self, alloc: Global, _: usize, item: &RawCond) -> Result<Option<Fault>, Memory> {
-        let form = fault_here_if(alloc, is_ill_formed(item), Rule::ConditionForm)?;
+        let form = fault_here_if(alloc, is_ill_formed(item), Rule::ConditionForm);
         let Some(what) = self.writing.found().condition_on(item) else {
-            return Ok(form);
+            return form;
         };
-        let has_no_value = has_no_value(alloc, self.writing, what, item)?;
-        let value = fault_if(alloc, has_no_value, Rule::ConditionValue, "Value")?;
+        let on = self.first_on(alloc, what, item);
+        earlier_of(form, on)
+    }
+}
+
+impl<'a> Conditions<'a> {
+    // The least of what is wrong with a condition on what is known (V34, V35 and V38).
+    fn first_on(
+        &self,
+        alloc: Global,
+        what: CondOn,
+        cond: &RawCond,
+    ) -> Result<Option<Fault>, Memory>
+        ensures { IfOk result (λ found. IsLeast fault_cmp (IsOn self.now.writing.now self.now.key.now cond.now (Some what)) found) }
+    {
+        let has_no_value = has_no_value(alloc, self.writing, what, cond)?;
+        let is_foreign = is_foreign(alloc, self.writing, what, cond)?;
         let is_of_key = is_of_key(self.writing, self.key, what);
-        let key = fault_here_if(alloc, is_of_key, Rule::KeyCondition)?;
-        let is_foreign = is_foreign(alloc, self.writing, what, item)?;
-        let foreign = fault_here_if(alloc, is_foreign, Rule::ForeignValue)?;
-        Ok(earlier(form, earlier(value, earlier(key, foreign))))
+        let value = fault_if(alloc, has_no_value, Rule::ConditionValue, "Value");
+        let key = fault_here_if(alloc, is_of_key, Rule::KeyCondition);
+        let foreign = fault_here_if(alloc, is_foreign, Rule::ForeignValue);
+        earlier_of(value, earlier_of(key, foreign))
     }
 }
 

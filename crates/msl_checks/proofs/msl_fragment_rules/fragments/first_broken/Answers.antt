@@ -1,10 +1,10 @@
-use Rattle.std.proofs.Common.{◌⊎◌, ◌↔◌, List, [], codes, IsTrue, subst, subst₂}
+use Rattle.std.proofs.Common.{◌⊎◌, ◌↔◌, List, [], codes, IfOk, IsTrue, subst, subst₂}
 use Rattle.groupings.specs.least_fault.Least.{IsLeast}
 use Rattle.layouts.specs.declared.fault.Fault.{Fault}
 use Rattle.layouts.specs.declared.rule.Rule.TheVariants.{WritesKey, WrittenOnce}
 use Rattle.layouts.specs.Faults.{fault_cmp}
 use Rattle.layouts.specs.rule_places.Places.{IsAt, InList}
-use Rattle.layouts.proofs.rule_places.Rules.{least_joined, least_where}
+use Rattle.layouts.proofs.rule_places.Rules.{least_searched, least_searches}
 use Rattle.round_trip.specs.Words.{PropId}
 use Rattle.round_trip.specs.soundness.Lookups.{set_key}
 use Rattle.msl_rules.specs.declared.msl_lists.raw.RawPair.{RawPair}
@@ -29,20 +29,22 @@ returns c =
     let Again : Fault → Type 0 = InList (codes "ScalarProperty") (λ k pair inside. IsWrittenBefore fragment.pairs k pair × IsAt WrittenOnce [] inside) fragment.pairs in
     let same = c.in_ok-pairs.ensures in
     let UnfitIn : Writing → List RawPair → Type 0 =
-    λ within pairs. IsLeast fault_cmp (InList (codes "ScalarProperty") (IsUnfitFault (schema_in within.between) (named_in within) within.table) pairs) c.in_ok-unfit.unfit in
-    let unfit = subst₂ UnfitIn same.writing same.pairs c.in_ok-unfit.ensures in
+    λ within pairs. IfOk c.first_unfit.result (IsLeast fault_cmp (InList (codes "ScalarProperty") (IsUnfitFault (schema_in within.between) (named_in within) within.table) pairs)) in
+    let unfit = subst₂ UnfitIn same.writing same.pairs c.first_unfit.ensures in
     let ForeignIn : Writing → List RawPair → Type 0 =
-    λ within pairs. IsLeast fault_cmp (InList (codes "ScalarProperty") (IsEnumFault (schema_in within.between) (named_in within) within.table) pairs) c.in_ok-foreign.foreign in
-    let foreign = subst₂ ForeignIn same.writing same.pairs c.in_ok-foreign.ensures in
+    λ within pairs. IfOk c.first_enum.result (IsLeast fault_cmp (InList (codes "ScalarProperty") (IsEnumFault (schema_in within.between) (named_in within) within.table) pairs)) in
+    let foreign = subst₂ ForeignIn same.writing same.pairs c.first_enum.ensures in
     let LeavesIn : Writing → List RawPair → Type 0 = λ within pairs. IsTrue c.in_ok-leaves_key.leaves_key ↔ LeavesKey (schema_in within.between) (named_in within) c.args.set within.table pairs in
     let leaves = subst₂ LeavesIn same.writing same.pairs c.in_ok-leaves_key.ensures in
-    let unwritten = least_where (IsAt WritesKey []) c.in_ok-unwritten.unwritten leaves c.in_ok-unwritten.ensures in
-    let Found : List PropId → Type 0 = λ props. IsLeast fault_cmp (Cond props) c.in_ok-cond.cond in
-    let cond = subst Found c.set_key-key.ensures c.in_ok-cond.ensures in
-    let AgainIn : List RawPair → Type 0 = λ pairs. IsLeast fault_cmp (InList (codes "ScalarProperty") (λ k pair inside. IsWrittenBefore pairs k pair × IsAt WrittenOnce [] inside) pairs) c.in_ok-again.again in
-    let again = subst AgainIn same.pairs c.in_ok-again.ensures in
-    least_joined Unfit (λ fault. Unwritten fault ⊎ Cond key fault ⊎ Foreign fault ⊎ Again fault) c.in_ok-unfit.unfit c.earlier-2.result c.earlier-3.result c.earlier-3.ensures
-    unfit
-    (least_joined Unwritten (λ fault. Cond key fault ⊎ Foreign fault ⊎ Again fault) c.in_ok-unwritten.unwritten c.earlier-behind.result c.earlier-2.result c.earlier-2.ensures unwritten
-    (least_joined (Cond key) (λ fault. Foreign fault ⊎ Again fault) c.in_ok-cond.cond c.earlier.result c.earlier-behind.result c.earlier-behind.ensures cond
-    (least_joined Foreign Again c.in_ok-foreign.foreign c.in_ok-again.again c.earlier.result c.earlier.ensures foreign again)))
+    let unwritten = least_searched (IsAt WritesKey []) c.fault_here_if.result leaves c.fault_here_if.ensures in
+    let Found : List PropId → Type 0 = λ props. IfOk c.first_condition_fault.result (IsLeast fault_cmp (Cond props)) in
+    let cond = subst Found c.set_key-key.ensures c.first_condition_fault.ensures in
+    let AgainIn : List RawPair → Type 0 = λ pairs. IfOk c.first_again.result (IsLeast fault_cmp (InList (codes "ScalarProperty") (λ k pair inside. IsWrittenBefore pairs k pair × IsAt WrittenOnce [] inside) pairs)) in
+    let again = subst AgainIn same.pairs c.first_again.ensures in
+    least_searches Unfit (λ fault. Unwritten fault ⊎ Cond key fault ⊎ Foreign fault ⊎ Again fault) c.first_unfit.result c.earlier_of-2.result c.earlier_of-3.result
+    c.earlier_of-3.ensures unfit
+    (least_searches Unwritten (λ fault. Cond key fault ⊎ Foreign fault ⊎ Again fault) c.fault_here_if.result c.earlier_of-behind.result c.earlier_of-2.result
+    c.earlier_of-2.ensures unwritten
+    (least_searches (Cond key) (λ fault. Foreign fault ⊎ Again fault) c.first_condition_fault.result c.earlier_of.result c.earlier_of-behind.result
+    c.earlier_of-behind.ensures cond
+    (least_searches Foreign Again c.first_enum.result c.first_again.result c.earlier_of.result c.earlier_of.ensures foreign again)))

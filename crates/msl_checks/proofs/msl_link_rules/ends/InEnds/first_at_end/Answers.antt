@@ -1,10 +1,10 @@
-use Rattle.std.proofs.Common.{◌⊎◌, List, [], codes, subst₂}
+use Rattle.std.proofs.Common.{◌⊎◌, List, [], codes, IfOk, subst₂}
 use Rattle.groupings.specs.least_fault.Least.{IsLeast}
 use Rattle.layouts.specs.declared.fault.Fault.{Fault}
 use Rattle.layouts.specs.declared.rule.Rule.TheVariants.{WritesKey}
 use Rattle.layouts.specs.Faults.{fault_cmp}
 use Rattle.layouts.specs.rule_places.Places.{InList, IsAt}
-use Rattle.layouts.proofs.rule_places.Rules.{least_joined, least_where}
+use Rattle.layouts.proofs.rule_places.Rules.{least_searched, least_searches}
 use Rattle.schema_names.specs.SchemaNames.{prop_named}
 use Rattle.msl_rules.specs.declared.msl_lists.raw.RawPair.{RawPair}
 use Rattle.msl_rules.specs.FragmentRules.{IsUnfitFault}
@@ -24,8 +24,8 @@ returns c =
     let Key : Fault → Type 0 = λ fault. IsEndKeyUnwritten schema self.table known end × IsAt WritesKey [] fault in
     let Again : Fault → Type 0 = WritesAgain self.of.link.now.ends c.args.place end in
     let UnfitIn : Writing → List RawPair → Type 0 =
-    λ within written. IsLeast fault_cmp (InList (codes "ScalarProperty") (IsUnfitFault (schema_in within.between) (named_in within) within.table) written) c.in_ok-unfit.unfit in
-    let unfit = subst₂ UnfitIn c.in_ok-pairs.ensures.writing c.in_ok-pairs.ensures.pairs c.in_ok-unfit.ensures in
-    least_joined Unfit (λ fault. Key fault ⊎ Again fault) c.in_ok-unfit.unfit c.earlier.result c.earlier-2.result c.earlier-2.ensures unfit
-    (least_joined Key Again c.in_ok-key.key c.in_ok-again.again c.earlier.result c.earlier.ensures
-    (least_where (IsAt WritesKey []) c.in_ok-key.key c.in_ok-is_unwritten.ensures c.in_ok-key.ensures) c.in_ok-again.ensures)
+    λ within written. IfOk c.first_unfit.result (IsLeast fault_cmp (InList (codes "ScalarProperty") (IsUnfitFault (schema_in within.between) (named_in within) within.table) written)) in
+    let unfit = subst₂ UnfitIn c.in_ok-pairs.ensures.writing c.in_ok-pairs.ensures.pairs c.first_unfit.ensures in
+    least_searches Unfit (λ fault. Key fault ⊎ Again fault) c.first_unfit.result c.earlier_of.result c.earlier_of-2.result c.earlier_of-2.ensures unfit
+    (least_searches Key Again c.fault_here_if.result c.first_again.result c.earlier_of.result c.earlier_of.ensures
+    (least_searched (IsAt WritesKey []) c.fault_here_if.result c.in_ok-is_unwritten.ensures c.fault_here_if.ensures) c.first_again.ensures)

@@ -2,7 +2,7 @@ use Rattle.std.proofs.Common.{◌⊎◌, [], codes}
 use Rattle.layouts.specs.declared.fault.Fault.{Fault}
 use Rattle.layouts.specs.declared.rule.Rule.TheVariants.{LinkPlace}
 use Rattle.layouts.specs.rule_places.Places.{InList, IsAt}
-use Rattle.layouts.proofs.rule_places.Rules.{least_joined, least_where}
+use Rattle.layouts.proofs.rule_places.Rules.{least_searched, least_searches}
 use Rattle.msl_rules.specs.LinkRules.{IsEndFault, IsLinkCondFault, IsUnplaced}
 use Rattle.msl_checks.specs.msl_written.Within.{schema_in}
 use Rattle.msl_checks.proofs.msl_link_rules.of_link.OfLink.first_in_table.Goals as goal
@@ -16,6 +16,7 @@ returns c =
     let Ends : Fault → Type 0 = InList (codes "EndProperty") (IsEndFault schema link.ends self.assoc.now table) link.ends in
     let Conds : Fault → Type 0 = InList (codes "Condition") (IsLinkCondFault schema table) link.conds in
     let Placing : Fault → Type 0 = λ fault. IsUnplaced schema link self.set self.assoc.now table × IsAt LinkPlace [] fault in
-    least_joined Ends (λ fault. Conds fault ⊎ Placing fault) c.in_ok-ends.ends c.earlier.result c.earlier-2.result c.earlier-2.ensures c.in_ok-ends.ensures
-    (least_joined Conds Placing c.in_ok-conds.conds c.in_ok-placing.placing c.earlier.result c.earlier.ensures c.in_ok-conds.ensures
-    (least_where (IsAt LinkPlace []) c.in_ok-placing.placing c.in_ok-is_unplaced.ensures c.in_ok-placing.ensures))
+    least_searches Ends (λ fault. Conds fault ⊎ Placing fault) c.first_at.result c.earlier_of.result c.earlier_of-2.result c.earlier_of-2.ensures c.first_at.ensures
+    (least_searches Conds Placing c.first_link_condition_fault.result c.fault_here_if.result c.earlier_of.result c.earlier_of.ensures
+    c.first_link_condition_fault.ensures
+    (least_searched (IsAt LinkPlace []) c.fault_here_if.result c.in_ok-is_unplaced.ensures c.fault_here_if.ensures))
