@@ -1,3 +1,4 @@
 pub mod Owners
 pub mod Joined
 pub mod Owning
+pub mod Told
