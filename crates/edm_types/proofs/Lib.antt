@@ -3,3 +3,4 @@ pub mod Marks
 pub mod Derived
 pub mod Beside
 pub mod StaffForest
+pub mod Lookups

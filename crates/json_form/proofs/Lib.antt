@@ -3,3 +3,4 @@ pub mod Objects
 pub mod Members
 pub mod MemberByName
 pub mod Depths
+pub mod Told

@@ -3,3 +3,4 @@ pub mod Marks
 pub mod Numbering
 pub mod Sharing
 pub mod Telling
+pub mod Constants

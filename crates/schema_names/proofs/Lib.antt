@@ -4,3 +4,4 @@ pub mod Listed
 pub mod LookUps
 pub mod NearPlaces
 pub mod Rests
+pub mod Places

@@ -5,3 +5,4 @@ pub mod SameCells
 pub mod Sorted
 pub mod Told
 pub mod TellsApart
+pub mod RowTree

@@ -7,3 +7,4 @@ pub mod values
 pub mod Keys
 pub mod rows
 pub mod Laws
+pub mod Ends

@@ -1,2 +1,4 @@
 pub mod Owners
 pub mod Joined
+pub mod Owning
+pub mod Told
