@@ -1,17 +1,21 @@
-//! Runtimes for tests: a disk of named files whose calls may fail, and an output that takes a byte at a time.
+//! A disk for tests, of one file and its neighbour, whose calls may fail.
 ghost use Rattle.std.specs.Prelude.{IsErr};
 
-use std::alloc::Global;
-use std::cell::RefCell;
-use std::collections::BTreeMap;
-use std::fmt::Display;
+use std::cell::Cell;
 use std::fs::{Metadata, OpenFile, OpenOptions};
 use std::io;
-use std::io::{ErrorKind, Print, Read, Seek, SeekFrom, Write};
+use std::io::{ErrorKind, Read, Seek, SeekFrom, Write};
 use std::rt::Files;
 
-/// The bytes of files by their names.
-pub type NamedFiles = RefCell<BTreeMap<String, Vec<u8>>>;
+/// What a file holds: the first so many of these bytes.
+#[derive(Clone, Copy)]
+pub struct Content {
+    pub bytes: [u8; 4],
+    pub len: usize,
+}
+
+/// What a file holds, where it is there.
+pub type Held = Cell<Option<Content>>;
 
 /// What fails of a [`FakeDisk`].
 #[derive(Clone, Copy, PartialEq, Eq)]
@@ -20,17 +24,18 @@ pub enum FakeFault {
     Nothing,
     /// The first read of the byte at this place.
     ReadAt(usize),
-    /// A write to a file that has so many bytes.
+    /// A write behind so many bytes.
     WriteAt(usize),
     /// A rename.
     Rename,
 }
 
-/// A disk of named files, which are read and written a byte at a time. What fails of it fails with an error of this kind.
+/// A disk of the file `M.json` and its neighbour `M.json.new`, which are read and written a byte at a time. What fails of it fails with an
+/// error of this kind.
 #[derive(Clone, Copy)]
 pub struct FakeDisk<'d> {
-    pub alloc: Global,
-    pub files: &'d NamedFiles,
+    pub file: &'d Held,
+    pub neighbour: &'d Held,
     pub fault: FakeFault,
     pub kind: ErrorKind,
 }
@@ -39,7 +44,7 @@ pub struct FakeDisk<'d> {
 #[derive(Drop)]
 pub struct FakeFile<'d> {
     disk: FakeDisk<'d>,
-    name: String,
+    held: &'d Held,
     at: usize,
     has_failed: bool,
 }
@@ -59,6 +64,24 @@ impl<'d> FakeDisk<'d> {
         }
         Ok(())
     }
+
+    // The file at a path.
+    fn held_at(&self, path: &str) -> io::Result<&'d Held> {
+        match path {
+            "M.json" => Ok(self.file),
+            "M.json.new" => Ok(self.neighbour),
+            _ => Err(io::Error::from(ErrorKind::NotFound)),
+        }
+    }
+}
+
+// The byte at a place of a file.
+fn byte_at(held: &Held, at: usize) -> Option<u8> {
+    let content = held.get()?;
+    if at >= content.len {
+        return None;
+    }
+    content.bytes.get(at).copied()
 }
 
 impl<'d> Read for FakeFile<'d> {
@@ -68,34 +91,38 @@ impl<'d> Read for FakeFile<'d> {
             self.has_failed = answer.is_err();
             answer?;
         }
-        let Ok(files) = self.disk.files.try_borrow() else {
-            return unsupported();
-        };
-        let Some(bytes) = files.get(self.name.as_str()) else {
-            return unsupported();
-        };
-        if buffer.is_empty() || self.at >= bytes.len() {
+        let (Some(place), Some(byte)) = (buffer.first_mut(), byte_at(self.held, self.at)) else {
             return Ok(0);
-        }
-        buffer[0] = bytes[self.at];
+        };
+        *place = byte;
         self.at += 1;
         Ok(1)
     }
 }
 
+// Puts a byte at the end of a file.
+fn push(held: &Held, byte: u8) -> io::Result<()> {
+    let Some(mut content) = held.get() else {
+        return unsupported();
+    };
+    let len = content.len;
+    let Some(place) = content.bytes.get_mut(len) else {
+        return unsupported();
+    };
+    *place = byte;
+    content.len = len.saturating_add(1);
+    held.set(Some(content));
+    Ok(())
+}
+
 impl<'d> Write for FakeFile<'d> {
     fn write(&mut self, bytes: &[u8]) -> io::Result<usize> {
-        let Ok(mut files) = self.disk.files.try_borrow_mut() else {
-            return unsupported();
-        };
-        let Some(held) = files.get_mut(self.name.as_str()) else {
-            return unsupported();
-        };
-        self.disk.may(FakeFault::WriteAt(held.len()))?;
         let Some(byte) = bytes.first() else {
             return Ok(0);
         };
-        held.push(*byte)?;
+        self.disk.may(FakeFault::WriteAt(self.at))?;
+        push(self.held, *byte)?;
+        self.at = self.at.saturating_add(1);
         Ok(1)
     }
 
@@ -134,18 +161,16 @@ impl<'d> Files for FakeDisk<'d> {
     type Dir = FakeFile<'d>;
 
     fn open_file(&self, how: &OpenOptions, path: &str) -> io::Result<FakeFile<'d>> {
-        let name = String::from_str(self.alloc, path)?;
-        let Ok(mut files) = self.files.try_borrow_mut() else {
-            return unsupported();
-        };
+        let held = self.held_at(path)?;
         if how.asks_create() {
-            let _old = files.insert(String::from_str(self.alloc, path)?, Vec::new(self.alloc))?;
-        } else if !files.contains_key(path) {
+            let bytes = [0; 4];
+            held.set(Some(Content { bytes, len: 0 }));
+        } else if held.get().is_none() {
             return Err(io::Error::from(ErrorKind::NotFound));
         }
         Ok(FakeFile {
             disk: *self,
-            name,
+            held,
             at: 0,
             has_failed: false,
         })
@@ -169,24 +194,15 @@ impl<'d> Files for FakeDisk<'d> {
 
     fn rename(&self, from: &str, to: &str) -> io::Result<()> {
         self.may(FakeFault::Rename)?;
-        let Ok(mut files) = self.files.try_borrow_mut() else {
-            return unsupported();
-        };
-        let Some(bytes) = files.remove(from) else {
-            return Err(io::Error::from(ErrorKind::NotFound));
-        };
-        let _old = files.insert(String::from_str(self.alloc, to)?, bytes)?;
+        let from = self.held_at(from)?;
+        let to = self.held_at(to)?;
+        to.set(from.replace(None));
         Ok(())
     }
 
     fn remove_file(&self, path: &str) -> io::Result<()> {
-        let Ok(mut files) = self.files.try_borrow_mut() else {
-            return unsupported();
-        };
-        match files.remove(path) {
-            Some(_) => Ok(()),
-            None => Err(io::Error::from(ErrorKind::NotFound)),
-        }
+        self.held_at(path)?.set(None);
+        Ok(())
     }
 
     fn create_dir(&self, _path: &str) -> io::Result<()> {
@@ -199,39 +215,5 @@ impl<'d> Files for FakeDisk<'d> {
 
     fn remove_dir_all<B: std::alloc::Allocator>(&self, _alloc: B, _path: &str) -> io::Result<()> {
         unsupported()
-    }
-}
-
-/// An output that takes one byte a write, and none once it holds the most that it may.
-#[derive(Drop)]
-pub struct FakeOutput {
-    pub written: RefCell<Vec<u8>>,
-    pub most: usize,
-}
-
-impl Print for FakeOutput {
-    fn print<D: Display + Drop>(&self, _value: D) -> io::Result<()> {
-        unsupported()
-    }
-
-    fn println<D: Display + Drop>(&self, _value: D) -> io::Result<()> {
-        unsupported()
-    }
-
-    fn write_all(&self, _bytes: &[u8]) -> io::Result<()> {
-        unsupported()
-    }
-
-    fn write_some(&self, bytes: &[u8]) -> io::Result<usize> {
-        let Ok(mut written) = self.written.try_borrow_mut() else {
-            return unsupported();
-        };
-        let Some(byte) = bytes.first() else {
-            return Ok(0);
-        };
-        if written.len() >= self.most || written.push(*byte).is_err() {
-            return Ok(0);
-        }
-        Ok(1)
     }
 }
