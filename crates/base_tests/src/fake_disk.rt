@@ -95,7 +95,7 @@ impl<'d> Read for FakeFile<'d> {
             return Ok(0);
         };
         *place = byte;
-        self.at += 1;
+        self.at = self.at.saturating_add(1);
         Ok(1)
     }
 }
