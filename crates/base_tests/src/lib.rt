@@ -1,15 +1,15 @@
-//! Tests of the lowest crates: values, documents, names, orders, chains of bases, links, keys, files and outputs.
+//! Tests of the lowest crates: chains of bases, files and outputs.
 #![tactic(auto)]
 
-mod chain_tests;
 #[cfg(test)]
-mod conditions;
-mod file_tests;
+mod chains;
 #[cfg(test)]
-mod staff;
+mod disks;
 #[cfg(test)]
-mod trees;
+mod fake_disk;
 #[cfg(test)]
-mod types;
+mod fake_output;
 #[cfg(test)]
-mod values;
+mod memory;
+#[cfg(test)]
+mod outputs;

@@ -4,8 +4,6 @@
 
 mod judge;
 mod refusal;
-#[cfg(test)]
-mod tests;
 mod text;
 
 use emc_base::{Bin, Memory, Txt};

@@ -1,9 +1,11 @@
-//! Tests of entity states, tables, their documents and the owners of tables.
+//! Tests of states of entities and their documents, and of what fragments select and show.
 #![tactic(auto)]
 
-mod msl_tests;
-mod staff_example;
-mod state_tests;
-mod table_tests;
-
-pub use staff_example::{staff, staff_store};
+#[cfg(test)]
+mod conditions;
+#[cfg(test)]
+mod nodes;
+#[cfg(test)]
+mod staff;
+#[cfg(test)]
+mod states;
