@@ -1,11 +1,8 @@
-//! Makes the cells of three documents, for measurements and tests: `CSDL SSDL MSL` prints `cells`, and each further word makes them once more.
+//! Makes the cells of three documents, for measurements: `CSDL SSDL MSL` prints `cells`, and each further word makes them once more.
 #![tactic(auto)]
 
 ghost use Rattle.round_trip.specs.Between.{schema_of};
 ghost use Rattle.round_trip.specs.soundness.mappings.Mappings.{IsSoundSchema};
-
-#[cfg(test)]
-mod tests;
 
 use cells::Cells;
 use emc_files::{DiskFiles, OutSink, Sink};

@@ -1,19 +1,10 @@
-//! Lists the regions of the sets of three documents, with their patterns, for measurements and tests: `CSDL SSDL MSL` prints how many there
-//! are of each set.
+//! Lists the regions of the sets of three documents, with their patterns, for measurements: `CSDL SSDL MSL` prints how many there are of each
+//! set.
 #![tactic(auto)]
 
 ghost use Rattle.cells.specs.Parts.{AreParts};
 ghost use Rattle.round_trip.specs.Between.{schema_of};
 ghost use Rattle.round_trip.specs.soundness.mappings.Mappings.{IsSoundSchema};
-
-#[cfg(test)]
-mod examples;
-#[cfg(test)]
-mod expressions;
-#[cfg(test)]
-mod searches;
-#[cfg(test)]
-mod tests;
 
 use cells::{Cells, Parts, is_within_limits};
 use emc_base::{Seq, SetId};

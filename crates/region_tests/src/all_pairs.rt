@@ -22,14 +22,9 @@ pub fn has_same_tables(alloc: Global, parts: &Parts<'_>, regions: &[Region]) -> 
 {
     let mut before = Vec::new(alloc);
     for region in regions {
-        let shown = Shown {
-            region,
-            pattern: region_pattern(alloc, parts, region)?,
-        };
-        if shown.pattern.rows.is_empty()
-            || loses_a_property(parts.model, &shown)
-            || has_rival(parts.model, &shown, before.as_slice())
-        {
+        let pattern = region_pattern(alloc, parts, region)?;
+        let shown = Shown { region, pattern };
+        if is_same(parts.model, &shown, before.as_slice()) {
             return Ok(true);
         }
         before.push(shown)?;
@@ -37,17 +32,27 @@ pub fn has_same_tables(alloc: Global, parts: &Parts<'_>, regions: &[Region]) -> 
     Ok(false)
 }
 
+// The same of one region and those before it.
+fn is_same(model: &EntityModel, shown: &Shown<'_>, before: &[Shown<'_>]) -> bool {
+    shown.pattern.rows.is_empty()
+        || loses_a_property(model, shown)
+        || has_rival(model, shown, before)
+}
+
 // Whether a property that is no part of the key, and may have several values, stands in no cell.
 fn loses_a_property(model: &EntityModel, shown: &Shown<'_>) -> bool {
     let Some(declared) = model.types.get(shown.region.ty.index as usize) else {
         return false;
     };
-    let key = declared.key.as_slice();
-    declared.props.as_slice().iter().any(|prop| {
-        !key.contains(prop)
+    for prop in declared.props.as_slice() {
+        if !declared.key.as_slice().contains(prop)
             && is_several(model, shown.region.atoms.as_slice(), *prop)
             && !stands_somewhere(&shown.pattern, *prop)
-    })
+        {
+            return true;
+        }
+    }
+    false
 }
 
 fn is_several(model: &EntityModel, atoms: &[AtomOf], prop: PropId) -> bool {
@@ -58,52 +63,72 @@ fn is_several(model: &EntityModel, atoms: &[AtomOf], prop: PropId) -> bool {
 }
 
 fn stands_somewhere(pattern: &Pattern, prop: PropId) -> bool {
-    pattern.rows.as_slice().iter().any(|row| row
-        .cells
-        .as_slice()
-        .iter()
-        .any(|cell| lists(cell, prop)))
+    for row in pattern.rows.as_slice() {
+        for cell in row.cells.as_slice() {
+            if lists(cell, prop) {
+                return true;
+            }
+        }
+    }
+    false
 }
 
 fn lists(cell: &Seq<Symbol>, prop: PropId) -> bool {
-    cell.as_slice().iter().any(|symbol| matches!(symbol, Symbol::Prop(other) if *other == prop))
+    for symbol in cell.as_slice() {
+        if matches!(symbol, Symbol::Prop(other) if *other == prop) {
+            return true;
+        }
+    }
+    false
 }
 
-// Whether entities of one of these regions can write the same rows, with the same links there.
+// Whether entities of one of these regions can write the same rows.
 fn has_rival(model: &EntityModel, shown: &Shown<'_>, others: &[Shown<'_>]) -> bool {
-    others.iter().any(|other| {
-        other.region.linked.as_slice() == shown.region.linked.as_slice()
-            && other.pattern.rows.len() == shown.pattern.rows.len()
-            && other
-                .pattern
-                .rows
-                .as_slice()
-                .iter()
-                .zip(shown.pattern.rows.as_slice())
-                .all(|(one, two)| rows_match(model, (other.region, one), (shown.region, two)))
-    })
+    for other in others {
+        if are_rivals(model, other, shown) {
+            return true;
+        }
+    }
+    false
+}
+
+// Whether entities of two regions can write the same rows, with the same links there.
+fn are_rivals(model: &EntityModel, one: &Shown<'_>, two: &Shown<'_>) -> bool {
+    let rows = one.pattern.rows.as_slice();
+    let others = two.pattern.rows.as_slice();
+    if one.region.linked.as_slice() != two.region.linked.as_slice() || rows.len() != others.len() {
+        return false;
+    }
+    for (row, other) in rows.iter().zip(others) {
+        if !rows_match(model, (one.region, row), (two.region, other)) {
+            return false;
+        }
+    }
+    true
 }
 
 // Whether two rows, each of a region, are of one table and can hold the same.
 fn rows_match(
     model: &EntityModel,
-    one: (&Region, &PatternRow),
-    two: (&Region, &PatternRow),
+    (one_region, one_row): (&Region, &PatternRow),
+    (two_region, two_row): (&Region, &PatternRow),
 ) -> bool {
-    let (one_region, one_row) = one;
-    let (two_region, two_row) = two;
-    one_row.table == two_row.table
-        && one_row
-            .cells
-            .as_slice()
-            .iter()
-            .zip(two_row.cells.as_slice())
-            .all(|(cell, other)| {
-                can_be_one(
-                    &settled(model, one_region.atoms.as_slice(), cell.as_slice()),
-                    &settled(model, two_region.atoms.as_slice(), other.as_slice()),
-                )
-            })
+    if one_row.table != two_row.table {
+        return false;
+    }
+    for (cell, other) in one_row
+        .cells
+        .as_slice()
+        .iter()
+        .zip(two_row.cells.as_slice())
+    {
+        let one = settled(model, one_region.atoms.as_slice(), cell.as_slice());
+        let two = settled(model, two_region.atoms.as_slice(), other.as_slice());
+        if !can_be_one(&one, &two) {
+            return false;
+        }
+    }
+    true
 }
 
 // What a cell can hold: null where nothing is listed, else what the first symbol can be.
