@@ -1,10 +1,10 @@
 use Rattle.std.proofs.Common.{◌≡◌, ◌<◌, List, [], Option, length, ap, subst, ◌∙◌, arith}
 use Rattle.std.specs.Option.{option_map_or}
+use Rattle.emc_base.proofs.facts.Found.{some_found}
 use Rattle.round_trip.specs.Words.{Column, Table}
 use Rattle.round_trip.specs.soundness.mappings.Joined.{col}
 use Rattle.round_trip.specs.soundness.Lookups.{columns_of}
 use Rattle.member_groups.specs.MemberGroups.{constants_in}
-use Rattle.cells.proofs.Few.{some_found}
 use Rattle.cells_check.proofs.tests.column_text.Goals as goal
 
 pub group_of_col-group-requires : goal.group_of_col-group-requires
