@@ -7,9 +7,9 @@ use Rattle.emc_base.proofs.Lists.{at_once}
 use Rattle.round_trip.specs.Words.{SetId, TableId, PropId, Entity, EntitySet, IsLegal, Pair, Row, Schema, State, Table, Tables, Value, At, cell_of, entities_in, key_of, key_props, row_key, value_beside, value_of}
 use Rattle.round_trip.specs.soundness.Lookups.{set_key}
 use Rattle.round_trip.specs.soundness.mappings.Mappings.{IsSoundSchema}
+use Rattle.round_trip.proofs.Lookups.{key_columns_at}
 use Rattle.schema_laws.specs.state_demand.Owners.{IsOwned, paired_key}
 use Rattle.schema_laws.specs.state_demand.WellWritten.{cols_of}
-use Rattle.schema_laws.proofs.state_demand.writings.Fitting.{key_is}
 use Rattle.schema_laws.proofs.state_demand.owners.Owners.{beside_map}
 use Rattle.schema_laws.proofs.state_demand.lists.Places.{agree_by_map, map_agree}
 use Rattle.schema_laws.proofs.sound_demand.owners.OneOwner.{one_owner}
@@ -43,7 +43,7 @@ module _ (schema : Schema) (sound : IsSoundSchema schema) (s : SetId) where
     -- its columns of the primary key hold the parts of the key
     pub key_cells : (pair : Pair) → Contains at.pairing pair → cell_of held pair.col ≡ value_beside pair.prop (set_key schema.model s) key
     key_cells pair has =
-        let cols : cols_of at.pairing ≡ at.table.key = at.owned.cols ∙ key_is schema.store t at.table at.is_table in
+        let cols : cols_of at.pairing ≡ at.table.key = at.owned.cols ∙ key_columns_at schema.store t at.table at.is_table in
         agree_by_map (λ (one : Pair). cell_of held one.col) (λ (one : Pair). value_beside one.prop (set_key schema.model s) key) at.pairing
         (sym (map-map (cell_of held) (λ (one : Pair). one.col) at.pairing) ∙ ap (map (cell_of held)) cols ∙ at.at_key) pair has
 

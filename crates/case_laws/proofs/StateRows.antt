@@ -1,11 +1,10 @@
 -- The rows of tables that are those of a state, but for their free cells.
-use Rattle.std.proofs.Common.{◌≡◌, ℕ, List, slice_get, Contains, Option, Some, None, MatchOption, refl, sym, subst, ◌∙◌}
+use Rattle.std.proofs.Common.{◌≡◌, ℕ, Contains, sym, subst, ◌∙◌}
 use Rattle.std.specs.List.{AllZip}
-use Rattle.std.specs.Option.{IsSomeAnd}
-use Rattle.std.proofs.lemmas.Slice.Zip.{AllZip-left, AllZip-right}
 use Rattle.graphs.proofs.base_chains.orders.Orders.{place_of_member}
 use Rattle.emc_base.proofs.Lists.{at_once, same_place}
 use Rattle.emc_base.proofs.Mapped.{contains_at}
+use Rattle.emc_base.proofs.facts.Zipped.{zipped_left, zipped_right}
 use Rattle.round_trip.specs.Words.{TableId, IsErasedRow, IsFree, IsWritten, Row, State, Table, Tables, At, cell_of, row_key, rows_in}
 use Rattle.schema_laws.proofs.state_demand.lists.Places.{map_agree}
 use Rattle.schema_laws.proofs.state_demand.tables.ReadBack.{rows_demanded}
@@ -13,25 +12,6 @@ use Rattle.regions.specs.Basis.{Basis}
 use Rattle.regions.specs.region_laws.IsBasis.{IsBasis}
 use Rattle.case_laws.specs.Reading.{HasStateTables}
 use Rattle.case_laws.proofs.shown.Settling.{key_named}
-
--- items of zipped lists at one place
-zipped_left : {X Y : Type 0} (R : X → Y → Type 0) (xs : List X) (ys : List Y) → AllZip R xs ys → (i : ℕ) (x : X) → At xs i x → (y : Y) × At ys i y × R x y
-zipped_left {X} {Y} R xs ys zipped i x here =
-    let P : Option X → Type 0 = λ found. MatchOption found (Unit {0}) (λ one. IsSomeAnd (slice_get ys i) (R one)) in
-    by (slice_get ys i) refl (subst P here (AllZip-left R xs ys zipped i))
-  where
-    by : (found : Option Y) → slice_get ys i ≡ found → IsSomeAnd found (R x) → (y : Y) × At ys i y × R x y
-    by None none never = absurd never
-    by (Some y) at holds = (y, at, holds)
-
-zipped_right : {X Y : Type 0} (R : X → Y → Type 0) (xs : List X) (ys : List Y) → AllZip R xs ys → (i : ℕ) (y : Y) → At ys i y → (x : X) × At xs i x × R x y
-zipped_right {X} {Y} R xs ys zipped i y here =
-    let P : Option Y → Type 0 = λ found. MatchOption found (Unit {0}) (λ one. IsSomeAnd (slice_get xs i) (λ x. R x one)) in
-    by (slice_get xs i) refl (subst P here (AllZip-right R xs ys zipped i))
-  where
-    by : (found : Option X) → slice_get xs i ≡ found → IsSomeAnd found (λ x. R x y) → (x : X) × At xs i x × R x y
-    by None none never = absurd never
-    by (Some x) at holds = (x, at, holds)
 
 module _ (basis : Basis) (is : IsBasis basis) (state : State) (tables : Tables) (has : HasStateTables basis.schema state tables) (t : TableId) where
   abbrev Erases : Row → Row → Type 0

@@ -1,4 +1,3 @@
-pub mod Zipped
 pub mod OwnView
 pub mod Candidate
 pub mod SameCandidate

@@ -1,10 +1,10 @@
 -- Something is told of each association set, table and column of sound parts.
 use Rattle.std.proofs.Common.{◌≡◌, length, arith}
+use Rattle.emc_base.proofs.facts.Found.{some_found}
 use Rattle.round_trip.specs.soundness.mappings.Joined.{col}
 use Rattle.member_groups.specs.MemberGroups.{constants_in}
 use Rattle.cells.specs.declared.parts.Parts.{Parts}
 use Rattle.cells.specs.Parts.{AreParts, CoverModel, CoverStore}
-use Rattle.cells.proofs.Few.{some_found}
 
 module _ (parts : Parts) (are : AreParts parts) where
   pub covers_model : CoverModel parts.model.now parts.cells.now

@@ -1,5 +1,5 @@
 -- The list of a group's constants, and how many different constants there are.
-use Rattle.std.proofs.Common.{◌≡◌, inl, inr, ◌≤◌, ◌<◌, ◌+◌, ℕ, List, length, All, Contains, Option, None, Some, IsSome, refl, sym, subst, arith}
+use Rattle.std.proofs.Common.{◌≡◌, inl, inr, ◌≤◌, ◌<◌, ◌+◌, ℕ, List, length, All, Contains, sym, subst, arith}
 use Rattle.std.proofs.lemmas.Bool.{cases_eq}
 use Rattle.std.specs.Cmp.{eq_by_cmp_equiv}
 use Rattle.std.proofs.lemmas.List.Elements.{All-contains}
@@ -15,11 +15,6 @@ use Rattle.member_groups.specs.Tested.{IsConstant}
 use Rattle.member_groups.specs.MemberGroups.{ListsJust}
 use Rattle.schema_laws.proofs.state_demand.writings.Selecting.{Decides-value}
 use Rattle.cells.specs.Limits.{HasFewConstants, most_constants}
-
--- what is found is there
-pub some_found : {X : Type 0} (found : Option X) (x : X) → found ≡ Some x → IsSome found
-some_found None x is = absurd (cc)
-some_found (Some y) x is = refl
 
 -- different values of a list are no more than it has
 pub no_more : (values list : List Value) → AreApart values → All (Contains list) values → length values ≤ length list

@@ -1,4 +1,3 @@
 pub mod Hosting
-pub mod Lists
 pub mod Covering
 pub mod Few

@@ -2,12 +2,13 @@
 use Rattle.std.proofs.Common.{◌↔◌, ⊎_elim, inl, inr, List, All, Any, sym, subst}
 use Rattle.std.proofs.lemmas.List.Elements.{All-nil, All-cons, All-head, All-tail}
 use mathlib.Core.Former.{Count}
+use Rattle.emc_base.proofs.facts.Standing.{any_cases}
 use Rattle.condition_logic.specs.declared.expr.Expr.{Expr, All', Any', Row_of-Expr, end_of-Expr, more_of-Expr, items-the_row-Expr, items_hidden-the_row-Expr-0}
 use Rattle.condition_logic.specs.declared.expr.Expr.TheVariants as expr
 use Rattle.condition_logic.specs.Readings.{Reading}
 use Rattle.condition_logic.specs.Holds.{Holds, EachHolds, SomeHolds, IsMeaning}
 use Rattle.condition_logic.specs.Mentions.{Mentions, SomeMentions, IsByParts}
-use Rattle.condition_logic.proofs.Parts.{any_first, any_later, any_cases, any_none}
+use Rattle.condition_logic.proofs.Parts.{any_first, any_later, any_none}
 
 -- the row of the parts of an expression
 abbrev row_of : Expr → (n : Count) × Row_of-Expr n

@@ -1,7 +1,8 @@
 -- What holds of some and of each item of a list.
-use Rattle.std.proofs.Common.{◌≡◌, ◌↔◌, ◌⊎◌, ◌<◌, ◌≤◌, ⊎_elim, inl, inr, ℕ, zero, suc, List, [], ◌∷◌, length, get_or, take, All, Any, Contains, refl, sym, subst, arith}
+use Rattle.std.proofs.Common.{◌≡◌, ◌↔◌, ◌⊎◌, ◌<◌, ◌≤◌, ⊎_elim, inl, inr, ℕ, suc, List, [], ◌∷◌, length, get_or, take, All, Any, Contains, refl, sym, subst, arith}
 use Rattle.std.proofs.lemmas.List.{take_all}
 use Rattle.std.proofs.lemmas.List.Elements.{All-nil, All-cons, All-head, All-tail, All-contains}
+use Rattle.emc_base.proofs.facts.Standing.{any_cases}
 
 -- one after the other
 pub iff_trans : {P Q R : Type 0} → P ↔ Q → Q ↔ R → P ↔ R
@@ -25,13 +26,6 @@ module _ {X : Type 0} (P : X → Type 0) where
   pub any_later : (x : X) (xs : List X) → Any P xs → Any P (x ∷ xs)
   any_later x xs any = let within = any.2 in (suc any.0, any.1, omega arith, any.3, any.4)
 
-  pub any_cases : (x : X) (xs : List X) → Any P (x ∷ xs) → P x ⊎ Any P xs
-  any_cases x xs any = go any.0 any.1 any.2 any.3 any.4
-    where
-      go : (k : ℕ) (y : X) → k < length (x ∷ xs) → get_or (x ∷ xs) k y ≡ y → P y → P x ⊎ Any P xs
-      go zero y within is holds = inl (subst P (sym is) holds)
-      go (suc k) y within is holds = inr (k, y, omega arith, is, holds)
-
   -- of each of two items
   pub all_two : (x y : X) → All P (x ∷ y ∷ []) ↔ (P x × P y)
   all_two x y = (
@@ -42,7 +36,7 @@ module _ {X : Type 0} (P : X → Type 0) where
   -- of one of two items
   pub any_two : (x y : X) → Any P (x ∷ y ∷ []) → P x ⊎ P y
   any_two x y any = ⊎_elim (λ (here : P x). inl here)
-      (λ (later : Any P (y ∷ [])). ⊎_elim (λ (there : P y). inr there) (λ (none : Any P []). absurd (any_none none)) (any_cases y [] later)) (any_cases x (y ∷ []) any)
+      (λ (later : Any P (y ∷ [])). ⊎_elim (λ (there : P y). inr there) (λ (none : Any P []). absurd (any_none none)) (any_cases P y [] later)) (any_cases P x (y ∷ []) any)
 
   -- an item of which it doesn't hold
   pub all_broken : (xs : List X) (i : ℕ) (x : X) → i < length xs → x ≡ get_or xs i x → ¬ P x → ¬ All P xs

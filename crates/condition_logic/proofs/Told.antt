@@ -3,6 +3,7 @@ use Rattle.std.proofs.Common.{◌≡◌, ◌↔◌, ◌⊎◌, ◌==◌, ⊎_eli
 use Rattle.std.specs.Option.{option_map_or}
 use Rattle.std.proofs.lemmas.Bool.Decides.{Decides-eqb}
 use Rattle.std.proofs.lemmas.List.Elements.{All-contains, All-head, All-tail, Contains-append_right}
+use Rattle.emc_base.proofs.facts.Standing.{any_cases}
 use Rattle.condition_logic.specs.Words.{TypeId, PropId, Value, Null, EntityModel, Fragment, Cond, CondOn, Entity, IsA, props_of, value_beside, value_of}
 use Rattle.edm_types.specs.declared.mapping.CondOn.TheVariants as on
 use Rattle.condition_logic.specs.declared.atoms.Atom.{Atom}
@@ -15,7 +16,7 @@ use Rattle.condition_logic.specs.Mentions.{Mentions, IsOn, IsComparison, Names, 
 use Rattle.condition_logic.specs.InAtoms.{LiesIn, IsInAtoms, IsOnAtoms}
 use Rattle.condition_logic.specs.Subjects.{atom_at, told_atom, IsNullAtom, EqualsAtom, of_atoms}
 use Rattle.condition_logic.specs.Selecting.{SaysSelected}
-use Rattle.condition_logic.proofs.Parts.{any_cases, any_first, any_none}
+use Rattle.condition_logic.proofs.Parts.{any_first, any_none}
 use Rattle.condition_logic.proofs.Agreeing.{holds_alike, compares_named}
 
 -- ids with one number are one

@@ -7,5 +7,4 @@ mod Certain
 mod Grouping
 mod Pairs
 mod Left
-mod Bases
 mod Telling

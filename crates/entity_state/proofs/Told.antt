@@ -1,5 +1,5 @@
 -- A state's tree tells the state, where names are apart.
-use Rattle.std.proofs.Common.{◌≡◌, ◌≢◌, ⊎_elim, ℕ, ◌==◌, List, [], ◌∷◌, ◌++◌, map, filter, zip, length, codes, Bool, true, false, true≢false, if◌then◌else◌, Some, IsSome, AllPairs, Contains, is_none, refl, sym, ap, subst, ◌∙◌, arith}
+use Rattle.std.proofs.Common.{◌≡◌, ◌≢◌, ℕ, ◌==◌, List, [], ◌∷◌, ◌++◌, map, filter, zip, length, codes, Bool, true, false, true≢false, if◌then◌else◌, AllPairs, Contains, is_none, refl, sym, ap, ◌∙◌, arith}
 use Rattle.std.specs.Prelude.{⊤}
 use Rattle.std.specs.List.{enumerate_from}
 use Rattle.std.specs.Option.{option_map_or}
@@ -11,24 +11,12 @@ use Rattle.std.proofs.lemmas.Map.Made.{Contains-tail}
 use Rattle.std.proofs.lemmas.Simd.{map-map}
 use Rattle.std.proofs.lemmas.Slice.Zip.{firsts-zip}
 use Rattle.emc_base.proofs.Mapped.{contains_enumerated, contains_filter, contains_map, map-enumerated, map-filter_enumerated, all_zip-map}
-use Rattle.serde_json.specs.Data.{Data, string, no_members}
-use Rattle.serde_json.specs.Find.{get, get_member}
-use Rattle.json_form.specs.Trees.{key_tree, object_of}
-use Rattle.json_form.proofs.Members.{get_member-put_all, names-put_all}
+use Rattle.serde_json.specs.Data.{Data, string}
+use Rattle.json_form.specs.Trees.{key_tree}
+use Rattle.json_form.proofs.Told.{told, told_only}
 use Rattle.round_trip.specs.Words.{SetId, PropId, AssocId, Value, EntityModel, EntityType, EntitySet, Assoc, Entity, Link, At, props_of, value_beside, value_of, State, entities_in, links_in, IsEntity, IsIndependent, IsState}
 use Rattle.entity_state.specs.StateTree.{assoc_member, assoc_members, entity_tree, full_name, is_independent, link_tree, name_of, named_value, set_member, set_members, state_tree}
 use Rattle.entity_state.specs.Tells.{entity_names, state_names, HasApartNames, TellsEntity, TellsLink, TellsState}
-
--- in an object made of members with names of their own, each stands under its name
-told : (entries : List (List ℕ × Data)) (names : List (List ℕ)) → map (λ entry. entry.0) entries ≡ names → AllPairs (λ one other. one ≢ other) names
-    → (entry : List ℕ × Data) → Contains entries entry → get entry.0 (object_of entries) ≡ Some entry.1
-told entries names are apart entry has = get_member-put_all no_members entries entry (subst (λ ns. AllPairs (λ one other. one ≢ other) ns) (sym are) apart) has
-
--- and nothing else stands there
-told_only : (entries : List (List ℕ × Data)) (names : List (List ℕ)) → map (λ entry. entry.0) entries ≡ names
-    → (name : List ℕ) → IsSome (get name (object_of entries)) → Contains names name
-told_only entries names are name some =
-    subst (λ ns. Contains ns name) are (⊎_elim (λ (none : IsSome (get_member name no_members)). cc) (λ has. has) (names-put_all name no_members entries some))
 
 -- beside a property stands the entity's value of it
 beside : (prop : PropId) (props : List PropId) (values : List Value) → length values ≡ length props → Contains props prop

@@ -1,10 +1,11 @@
 -- Faults by their parts, and the least fault behind a step.
 use Rattle.std.proofs.Common.{◌≡◌, ◌≢◌, Option, Some, None, refl, sym, ap, subst}
 use Rattle.std.specs.declared.cmp.Ordering.{Ordering}
-use Rattle.std.specs.declared.cmp.Ordering.TheVariants.{Less, Equal, Greater}
+use Rattle.std.specs.declared.cmp.Ordering.TheVariants.{Greater}
 use Rattle.std.specs.Cmp.{tied_itself}
 use Rattle.std.specs.Option.{option_map}
 use Rattle.std.specs.Ordering.{nat_cmp, ordering_then}
+use Rattle.emc_base.proofs.facts.Orderings.{equal_upto}
 use Rattle.json_form.specs.declared.pointer.Step.{Step}
 use Rattle.json_form.specs.PlaceOrder.{step_cmp_total}
 use Rattle.json_form.specs.Pointers.{steps_cmp}
@@ -21,12 +22,7 @@ same_fault one other rule place = λ i. record { rule = rule i; place = place i 
 
 -- a fault doesn't come after itself
 pub not_after_itself : (fault : Fault) → fault_cmp fault fault ≢ Greater
-not_after_itself fault = by (fault_cmp fault fault) (tied_itself fault_cmp_total fault)
-  where
-    by : (order : Ordering) → order ≡ Equal → order ≢ Greater
-    by Less is = absurd cc
-    by Equal is = λ same. absurd cc
-    by Greater is = absurd cc
+not_after_itself fault = equal_upto (fault_cmp fault fault) (tied_itself fault_cmp_total fault)
 
 -- a step before both places changes nothing of their order
 after_cmp : (step : Step) (one other : Fault) → fault_cmp (after step one) (after step other) ≡ fault_cmp one other

@@ -1,11 +1,12 @@
 -- The walk over a document: what is least inside an array and inside an object.
-use Rattle.std.proofs.Common.{◌≡◌, ◌⊎◌, ⊎_elim, inl, inr, ◌+◌, ◌≤◌, ℕ, zero, suc, List, [], ◌∷◌, map, length, drop, slice_get, Option, Some, None, String, Global, refl, sym, ap, subst, ◌∙◌, arith, Bor, string_bytes}
+use Rattle.std.proofs.Common.{◌≡◌, ◌⊎◌, ⊎_elim, inl, inr, ◌+◌, ℕ, suc, List, [], ◌∷◌, map, drop, slice_get, Option, Some, None, String, Global, refl, sym, ap, subst, ◌∙◌, arith, Bor, string_bytes}
 use Rattle.std.specs.Option.{option_map}
 use Rattle.std.proofs.lemmas.Option.{slice_get-map}
 use Rattle.serde_json.specs.Data.{Data}
 use Rattle.serde_json.specs.View.{view}
 use Rattle.serde_json.specs.declared.value.Value.{Value}
 use Rattle.emc_base.specs.Lists.{At}
+use Rattle.emc_base.proofs.facts.Behind.{all_dropped, dropped}
 use Rattle.json_form.specs.declared.pointer.Step.{Step}
 use Rattle.json_form.specs.declared.pointer.Step.TheVariants.{Member, Item}
 use Rattle.json_form.specs.TreeParts.{items_in, members_in}
@@ -35,17 +36,6 @@ pub record Passed (shape : Shape) (entries left : Entries) (found : Option Fault
   pub n : ℕ
   pub left_is : left ≡ drop n entries
   pub least : IsLeast fault_cmp (AmongFirst (IsEntryFault shape) entries n) found
-
-dropped : {X : Type 0} (xs : List X) (n : ℕ) (x : X) (rest : List X) → drop n xs ≡ x ∷ rest → At xs n x × (drop (suc n) xs ≡ rest)
-dropped [] zero x rest is = absurd cc
-dropped [] (suc n) x rest is = absurd cc
-dropped (y ∷ ys) zero x rest is = let head : y ≡ x = cc in let tail : ys ≡ rest = cc in (ap Some head, tail)
-dropped (y ∷ ys) (suc n) x rest is = dropped ys n x rest is
-
-all_dropped : {X : Type 0} (xs : List X) (n : ℕ) → drop n xs ≡ [] → length xs ≤ n
-all_dropped [] n is = omega arith
-all_dropped (y ∷ ys) zero is = absurd cc
-all_dropped (y ∷ ys) (suc n) is = let less : length ys ≤ n = all_dropped ys n is in omega arith
 
 pub passed_none : (shape : Shape) (entries left : Entries) → left ≡ entries → Passed shape entries left None
 passed_none shape entries left is = record { n = 0; left_is = is; least = least_start fault_cmp fault_cmp_total (IsEntryFault shape) entries }

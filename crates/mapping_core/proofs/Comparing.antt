@@ -6,7 +6,9 @@ use Rattle.std.proofs.lemmas.Bool.{cases_lt}
 use Rattle.std.proofs.lemmas.List.Sorted.{IsPermutation-sym}
 use Rattle.std.proofs.lemmas.Option.{slice_get_past}
 use Rattle.emc_base.proofs.Lists.{all_from_members, item_at}
+use Rattle.edm_types.proofs.Lookups.{rows_beyond}
 use Rattle.round_trip.specs.Words.{AreErased, AreLegalTables, ColId, IsErasedRow, IsFree, Row, Schema, State, StoreModel, Table, TableId, Tables, TablesAre, key_columns, rows_in}
+use Rattle.round_trip.proofs.Lookups.{key_columns_at}
 use Rattle.table_files.specs.InOrder.{AreToldApartBy}
 use Rattle.schema_laws.proofs.same_states.SameTables.{tables_moved}
 use Rattle.regions.specs.Basis.{Basis}
@@ -14,7 +16,6 @@ use Rattle.regions.specs.region_laws.IsBasis.{IsBasis}
 use Rattle.case_laws.specs.Reading.{DecidesFree, HasStateTables}
 use Rattle.case_laws.proofs.shown.Settling.{answered, key_named}
 use Rattle.keyed_rows.specs.row_differences.SameButFree.{AreSameButFree, HasKeptKeys, HaveRowsApart}
-use Rattle.keyed_rows.proofs.row_differences.NoDifference.{columns_of_key, rows_beyond}
 
 -- no two rows of legal tables have one primary key
 pub legal_apart : (store : StoreModel) (tables : Tables) → AreLegalTables store tables → HaveRowsApart store tables
@@ -22,7 +23,7 @@ legal_apart store tables legal t = ⊎_elim
     (λ (within : t.index < length store.tables).
     let found = item_at store.tables t.index within in
     let Apart : List ColId → Type 0 = λ cols. AreToldApartBy cols (rows_in tables t) in
-    subst Apart (sym (columns_of_key store t found.0 found.1)) (legal.rows t found.0 found.1).keys)
+    subst Apart (sym (key_columns_at store t found.0 found.1)) (legal.rows t found.0 found.1).keys)
     (λ (past : length store.tables ≤ t.index).
     let Apart : List Row → Type 0 = AreToldApartBy (key_columns store t) in
     subst Apart (sym (rows_beyond tables t (omega (arith, past, legal.shape.each)))) (λ i j d below within. absurd (omega arith)))
@@ -37,7 +38,7 @@ pub kept_keys : (basis : Basis) → IsBasis basis → (is_free : TableId → Col
 kept_keys basis is is_free decides t = ⊎_elim
     (λ (within : t.index < length store.tables).
     let found = item_at store.tables t.index within in
-    subst (All Kept) (sym (columns_of_key store t found.0 found.1)) (all_from_members Kept found.0.key
+    subst (All Kept) (sym (key_columns_at store t found.0 found.1)) (all_from_members Kept found.0.key
     (λ col among. answered basis is is_free decides t col (λ free. key_named basis is t found.0 found.1 free.written col among free))))
     (λ (past : length store.tables ≤ t.index). subst (All Kept) (sym (key_columns_past store t past)) (λ k d within. absurd (omega arith)))
     (cases_lt t.index (length store.tables))

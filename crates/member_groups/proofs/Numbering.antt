@@ -7,6 +7,7 @@ use Rattle.std.proofs.lemmas.Bool.{cases_eq, cases_lt}
 use Rattle.std.proofs.lemmas.Map.Keys.{apart_from_distinct}
 use Rattle.std.proofs.lemmas.Option.{get_or_from_slice_get, same_Some, slice_get_within}
 use Rattle.emc_base.proofs.Lists.{at_once, item_at}
+use Rattle.emc_base.proofs.facts.Found.{some_found}
 use Rattle.round_trip.specs.Words.{GroupId, Schema, Table, TableId, At}
 use Rattle.round_trip.specs.soundness.mappings.Joined.{IsNoKey, Joined, Member, col, prop}
 use Rattle.round_trip.specs.soundness.mappings.Joined as joined
@@ -37,10 +38,6 @@ label_once labels i j one other apart at_i at_j same = elim (cases_eq i j) [
         let first : get_or labels a x ≡ x = get_or_from_slice_get labels a x x at_a in
         let second : get_or labels b x ≡ y = get_or_from_slice_get labels b y x at_b in
         true≢false (sym ((equals_label (get_or labels a x) (get_or labels b x)).1 (first ∙ is ∙ sym second)) ∙ never)
-
--- what is some thing is something
-some_is : {X : Type 0} (found : Option X) (x : X) → found ≡ Some x → IsSome found
-some_is found x is = subst IsSome (sym is) refl
 
 -- what is no part of a key is a property or a column
 pub free_member : (schema : Schema) (member : Member) → IsNoKey schema member → IsMember schema member
@@ -77,7 +74,7 @@ module _ (schema : Schema) (numbered : Numbered) (are_groups : AreGroups schema 
   some_number (prop p) within =
       let size : length numbered.numbers.props ≡ length schema.model.props = are.props.size in
       let found = item_at numbered.numbers.props p.index (omega (arith, within, size)) in
-      some_is (slice_get numbered.numbers.props p.index) found.0 found.1
+      some_found (slice_get numbered.numbers.props p.index) found.0 found.1
   some_number (col t c) within = by (slice_get schema.store.tables t.index) refl within
     where
       by : (found : Option Table) → slice_get schema.store.tables t.index ≡ found → c.index < length (option_map_or (λ entry. entry.cols) found []) → IsSome (number (col t c))
@@ -92,7 +89,7 @@ module _ (schema : Schema) (numbered : Numbered) (are_groups : AreGroups schema 
           let here : c.index < length table.cols = inside in
           let found = item_at columns.0 c.index (omega (arith, here, size)) in
           let P : Option (List GroupId) → Type 0 = λ o. IsSome (option_and_then (λ some. slice_get some c.index) o) in
-          subst P (sym columns.1) (some_is (slice_get columns.0 c.index) found.0 found.1)
+          subst P (sym columns.1) (some_found (slice_get columns.0 c.index) found.0 found.1)
 
   pub only_number : (member : Member) → IsSome (number member) → IsMember schema member
   only_number (prop p) some = by (slice_get numbered.numbers.props p.index) refl some
@@ -158,7 +155,7 @@ module _ (schema : Schema) (numbered : Numbered) (are_groups : AreGroups schema 
       by : (found : Option ℕ) → group_of numbered.groups member ≡ found → option_and_then (λ _. number member) found ≡ Some (record { index = k })
           → IsNoKey schema member × (number member ≡ Some (record { index = k }))
       by None at here = absurd (let never : None ≡ Some (record { index = k }) = here in cc)
-      by (Some group) at here = (are_groups.only member (some_is (group_of numbered.groups member) group at), here)
+      by (Some group) at here = (are_groups.only member (some_found (group_of numbered.groups member) group at), here)
 
   -- just what is joined to something has the number of its group
   pub joint_told : (member other : Member) (k : ℕ) → number member ≡ Some (record { index = k }) → Joined schema member other ↔ IsJointAt numbered other k

@@ -8,7 +8,8 @@ use Rattle.std.proofs.lemmas.Option.{slice_get-get_or, slice_get_within}
 use Rattle.emc_base.proofs.Lists.{item_at}
 use Rattle.emc_base.proofs.Mapped.{contains_at}
 use Rattle.emc_base.proofs.Numbered.{map_contains}
-use Rattle.table_owners.proofs.lists.Items.{at_map, member_place}
+use Rattle.emc_base.proofs.facts.Standing.{place_of_member}
+use Rattle.emc_base.proofs.facts.Images.{map_at}
 use Rattle.round_trip.specs.Words.{At, ColId, Entity, EntityModel, EntityType, IsEntity, IsLink, IsState, Place, SetId, State, TableId, Tables, TypeId, Value, entities_in}
 use Rattle.regions.specs.Basis.{Basis}
 use Rattle.regions.specs.Regions.{regions_of}
@@ -47,7 +48,7 @@ module _ (basis : Basis) (is_free : TableId → ColId → Bool) (tables : Tables
   no_lack : (s : SetId) (entities : List Entity) → AreViewed basis is_free tables s entities → (key : List Value) → ¬ LacksCase basis is_free tables s key
   no_lack s entities viewed key lacks =
       let among : Contains viewed.keys key = (viewed.are key).1 lacks.rows in
-      let beside = zip_beside (IsViewed basis is_free tables s) viewed.keys entities among.0 key viewed.each (member_place viewed.keys key among) in
+      let beside = zip_beside (IsViewed basis is_free tables s) viewed.keys entities among.0 key viewed.each (place_of_member viewed.keys key among) in
       viewed_meets basis is_free tables s key beside.0 beside.2 lacks
 
   -- the first key of a set that lacks a case is the first of all, if no earlier set has one
@@ -111,7 +112,7 @@ module _ (basis : Basis) (is_free : TableId → ColId → Bool) (tables : Tables
 
       viewed : (s : SetId) (entities : List Entity) → At state.entities s.index entities → AreViewed basis is_free tables s entities
       viewed s entities here =
-          let found = at_map (λ (of_set : Vec LentEntity). map lent_entity of_set.items) loaded.sets.items s.index entities here in
+          let found = map_at (λ (of_set : Vec LentEntity). map lent_entity of_set.items) loaded.sets.items s.index entities here in
           subst (AreViewed basis is_free tables s) found.2 (are.1 s found.0 found.1)
 
       entities : (s : SetId) → All (IsEntity model) (entities_in state s)

@@ -1,10 +1,8 @@
 -- The entities of a set by groups of rows, and the first group whose rows meet no case.
 use Rattle.std.proofs.Common.{◌≡◌, ◌≢◌, ◌<◌, ◌≤◌, ⊎_elim, ℕ, List, [], ◌∷◌, ◌++◌, map, length, get_or, Contains, Bool, Result, Ok, Err, IsErrAnd, refl, sym, ap, subst, ◌∙◌, arith}
 use Rattle.std.specs.List.{AllZip}
-use Rattle.std.specs.Cmp.Lexicographic.{slice_cmp}
-use Rattle.std.specs.declared.cmp.Ordering.TheVariants.{Less, Equal}
-use Rattle.std.proofs.lemmas.Cmp.{tied_itself}
-use Rattle.std.specs.Ordering.{is_eq, ordering_reverse}
+use Rattle.std.specs.declared.cmp.Ordering.TheVariants.{Less}
+use Rattle.std.specs.Ordering.{ordering_reverse}
 use Rattle.std.proofs.lemmas.Bool.{cases_lt, cases_eq}
 use Rattle.std.proofs.lemmas.List.Elements.{All-contains}
 use Rattle.std.specs.Option.{option_map}
@@ -13,9 +11,9 @@ use Rattle.std.proofs.lemmas.List.{get_or_append_left, length-append}
 use Rattle.std.proofs.lemmas.Option.{get_or_from_slice_get, slice_get-get_or, slice_get-map, slice_get_read, slice_get_within}
 use Rattle.emc_base.proofs.Mapped.{contains_at, contains_map}
 use Rattle.emc_base.proofs.Numbered.{all_pairs_map, map_contains}
-use Rattle.emc_base.specs.Order.{value_cmp}
 use Rattle.emc_base.specs.OrderLaws.{key_cmp_total}
-use Rattle.table_owners.proofs.lists.Items.{member_place}
+use Rattle.emc_base.proofs.facts.Standing.{place_of_member}
+use Rattle.emc_base.proofs.facts.Keys.{never_before}
 use Rattle.round_trip.specs.Words.{At, ColId, Place, SetId, TableId, Tables, Value}
 use Rattle.regions.specs.Basis.{Basis}
 use Rattle.keyed_rows.specs.row_groups.Shown.{shown_cells, shown_group}
@@ -32,13 +30,6 @@ use Rattle.query_views.specs.Lent.{lent_entity}
 use Rattle.query_views.specs.declared.lending.LentEntity.{LentEntity}
 use Rattle.query_views.proofs.Viewed.{lacks_rows, viewed_meets}
 use Rattle.query_views.proofs.Zips.{zip_beside, zip_images, zip_members}
-
--- no key comes before itself
-before_itself : (key : List Value) → ¬ IsBefore key key
-before_itself key less = let tied : is_eq Less ≡ is_eq (slice_cmp value_cmp key key) = ap is_eq (sym less) in differ (tied ∙ ap is_eq (tied_itself key_cmp_total key))
-  where
-    differ : is_eq Less ≡ is_eq Equal → ⊥
-    differ same = cc
 
 -- nor does one come before another that comes before it
 before_both : (one other : List Value) → IsBefore one other → ¬ IsBefore other one
@@ -121,10 +112,10 @@ module _ (basis : Basis) (is_free : TableId → ColId → Bool) (tables : Tables
       earlier key has is_before =
           let found = map_contains key_in groups key (key_has key has) in
           let i = found.1.0 in
-          let at : At groups i found.0 = member_place groups found.0 found.1 in
+          let at : At groups i found.0 = place_of_member groups found.0 found.1 in
           let sooner : IsBefore (key_in found.0) (key_in group) = subst (λ one. IsBefore one (key_in group)) (sym found.2) is_before in
           let below : i < length before = ⊎_elim
-          (λ (same : i ≡ length before). absurd (before_itself (key_in group) (subst (λ one. IsBefore (key_in one) (key_in group)) (one_place i (length before) found.0 group same at here) sooner)))
+          (λ (same : i ≡ length before). absurd (never_before (key_in group) (subst (λ one. IsBefore (key_in one) (key_in group)) (one_place i (length before) found.0 group same at here) sooner)))
           (λ not_same. ⊎_elim
           (λ (less : i < length before). less)
           (λ (more : length before ≤ i). absurd (before_both (key_in group) (key_in found.0) (groups_rise (length before) i group found.0 here at (omega (arith, more, not_same))) sooner))

@@ -1,8 +1,8 @@
 -- The cases of all sets, by their regions.
 use Rattle.std.proofs.Common.{◌≡◌, ◌≤◌, ℕ, List, Bool, map, take, length, ap, sym, subst, ◌∙◌}
 use Rattle.std.proofs.lemmas.List.{length-map, take_all}
+use Rattle.emc_base.proofs.facts.Images.{map_at}
 use Rattle.round_trip.specs.Words.{ColId, TableId}
-use Rattle.table_owners.proofs.lists.Items.{at_map}
 use Rattle.regions.specs.Basis.{Basis}
 use Rattle.regions.specs.declared.region.Region.{Region}
 use Rattle.case_laws.specs.region_cases.Cases.{case_of}
@@ -15,7 +15,7 @@ module _ (basis : Basis) (is_free : TableId → ColId → Bool) where
   by_regions regions are = record {
     count = length-map regions (map (case_of is_free basis)) ∙ are.count;
     each = λ s of_set here.
-        (let found = at_map (map (case_of is_free basis)) regions s.index of_set here in
+        (let found = map_at (map (case_of is_free basis)) regions s.index of_set here in
         sym found.2 ∙ ap (map (case_of is_free basis)) (are.each s found.0 found.1));
   }
 

@@ -6,6 +6,7 @@ use Rattle.std.proofs.lemmas.List.Elements.{All-contains, All-head}
 use Rattle.std.proofs.lemmas.Option.{slice_get-get_or}
 use Rattle.emc_base.proofs.Lists.{item_at}
 use Rattle.emc_base.proofs.Mapped.{contains_at}
+use Rattle.emc_base.proofs.facts.Zipped.{zip_at}
 use Rattle.round_trip.specs.Words.{At, ColId, Entity, Row, SetId, TableId, Tables, Value}
 use Rattle.regions.specs.Basis.{Basis}
 use Rattle.case_laws.specs.region_cases.Cases.{cases_of}
@@ -21,7 +22,7 @@ use Rattle.query_views.specs.Views.{AreQueryViewsOf, IsReaderOf}
 use Rattle.query_views.specs.declared.views.Met.{Met}
 use Rattle.query_views.specs.declared.views.QueryViews.{QueryViews}
 use Rattle.query_views.specs.declared.views.SetReader.{SetReader}
-use Rattle.query_views.proofs.Zips.{all_before, zip_at, zip_beside}
+use Rattle.query_views.proofs.Zips.{all_before, zip_beside}
 
 module _ (basis : Basis) (is_free : TableId → ColId → Bool) (tables : Tables) (s : SetId) (key : List Value) where
   -- rows at a key meet a case of the set exactly where they do as it is read

@@ -1,52 +1,29 @@
 -- Lists side by side, and the items that stand beside others.
-use Rattle.std.proofs.Common.{◌≡◌, ◌<◌, ◌+◌, ℕ, zero, suc, List, [], ◌∷◌, ◌++◌, map, length, take, get_or, All, Contains, refl, sym, ap, subst, ◌∙◌, arith}
+use Rattle.std.proofs.Common.{◌≡◌, ◌<◌, ◌+◌, ℕ, suc, List, [], ◌∷◌, ◌++◌, map, length, take, get_or, All, Contains, refl, sym, subst, ◌∙◌, arith}
 use Rattle.std.specs.List.{AllZip}
 use Rattle.std.proofs.lemmas.List.{get_or-take, length-take}
 use Rattle.std.proofs.lemmas.Option.{get_or_from_slice_get, slice_get_within}
 use Rattle.round_trip.specs.Words.{At}
 use Rattle.emc_base.proofs.Lists.{item_at}
 use Rattle.emc_base.proofs.Loops.{take_item}
+use Rattle.emc_base.proofs.facts.Zipped.{zip_at, zip_long, zip_push}
 
 module _ {X Y : Type 0} (R : X → Y → Type 0) where
-  -- lists side by side are of one length
-  pub zip_long : (xs : List X) (ys : List Y) → AllZip R xs ys → length xs ≡ length ys
-  zip_long [] [] all = refl
-  zip_long [] (y ∷ ys) all = absurd all
-  zip_long (x ∷ xs) [] all = absurd all
-  zip_long (x ∷ xs) (y ∷ ys) all = ap suc (zip_long xs ys all.1)
-
-  -- one item more in each
-  pub zip_push : (xs : List X) (ys : List Y) (x : X) (y : Y) → AllZip R xs ys → R x y → AllZip R (xs ++ x ∷ []) (ys ++ y ∷ [])
-  zip_push [] [] x y all one = (one, tt)
-  zip_push [] (w ∷ ys) x y all one = absurd all
-  zip_push (z ∷ xs) [] x y all one = absurd all
-  zip_push (z ∷ xs) (w ∷ ys) x y all one = (all.0, zip_push xs ys x y all.1 one)
-
-  -- items at one place
-  pub zip_at : (xs : List X) (ys : List Y) (i : ℕ) (x : X) (y : Y) → AllZip R xs ys → At xs i x → At ys i y → R x y
-  zip_at [] ys i x y all one other = absurd cc
-  zip_at (z ∷ xs) [] i x y all one other = absurd cc
-  zip_at (z ∷ xs) (w ∷ ys) zero x y all one other = subst (λ (u : X). R u y) (at_head z xs x one) (subst (R z) (at_head w ys y other) all.0)
-    where
-      at_head : {Z : Type 0} (u : Z) (us : List Z) (v : Z) → At (u ∷ us) 0 v → u ≡ v
-      at_head u us v is = cc
-  zip_at (z ∷ xs) (w ∷ ys) (suc i) x y all one other = zip_at xs ys i x y all.1 one other
-
   -- the item beside another
   pub zip_beside : (xs : List X) (ys : List Y) (i : ℕ) (x : X) → AllZip R xs ys → At xs i x → (y : Y) × At ys i y × R x y
   zip_beside xs ys i x all here =
-      let long = zip_long xs ys all in
+      let long = zip_long R xs ys all in
       let inside : i < length xs = slice_get_within xs i x here in
       let other = item_at ys i (omega (arith, long, inside)) in
-      (other.0, other.1, zip_at xs ys i x other.0 all here other.1)
+      (other.0, other.1, zip_at R xs ys i x other.0 all here other.1)
 
   -- and that before another
   pub zip_before : (xs : List X) (ys : List Y) (i : ℕ) (y : Y) → AllZip R xs ys → At ys i y → (x : X) × At xs i x × R x y
   zip_before xs ys i y all there =
-      let long = zip_long xs ys all in
+      let long = zip_long R xs ys all in
       let inside : i < length ys = slice_get_within ys i y there in
       let other = item_at xs i (omega (arith, long, inside)) in
-      (other.0, other.1, zip_at xs ys i other.0 y all other.1 there)
+      (other.0, other.1, zip_at R xs ys i other.0 y all other.1 there)
 
 -- side by side with images
 pub zip_images : {X Y Z W : Type 0} (R : Z → W → Type 0) (f : X → Z) (g : Y → W) (xs : List X) (ys : List Y) → AllZip (λ x y. R (f x) (g y)) xs ys → AllZip R (map f xs) (map g ys)

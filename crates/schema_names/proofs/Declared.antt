@@ -9,16 +9,12 @@ use Rattle.std.proofs.lemmas.List.Folds.{find-append}
 use Rattle.std.proofs.lemmas.Option.{get_or_from_slice_get, slice_get_past, slice_get_within}
 use Rattle.emc_base.specs.Lists.{places_of}
 use Rattle.emc_base.proofs.Numbered.{numbered_at}
+use Rattle.emc_base.proofs.facts.Found.{or_none}
 use Rattle.round_trip.specs.Words.{EntityModel, EntityType, Prop, PropId, At}
 use Rattle.round_trip.specs.soundness.models.Inheritance.{prop_numbered}
 use Rattle.schema_names.specs.declared.own_props.OwnProps.{OwnProps}
 use Rattle.schema_names.specs.OwnProps.{AddsProp, AreOwnProps, HaveNoProps, prop_at, prop_in}
 use Rattle.schema_names.specs.SchemaNames.{has_name}
-
--- nothing behind what was found
-or_none : {X : Type 0} (found : Option X) → option_or found None ≡ found
-or_none None = refl
-or_none (Some x) = refl
 
 -- where nothing stands at a place, the list ends before
 past_end : {X : Type 0} (xs : List X) (i : ℕ) → slice_get xs i ≡ None → length xs ≤ i

@@ -1,5 +1,5 @@
 -- What stands where it is looked for first: where names are apart, it is the first of its name.
-use Rattle.std.proofs.Common.{◌≡◌, ◌≢◌, ◌↔◌, ℕ, zero, suc, ◌<◌, List, [], ◌∷◌, ◌++◌, map, find, get_or, length, slice_get, AllPairs, IsSomeAnd, IsTrue, MatchOption, Bool, true, false, cond, Option, Some, None, refl, sym, ap, subst, ◌∙◌, arith}
+use Rattle.std.proofs.Common.{◌≡◌, ◌≢◌, ◌↔◌, ℕ, zero, suc, ◌<◌, List, [], ◌∷◌, map, find, get_or, length, slice_get, AllPairs, IsSomeAnd, IsTrue, MatchOption, Bool, true, false, cond, Option, Some, None, refl, sym, ap, subst, ◌∙◌, arith}
 use Rattle.std.specs.Bool.{⊤}
 use Rattle.std.specs.List.{AllZip}
 use Rattle.std.specs.Option.{option_and_then, option_map_or}
@@ -8,6 +8,7 @@ use Rattle.std.proofs.lemmas.Bool.{false_from_ne_true}
 use Rattle.std.proofs.lemmas.Option.{get_or_from_slice_get, slice_get_within}
 use Rattle.std.proofs.lemmas.Slice.Eq.{bytes_eq-Decides}
 use Rattle.emc_base.specs.Lists.{At, AreApart}
+use Rattle.emc_base.proofs.facts.Zipped.{zip_at}
 use Rattle.groupings.specs.name_places.GivenNames.{first_place}
 use Rattle.groupings.specs.name_places.PlacesIn.{place_in}
 use Rattle.groupings.proofs.name_places.FirstPlaces.{own_place}
@@ -20,22 +21,6 @@ use Rattle.schema_names.specs.Columns.{AreColumnsOf, IsOfColumns}
 use Rattle.schema_names.specs.SchemaNames.{IsColumnAt, column_named, has_name, prop_named}
 
 -- one item more in each of two lists
-module _ {X Y : Type 0} (R : X → Y → Type 0) where
-  pub zip_push : (xs : List X) (ys : List Y) (x : X) (y : Y) → AllZip R xs ys → R x y → AllZip R (xs ++ x ∷ []) (ys ++ y ∷ [])
-  zip_push [] [] x y all one = (one, tt)
-  zip_push [] (w ∷ ys) x y all one = absurd all
-  zip_push (z ∷ xs) [] x y all one = absurd all
-  zip_push (z ∷ xs) (w ∷ ys) x y all one = (all.0, zip_push xs ys x y all.1 one)
-
-  -- items at one place
-  pub zip_at : (xs : List X) (ys : List Y) (i : ℕ) (x : X) (y : Y) → AllZip R xs ys → At xs i x → At ys i y → R x y
-  zip_at [] ys i x y all one other = absurd cc
-  zip_at (z ∷ xs) [] i x y all one other = absurd cc
-  zip_at (z ∷ xs) (w ∷ ys) zero x y all one other = subst (λ (u : X). R u y) (at_head z xs x one) (subst (R z) (at_head w ys y other) all.0)
-    where
-      at_head : {Z : Type 0} (u : Z) (us : List Z) (v : Z) → At (u ∷ us) 0 v → u ≡ v
-      at_head u us v is = cc
-  zip_at (z ∷ xs) (w ∷ ys) (suc i) x y all one other = zip_at xs ys i x y all.1 one other
 
 -- images that agree place by place
 pub zip_same : {X Y Z : Type 0} (f : X → Z) (g : Y → Z) (xs : List X) (ys : List Y) → AllZip (λ x y. g y ≡ f x) xs ys → map g ys ≡ map f xs

@@ -6,7 +6,7 @@ use Rattle.std.proofs.lemmas.List.Concat.{flat_map-append}
 use Rattle.std.proofs.lemmas.List.Elements.{filter-append}
 use Rattle.emc_base.specs.Lists.{At}
 use Rattle.emc_base.proofs.Loops.{take-enumerated}
-use Rattle.cells.proofs.Lists.{one_more_gives}
+use Rattle.emc_base.proofs.facts.Images.{one_more_gives}
 
 -- one item behind, as its image
 pub behind : {X Y : Type 0} (f : X → Y) (before after : List X) (x : X) (y : Y) → after ≡ before ++ x ∷ [] → f x ≡ y → map f after ≡ map f before ++ y ∷ []

@@ -1,10 +1,11 @@
 -- The one fragment that writes the links of an association which cells tell as hosted.
-use Rattle.std.proofs.Common.{◌≡◌, ◌≢◌, ◌<◌, ℕ, List, [], ◌∷◌, ◌==◌, ◌&&◌, ◌++◌, AllPairs, Bool, true, false, length, map, not, Some, flat_map, refl, sym, ap, ◌∙◌, subst, if◌then◌else◌, arith}
+use Rattle.std.proofs.Common.{◌≡◌, ◌≢◌, ◌<◌, ℕ, List, [], ◌∷◌, ◌==◌, ◌&&◌, ◌++◌, AllPairs, Bool, true, false, length, map, not, Some, flat_map, sym, ap, ◌∙◌, subst, if◌then◌else◌, arith}
 use Rattle.std.specs.List.{enumerate_from}
 use Rattle.std.proofs.lemmas.List.{get_or-map, length-map}
 use Rattle.emc_base.specs.Lists.{At, AreApart, AtMostOne}
 use Rattle.emc_base.proofs.Lists.{same_place}
 use Rattle.emc_base.proofs.Mapped.{contains_at}
+use Rattle.emc_base.proofs.facts.Tests.{not_is}
 use Rattle.round_trip.specs.Words.{Assoc, AssocId, LinkFragId, LinkFragment}
 use Rattle.table_owners.specs.declared.places.LinkPlace.TheVariants as place
 use Rattle.cells.specs.declared.parts.Parts.{Parts}
@@ -17,10 +18,6 @@ use Rattle.regions.proofs.region_laws.lists.Found.{filter_one}
 use Rattle.regions.proofs.region_laws.values.Symbols.{Decides-assoc}
 use Rattle.symbolic_rows.specs.Written.{writings_at, writings_by}
 use Rattle.symbolic_rows.proofs.Behind.{by_lists, one_passes}
-
-turned : (b : Bool) → not b ≡ (if b then false else true)
-turned true = refl
-turned false = refl
 
 module _ (parts : Parts) (are : AreParts parts) where
   abbrev links : List LinkFragment
@@ -65,7 +62,7 @@ module _ (parts : Parts) (are : AreParts parts) where
           let at_set : Bool = (host_end first_hosts assoc).set.index == region.set.index in
           one_passes (host_writings (basis_of parts)) (λ h. is_linked (basis_of parts) region.linked h.assoc) host at_set linked
           ∙ ap (map (link_fragment_writing first_hosts (if first_hosts then false else true))) alone
-          ∙ ap (λ second. link_fragment_writing first_hosts second fragment ∷ []) (sym (turned first_hosts))
+          ∙ ap (λ second. link_fragment_writing first_hosts second fragment ∷ []) (sym (not_is first_hosts))
 
   -- what comes for the fragments of entities and then for the associations is what the region writes
   pub region_writes : (region : Region) (first own all : List SymbolWriting) → first ≡ [] → own ≡ first ++ map fragment_writing (fragments_of (basis_of parts) region)

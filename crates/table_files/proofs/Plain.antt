@@ -3,12 +3,10 @@ use Rattle.std.proofs.Common.{◌≡◌, false, refl}
 use Rattle.std.specs.List.{enumerate_from}
 use Rattle.serde_json.specs.Data.{no_members}
 use Rattle.serde_json.specs.Written.{has_float}
-use Rattle.json_form.proofs.Objects.{put_all-plain, array_of-plain, value_tree-plain}
-use Rattle.round_trip.specs.Words.{StoreModel, Table, Row, Tables, rows_in, cell_of}
-use Rattle.table_files.specs.TablesTree.{cell_member, row_tree, table_member, tables_tree}
-
-row_tree-plain : (table : Table) (row : Row) → has_float (row_tree table row) ≡ false
-row_tree-plain table row = put_all-plain no_members (cell_member row) (enumerate_from 0 table.cols) (λ entry. value_tree-plain (cell_of row (record { index = entry.0 }))) refl
+use Rattle.json_form.proofs.Objects.{put_all-plain, array_of-plain}
+use Rattle.round_trip.specs.Words.{StoreModel, Tables, rows_in}
+use Rattle.table_files.specs.TablesTree.{row_tree, table_member, tables_tree}
+use Rattle.table_files.proofs.RowTree.{row_tree-plain}
 
 pub tables_tree-plain : (store : StoreModel) (tables : Tables) → has_float (tables_tree store tables) ≡ false
 tables_tree-plain store tables =

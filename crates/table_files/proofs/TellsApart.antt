@@ -1,9 +1,7 @@
 -- Rows are told apart exactly where entries of them that are in order rise strictly.
-use Rattle.std.proofs.Common.{◌≡◌, ◌≢◌, ⊎_elim, ◌↔◌, ℕ, ◌+◌, ◌-◌, ◌<◌, ◌≤◌, List, length, map, get_or, true, AllPairs, All, refl, sym, ap, subst, ◌∙◌, arith}
+use Rattle.std.proofs.Common.{◌≡◌, ◌≢◌, ⊎_elim, ◌↔◌, ℕ, ◌+◌, ◌-◌, ◌<◌, ◌≤◌, List, length, map, get_or, AllPairs, All, refl, sym, ap, subst, ◌∙◌, arith}
 use Rattle.std.specs.Cmp.Lexicographic.{slice_cmp}
-use Rattle.std.specs.Ordering.{is_lt}
-use Rattle.std.specs.declared.cmp.Ordering.{Ordering}
-use Rattle.std.specs.declared.cmp.Ordering.TheVariants.{Less, Equal, Greater}
+use Rattle.std.specs.declared.cmp.Ordering.TheVariants.{Less}
 use Rattle.std.specs.List.Sorted.{ties}
 use Rattle.std.proofs.lemmas.Bool.{cases_eq}
 use Rattle.std.proofs.lemmas.List.{get_or-map, length-map}
@@ -17,12 +15,6 @@ use Rattle.table_files.specs.InOrder.{AreToldApartBy, IsInOrderOf}
 use Rattle.table_files.specs.declared.sort_entry.SortEntry.{SortEntry}
 use Rattle.table_files.proofs.Entries.{as_rows, entry_cmp_total, row_in}
 use Rattle.table_files.proofs.Rising.{rise_strictly, rising_apart, row_lt, tie, two_kept}
-
--- what is told as less is less
-pub is_less : (order : Ordering) → is_lt order ≡ true → order ≡ Less
-is_less Less told = refl
-is_less Equal told = cc
-is_less Greater told = cc
 
 module _ (cols : List ColId) where
   -- the first so many entries rise

@@ -1,28 +1,15 @@
 -- The tree of tables tells them, where names are apart.
-use Rattle.std.proofs.Common.{◌≡◌, ◌≢◌, ⊎_elim, ℕ, List, map, Some, IsSome, AllPairs, Contains, sym, subst, ◌∙◌}
+use Rattle.std.proofs.Common.{◌≡◌, ℕ, List, map, ◌∙◌}
 use Rattle.std.specs.Prelude.{⊤}
 use Rattle.std.specs.List.{enumerate_from}
 use Rattle.std.proofs.lemmas.Simd.{map-map}
 use Rattle.emc_base.specs.Lists.{AreApart}
 use Rattle.emc_base.proofs.Mapped.{contains_enumerated, contains_map, map-enumerated, all_zip-map}
-use Rattle.serde_json.specs.Data.{Data, no_members}
-use Rattle.serde_json.specs.Find.{get, get_member}
-use Rattle.json_form.specs.Trees.{object_of}
-use Rattle.json_form.proofs.Members.{get_member-put_all, names-put_all}
+use Rattle.serde_json.specs.Data.{Data}
+use Rattle.json_form.proofs.Told.{told, told_only}
 use Rattle.round_trip.specs.Words.{StoreModel, Table, Column, Row, Tables, rows_in}
 use Rattle.table_files.specs.TablesTree.{cell_member, row_tree, table_member, tables_tree}
 use Rattle.table_files.specs.Tells.{column_names, table_names, HasApartNames, TellsRow, TellsTables}
-
--- in an object made of members with names of their own, each stands under its name
-told : (entries : List (List ℕ × Data)) (names : List (List ℕ)) → map (λ entry. entry.0) entries ≡ names → AreApart names
-    → (entry : List ℕ × Data) → Contains entries entry → get entry.0 (object_of entries) ≡ Some entry.1
-told entries names are apart entry has = get_member-put_all no_members entries entry (subst (λ ns. AllPairs (λ one other. one ≢ other) ns) (sym are) apart) has
-
--- and nothing else stands there
-told_only : (entries : List (List ℕ × Data)) (names : List (List ℕ)) → map (λ entry. entry.0) entries ≡ names
-    → (name : List ℕ) → IsSome (get name (object_of entries)) → Contains names name
-told_only entries names are name some =
-    subst (λ ns. Contains ns name) are (⊎_elim (λ (none : IsSome (get_member name no_members)). cc) (λ has. has) (names-put_all name no_members entries some))
 
 tells_row : (table : Table) (row : Row) → AreApart (column_names table) → TellsRow table row (row_tree table row)
 tells_row table row apart =

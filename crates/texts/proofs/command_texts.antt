@@ -1,2 +1,1 @@
-pub mod RowTree
 pub mod Named

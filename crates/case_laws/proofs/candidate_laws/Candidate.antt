@@ -1,14 +1,10 @@
 -- The entities that the query view of a set gives are those of the legal state.
 use Rattle.std.proofs.Common.{◌≡◌, ◌≢◌, ℕ, List, get_or, AllPairs, Bool, Contains, IsPermutation, sym, ap, subst, ◌∙◌, arith}
-use Rattle.std.specs.Ordering.{ordering_reverse}
-use Rattle.std.specs.Cmp.Lexicographic.{slice_cmp}
-use Rattle.std.specs.declared.cmp.Ordering.{Ordering}
-use Rattle.std.specs.declared.cmp.Ordering.TheVariants.{Less}
 use Rattle.std.proofs.lemmas.Option.{get_or_from_slice_get, slice_get-get_or, slice_get_within}
 use Rattle.graphs.proofs.base_chains.orders.Orders.{place_of_member}
-use Rattle.emc_base.specs.Order.{value_cmp}
-use Rattle.emc_base.specs.OrderLaws.{key_cmp_total}
 use Rattle.emc_base.proofs.Mapped.{contains_at}
+use Rattle.emc_base.proofs.facts.Keys.{never_before}
+use Rattle.emc_base.proofs.facts.Zipped.{zipped_left, zipped_right}
 use Rattle.round_trip.specs.Words.{SetId, TableId, ColId, Entity, EntitySet, At, IsLegal, RoundTrips, State, Tables, Value, entities_in, key_of}
 use Rattle.cells.specs.Limits.{IsWithinLimits}
 use Rattle.schema_laws.proofs.kept_states.Entities.{apart_by_key}
@@ -20,14 +16,6 @@ use Rattle.case_laws.specs.candidates.Candidates.{AreViewed, IsBefore}
 use Rattle.case_laws.specs.candidates.Viewed.{IsViewed}
 use Rattle.case_laws.specs.Reading.{DecidesFree, HasStateTables}
 use Rattle.case_laws.proofs.candidate_laws.OwnView.{entity_at, has_rows, view_is_own}
-use Rattle.case_laws.proofs.candidate_laws.Zipped.{beside_left, beside_right}
-
--- no key comes before itself
-never_before : (key : List Value) → ¬ IsBefore key key
-never_before key before = by (slice_cmp value_cmp key key) before (key_cmp_total.antisymm key key)
-  where
-    by : (order : Ordering) → order ≡ Less → order ≡ ordering_reverse order → ⊥
-    by order less turned = let same : Less ≡ ordering_reverse Less = subst (λ one. one ≡ ordering_reverse one) less turned in absurd cc
 
 -- so rising keys are different
 keys_apart : (keys : List (List Value)) → AllPairs IsBefore keys → AllPairs (λ key other. key ≢ other) keys
@@ -51,7 +39,7 @@ module _ (basis : Basis) (is : IsBasis basis) (limits : IsWithinLimits basis.sch
   -- the key beside it
   key_at : (i : ℕ) (entity : Entity) → At entities i entity → At viewed.keys i (key_of basis.schema.model entity) × Contains (entities_in state s) entity
   key_at i entity here =
-      let found = beside_right Views viewed.keys entities viewed.each i entity here in
+      let found = zipped_right Views viewed.keys entities viewed.each i entity here in
       let own = own_entity found.0 entity (contains_at viewed.keys i found.0 found.1) found.2 in
       (subst (At viewed.keys i) (sym own.1) found.1, own.0)
 
@@ -64,7 +52,7 @@ module _ (basis : Basis) (is : IsBasis basis) (limits : IsWithinLimits basis.sch
   from_state entity stands =
       let key : List Value = key_of basis.schema.model entity in
       let among : Contains viewed.keys key = (viewed.are key).1 (has_rows basis is limits none round is_free decides state legal tables has s entity stands) in
-      let found = beside_left Views viewed.keys entities viewed.each among.0 key (place_of_member viewed.keys key among) in
+      let found = zipped_left Views viewed.keys entities viewed.each among.0 key (place_of_member viewed.keys key among) in
       let same : found.0 ≡ entity = view_is_own basis is limits none round is_free decides state legal tables has s entity stands found.0 found.2 in
       subst (Contains entities) same (contains_at entities among.0 found.0 found.1)
 

@@ -1,8 +1,8 @@
 -- The state of all entities that the query views give is the legal state whose tables these are; so it is as legal, and has the same tables.
-use Rattle.std.proofs.Common.{◌≡◌, ⊎_elim, ◌<◌, ◌≤◌, List, [], length, Bool, IsPermutation, sym, ap, subst, ◌∙◌, arith}
+use Rattle.std.proofs.Common.{⊎_elim, ◌<◌, ◌≤◌, length, Bool, IsPermutation, ap, ◌∙◌, arith}
 use Rattle.std.proofs.lemmas.Bool.{cases_lt}
-use Rattle.std.proofs.lemmas.List.Sorted.{IsPermutation-refl}
 use Rattle.emc_base.proofs.Lists.{item_at}
+use Rattle.emc_base.proofs.facts.Pairs.{both_none}
 use Rattle.round_trip.specs.Words.{SetId, TableId, ColId, AssocId, AreSameTables, IsLegal, IsSameState, RoundTrips, State, Tables, TablesAre, entities_in, links_in}
 use Rattle.cells.specs.Limits.{IsWithinLimits}
 use Rattle.schema_laws.proofs.kept_states.Entities.{past_none}
@@ -15,10 +15,6 @@ use Rattle.region_states.specs.LoneStates.{HasNoAssociationSets}
 use Rattle.case_laws.specs.candidates.Candidates.{IsCandidate}
 use Rattle.case_laws.specs.Reading.{DecidesFree, HasStateTables}
 use Rattle.case_laws.proofs.candidate_laws.Candidate.{same_entities}
-
--- two empty lists are the same
-both_none : {X : Type 0} (xs ys : List X) → xs ≡ [] → ys ≡ [] → IsPermutation xs ys
-both_none xs ys no_xs no_ys = subst (IsPermutation xs) (no_xs ∙ sym no_ys) (IsPermutation-refl xs)
 
 module _ (basis : Basis) (is : IsBasis basis) (limits : IsWithinLimits basis.schema) (none : HasNoAssociationSets basis.schema.model) (round : RoundTrips basis.schema)
     (is_free : TableId → ColId → Bool) (decides : DecidesFree basis.schema is_free) (tables : Tables) (candidate : State)

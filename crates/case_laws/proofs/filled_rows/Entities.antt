@@ -9,9 +9,9 @@ use Rattle.round_trip.specs.Words.{SetId, TableId, At, ColId, DemandsRow, Entity
 use Rattle.round_trip.specs.TablesAre.{HasNoClash}
 use Rattle.table_files.specs.declared.tables.TableRow.{TableRow}
 use Rattle.round_trip.specs.soundness.Stores.{IsKeyColumn, IsSoundTable}
+use Rattle.round_trip.proofs.Lookups.{key_columns_at}
 use Rattle.schema_laws.specs.state_demand.Owners.{IsOwned, StandsAt, paired_key}
 use Rattle.schema_laws.specs.state_demand.WellWritten.{cols_of}
-use Rattle.schema_laws.proofs.state_demand.writings.Fitting.{key_is}
 use Rattle.schema_laws.proofs.state_demand.lists.Lists.{any_of}
 use Rattle.schema_laws.proofs.state_demand.lists.Places.{map_agree}
 use Rattle.regions.specs.declared.region.Region.{Region}
@@ -61,7 +61,7 @@ module _ (basis : Basis) (is : IsBasis basis) (state : State) (legal : IsLegal b
     at = record { pairing = pairing; owned = owned; at = record { stands = held.stands; at_key = refl } }
 
     cols_are : cols_of pairing ≡ table.key
-    cols_are = owned.cols ∙ key_is basis.schema.store pattern.table table is_table
+    cols_are = owned.cols ∙ key_columns_at basis.schema.store pattern.table table is_table
 
     key_column : (col : ColId) → Contains table.key col → IsKeyColumn table col
     key_column col among =

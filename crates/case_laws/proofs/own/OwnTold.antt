@@ -1,10 +1,11 @@
 -- The rows of an entity tell the entity and the links that it hosts.
-use Rattle.std.proofs.Common.{◌≡◌, List, [], length, Bool, true, false, not, if◌then◌else◌, Contains, refl, sym, ap, subst, ◌∙◌}
+use Rattle.std.proofs.Common.{◌≡◌, List, [], length, Bool, true, false, not, Contains, refl, sym, ap, subst, ◌∙◌}
 use Rattle.std.specs.Option.{option_map_or}
 use Rattle.std.proofs.lemmas.List.Elements.{All-contains}
 use Rattle.emc_base.proofs.Lists.{all_from_members, only_member}
 use Rattle.emc_base.proofs.Mapped.{contains_filter}
 use Rattle.emc_base.proofs.Numbered.{filter_contains}
+use Rattle.emc_base.proofs.facts.Tests.{not_is}
 use Rattle.round_trip.specs.Words.{SetId, TableId, ColId, PropId, Assoc, Entity, EntityType, Hosted, IsEntity, IsLegal, IsLink, Link, Null, State, Tables, Value, entities_in, key_of, key_props, links_in, props_of, value_beside, value_of}
 use Rattle.condition_logic.specs.declared.atoms.Atom.{Atom}
 use Rattle.condition_logic.specs.declared.atoms.Atom.TheVariants as atom
@@ -44,10 +45,6 @@ partner_size : (basis : Basis) (assoc : Assoc) (link : Link) → IsLink basis.sc
     → length (partner_key first_hosts link) ≡ length (key_props basis.schema.model (partner_end first_hosts assoc).ty)
 partner_size basis assoc link is_link true = is_link.second
 partner_size basis assoc link is_link false = is_link.first
-
-not_is : (b : Bool) → not b ≡ (if b then false else true)
-not_is true = refl
-not_is false = refl
 
 module _ (is_free : TableId → ColId → Bool) (basis : Basis) (is : IsBasis basis) (decides : DecidesFree basis.schema is_free) (state : State)
     (legal : IsLegal basis.schema.model state) (tables : Tables) (has : HasStateTables basis.schema state tables) (s : SetId) (few : HasFewPartners basis s) (entity : Entity)

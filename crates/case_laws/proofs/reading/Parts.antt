@@ -15,13 +15,14 @@ use Rattle.regions.proofs.region_laws.listing.Listed.{set_is}
 use Rattle.regions.proofs.region_laws.values.Symbols.{Decides-assoc}
 use Rattle.regions.specs.region_laws.pattern.Allowed.{end_at, partner_parts}
 use Rattle.regions.proofs.region_laws.pattern.Choices.{found_passes, none_passes}
+use Rattle.regions.proofs.region_laws.pattern.Ends.{other_end}
 use Rattle.case_laws.specs.declared.region_cases.case.Case.{Case}
 use Rattle.case_laws.specs.region_cases.Cases.{case_of}
 use Rattle.case_laws.specs.region_cases.Meets.{AreLinksOf, IsLinkOf, ShowsPart}
 use Rattle.case_laws.specs.Reading.{DecidesFree}
 use Rattle.case_laws.specs.Told.{IsMet, IsReadable}
 use Rattle.case_laws.proofs.lists.Chosen.{AreChosen, chosen_values}
-use Rattle.case_laws.proofs.shown.Links.{other_end, part_listed}
+use Rattle.case_laws.proofs.shown.Links.{part_listed}
 use Rattle.case_laws.proofs.shown.Present.{present_cell}
 use Rattle.case_laws.proofs.shown.Shown.{same_host, shows, shows_part}
 

@@ -8,9 +8,9 @@ use Rattle.emc_base.proofs.Numbered.{map_contains}
 use Rattle.round_trip.specs.Words.{SetId, TableId, ColId, PropId, Pair, Row, Table, Tables, Value, At, cell_of, key_props, props_of, value_beside}
 use Rattle.round_trip.specs.soundness.Lookups.{set_key}
 use Rattle.round_trip.specs.soundness.Stores.{IsKeyColumn, IsSoundTable}
+use Rattle.round_trip.proofs.Lookups.{key_columns_at}
 use Rattle.schema_laws.specs.state_demand.Owners.{props_in}
 use Rattle.schema_laws.specs.state_demand.WellWritten.{cols_of}
-use Rattle.schema_laws.proofs.state_demand.writings.Fitting.{key_is}
 use Rattle.schema_laws.proofs.state_demand.lists.Lists.{head_stands}
 use Rattle.regions.specs.declared.region.Region.{Region}
 use Rattle.regions.specs.declared.pattern.Focus.TheVariants as focus
@@ -75,7 +75,7 @@ module _ (is_free : TableId → ColId → Bool) (basis : Basis) (is : IsBasis ba
       let pair = map_contains (λ (one : Pair). one.prop) at.pairing p
       (All-contains (Contains (props_in at.pairing)) (key_props basis.schema.model at.owned.set.element) p at.owned.paired in_key) in
       let col : ColId = pair.0.col in
-      let cols : cols_of at.pairing ≡ at.table.key = at.owned.cols ∙ key_is basis.schema.store t at.table at.is_table in
+      let cols : cols_of at.pairing ≡ at.table.key = at.owned.cols ∙ key_columns_at basis.schema.store t at.table at.is_table in
       let of_key : Contains at.table.key col = subst (λ list. Contains list col) cols (contains_map (λ (one : Pair). one.col) at.pairing pair.0 pair.1) in
       let column = key_column at.table t at.is_table col of_key in
       let symbols : List Symbol = cell_symbols (writings_of basis (focus.Entity region)) t col in

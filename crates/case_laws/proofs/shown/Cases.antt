@@ -1,12 +1,12 @@
 -- The cells of a case, by the cells of its pattern.
-use Rattle.std.proofs.Common.{◌≡◌, ◌<◌, ℕ, List, map, length, option_map, Bool, Some, sym, ap, subst, ◌∙◌}
+use Rattle.std.proofs.Common.{◌≡◌, ◌<◌, ℕ, List, length, option_map, Bool, Some, sym, ap, subst, ◌∙◌}
 use Rattle.std.specs.List.{enumerate_from}
-use Rattle.std.proofs.lemmas.List.{length-map}
 use Rattle.std.proofs.lemmas.List.FromFn.{length-enumerate_from}
 use Rattle.std.proofs.lemmas.Option.{slice_get-map, slice_get_within}
 use Rattle.emc_base.proofs.Lists.{item_at}
 use Rattle.emc_base.proofs.Mapped.{contains_map}
 use Rattle.emc_base.proofs.Numbered.{map_contains, numbered_at}
+use Rattle.emc_base.proofs.facts.Images.{map_at}
 use Rattle.round_trip.specs.Words.{TableId, ColId, Row, Tables, Value, At}
 use Rattle.regions.specs.declared.region.Region.{Region}
 use Rattle.regions.specs.declared.pattern.Focus.TheVariants as focus
@@ -19,15 +19,6 @@ use Rattle.case_laws.specs.declared.region_cases.case.CaseCell.{CaseCell}
 use Rattle.case_laws.specs.declared.region_cases.case.CaseRow.{CaseRow}
 use Rattle.case_laws.specs.region_cases.Cases.{case_cell, case_of, case_row}
 use Rattle.case_laws.specs.region_cases.Meets.{HasCell, StandsHere}
-
--- an item of a list of images is an image
-at_image : {X Y : Type 0} (f : X → Y) (xs : List X) (i : ℕ) (y : Y) → At (map f xs) i y → (x : X) × At xs i x × (f x ≡ y)
-at_image {X} {Y} f xs i y here =
-    let within : i < length xs = subst (λ n. i < n) (length-map xs f) (slice_get_within (map f xs) i y here) in
-    let found = item_at xs i within in
-    let same : Some (f found.0) ≡ Some y = sym (slice_get-map f xs i ∙ ap (option_map f) found.1) ∙ here in
-    let is : f found.0 ≡ y = cc in
-    (found.0, found.1, is)
 
 -- the cell of a region's pattern at a column
 abbrev pub IsCell : Basis → Region → TableId → ColId → List Symbol → Type 0
@@ -53,7 +44,7 @@ module _ (is_free : TableId → ColId → Bool) (basis : Basis) (region : Region
       → (symbols : List Symbol) × At row.cells col.index symbols × (told ≡ told_of_cell row.table col symbols)
   row_of_cell row col told here =
       let f : ℕ × List Symbol → CaseCell = λ placed. told_of_cell row.table (record { index = placed.0 }) placed.1 in
-      let image = at_image f (enumerate_from 0 row.cells) col.index told here in
+      let image = map_at f (enumerate_from 0 row.cells) col.index told here in
       let within : col.index < length row.cells =
       subst (λ n. col.index < n) (length-enumerate_from 0 row.cells) (slice_get_within (enumerate_from 0 row.cells) col.index image.0 image.1) in
       let found = item_at row.cells col.index within in

@@ -24,6 +24,7 @@ use Rattle.regions.proofs.region_laws.pattern.Laws.{listed_from}
 use Rattle.regions.proofs.region_laws.pattern.Cells.{written_listed}
 use Rattle.regions.proofs.region_laws.pattern.symbols.Origins.{linked_decided, side}
 use Rattle.regions.proofs.region_laws.pattern.symbols.Standing.{IsEndOf, end_of}
+use Rattle.regions.proofs.region_laws.pattern.Ends.{other_end}
 use Rattle.region_states.proofs.focus.Listed.{lists_written}
 use Rattle.case_laws.proofs.shown.Cases.{IsCell}
 
@@ -42,11 +43,6 @@ end_given false fragment pair among =
     let given : Pair → ColId × Symbol = λ one. (one.col, symbol.End fragment.assoc true one.prop) in
     Contains-append_left {X = ColId × Symbol} (ones ++ twos) (conds_symbols fragment.conds) (given pair)
     (Contains-append_left {X = ColId × Symbol} ones twos (given pair) (contains_map given fragment.first pair among))
-
--- the end that doesn't host is the partner's
-pub other_end : (first_hosts : Bool) (assoc : Assoc) → end_at (not first_hosts) assoc ≡ partner_end first_hosts assoc
-other_end true assoc = refl
-other_end false assoc = refl
 
 module _ (basis : Basis) (is : IsBasis basis) (s : SetId) (region : Region) (listed : Contains (regions_of basis s) region) where
   -- an end that the region's pattern lists: the partner's, of an association of which a link is there

@@ -17,11 +17,12 @@ use Rattle.regions.specs.region_laws.IsBasis.{IsBasis}
 use Rattle.regions.specs.region_laws.Partners.{TellsPartner}
 use Rattle.regions.specs.region_laws.RegionAt.{links_at}
 use Rattle.regions.proofs.region_laws.values.Symbols.{Decides-assoc}
-use Rattle.regions.specs.region_laws.pattern.Allowed.{HasAllowedParts, IsAllowed, end_at}
+use Rattle.regions.specs.region_laws.pattern.Allowed.{HasAllowedParts, IsAllowed}
 use Rattle.regions.proofs.region_laws.pattern.values.Allowed.{link_allowed}
 use Rattle.regions.proofs.region_laws.pattern.symbols.Hosting.{one_host}
 use Rattle.regions.proofs.region_laws.pattern.symbols.Origins.{linked_decided}
 use Rattle.regions.proofs.region_laws.pattern.types.Regions.{parts_of}
+use Rattle.regions.proofs.region_laws.pattern.Ends.{other_end}
 use Rattle.region_states.specs.focus.Held.{IsOfRegion}
 use Rattle.region_states.proofs.focus.Flags.{unflagged}
 use Rattle.region_states.specs.defaults.Defaults.{default_part}
@@ -29,11 +30,6 @@ use Rattle.region_states.proofs.defaults.Defaults.{default_admissible}
 use Rattle.region_states.specs.conflicts.There.{HasFewLinks}
 use Rattle.conflict_laws.proofs.clash.Found.{found_only}
 use Rattle.conflict_laws.proofs.clash.Written.{HasToldLinks}
-
--- the partner's end, by the end that hosts
-partner_is : (first_hosts : Bool) (assoc : Assoc) → end_at (not first_hosts) assoc ≡ partner_end first_hosts assoc
-partner_is true assoc = refl
-partner_is false assoc = refl
 
 module _ (basis : Basis) (state : State) (s : SetId) (entity : Entity) where
   abbrev key : List Value
@@ -130,7 +126,7 @@ module _ (basis : Basis) (is : IsBasis basis) (limits : IsWithinLimits basis.sch
             let P : Value → Type 0 = λ value. InDomain value declared.kind in
             subst P (sym (link_told basis state s entity is host hosts_here link rest some assoc here (not host.first_hosts) p))
             ((link_allowed basis is state legal host.assoc assoc here link stands).parts assoc here (not host.first_hosts) p declared
-            (subst E (sym (partner_is host.first_hosts assoc)) key) is_declared)
+            (subst E (sym (other_end host.first_hosts assoc)) key) is_declared)
 
   -- each property of the type allows the entity's value
   prop_allows : (p : PropId) (declared : Prop) → Contains (props_of basis.schema.model region.ty) p → At basis.schema.model.props p.index declared

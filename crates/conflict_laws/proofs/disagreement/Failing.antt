@@ -5,12 +5,12 @@ use Rattle.std.proofs.lemmas.Bool.Decides.{Decides-eqb}
 use Rattle.round_trip.specs.Words.{SetId, TableId, Entity, FailsAt, Fragment, IsLegal, LinkFragment, Pair, State, Table, Tables, At, key_of, place_at}
 use Rattle.round_trip.specs.FailsAt.{Disagrees}
 use Rattle.round_trip.specs.declared.FailKind.TheVariants as kind
+use Rattle.round_trip.proofs.Lookups.{assoc_of}
 use Rattle.schema_laws.specs.state_demand.Owners.{IsOwned}
 use Rattle.schema_laws.specs.sound_demand.Disagreeing.{keys_in_row}
 use Rattle.schema_laws.specs.sound_demand.Fragments.{IsHostedFragment, IsOwnedFragment, IsStoredIn}
 use Rattle.schema_laws.specs.sound_demand.Made.{tables_for}
 use Rattle.schema_laws.proofs.sound_demand.tuples.Disagreeing.{fails_at_entities, tuples_of_hosts}
-use Rattle.schema_laws.proofs.sound_demand.Fitting.{assoc_of}
 use Rattle.schema_laws.proofs.sound_demand.Kept.{clash_shown, tables_there}
 use Rattle.cells.specs.Limits.{IsWithinLimits}
 use Rattle.regions.specs.declared.region.Region.{Region}

@@ -1,13 +1,14 @@
 -- Fragments with one place are one, and none of entities has the place of one of links.
-use Rattle.std.proofs.Common.{◌≡◌, ◌≢◌, ⊎_elim, ℕ, List, [], ◌∷◌, ◌++◌, map, Contains, sym, subst, arith}
-use Rattle.std.proofs.lemmas.List.Elements.{Contains-append_left, Contains-append_right}
+use Rattle.std.proofs.Common.{◌≡◌, ◌≢◌, ℕ, List, [], ◌∷◌, ◌++◌, map, Contains, subst, arith}
+use Rattle.std.proofs.lemmas.List.Elements.{Contains-append_left}
 use Rattle.std.proofs.lemmas.List.Kept.{AllPairs-cons}
 use Rattle.emc_base.specs.Lists.{AreApart}
 use Rattle.emc_base.proofs.Lists.{all_from_members}
 use Rattle.emc_base.proofs.Mapped.{contains_map}
+use Rattle.emc_base.proofs.facts.Pairs.{apart_between}
 use Rattle.round_trip.specs.Words.{Fragment, LinkFragment, Schema}
 use Rattle.round_trip.specs.soundness.mappings.Mappings.{IsSoundSchema}
-use Rattle.schema_laws.proofs.state_demand.lists.Lists.{member_cases, none_in_nil, same_by_key}
+use Rattle.schema_laws.proofs.state_demand.lists.Lists.{same_by_key}
 use Rattle.schema_laws.proofs.state_demand.owners.Owners.{pairs_from_map}
 use Rattle.schema_laws.proofs.state_demand.lists.Permutations.{head_apart, rest_apart}
 
@@ -22,14 +23,6 @@ module _ {X : Type 0} where
   apart_right : (xs ys : List X) → AreApart (xs ++ ys) → AreApart ys
   apart_right [] ys apart = apart
   apart_right (x ∷ xs) ys apart = apart_right xs ys (rest_apart x (xs ++ ys) apart)
-
-  -- and nothing stands in both
-  apart_between : (xs ys : List X) (x : X) → AreApart (xs ++ ys) → Contains xs x → Contains ys x → ⊥
-  apart_between [] ys x apart first second = none_in_nil x first
-  apart_between (z ∷ zs) ys x apart first second = ⊎_elim
-      (λ (here : x ≡ z). head_apart z (zs ++ ys) x apart (Contains-append_right zs ys x second) (sym here))
-      (λ (later : Contains zs x). apart_between zs ys x (rest_apart z (zs ++ ys) apart) later second)
-      (member_cases z zs x first)
 
 module _ (schema : Schema) (sound : IsSoundSchema schema) where
   abbrev place_in : Fragment → List ℕ

@@ -1,6 +1,7 @@
 -- Whether a column is there and isn't nullable.
 use Rattle.std.proofs.Common.{◌≡◌, slice_get, Bool, true, false, not, Option, Some, None, IsTrue, refl, sym, ap, ◌∙◌}
 use Rattle.std.specs.Option.{option_map_or}
+use Rattle.emc_base.proofs.facts.Tests.{not_true}
 use Rattle.round_trip.specs.Words.{ColId, Column, Schema, Table, TableId}
 use Rattle.round_trip.specs.FailsAt.{HasColumn}
 use Rattle.region_states.specs.conflicts.Facts.{is_required}
@@ -11,10 +12,6 @@ pub record IsRequiredAt (schema : Schema) (t : TableId) (col : ColId) : Type 0 w
   pub column : Column
   pub here : HasColumn schema t table col column
   pub needed : column.nullable ≡ false
-
-not_so : (b : Bool) → not b ≡ true → b ≡ false
-not_so true told = cc
-not_so false told = refl
 
 module _ (schema : Schema) (t : TableId) (col : ColId) where
   abbrev needed_in : Table → Bool
@@ -28,7 +25,7 @@ module _ (schema : Schema) (t : TableId) (col : ColId) where
           → option_map_or (λ (column : Column). not column.nullable) found false ≡ true → IsRequiredAt schema t col
       by_column table is_table None none so = cc
       by_column table is_table (Some column) is_column so =
-          record { table = table; column = column; here = record { is_table = is_table; is_column = is_column }; needed = not_so column.nullable so }
+          record { table = table; column = column; here = record { is_table = is_table; is_column = is_column }; needed = not_true column.nullable so }
 
       by : (found : Option Table) → slice_get schema.store.tables t.index ≡ found → option_map_or needed_in found false ≡ true → IsRequiredAt schema t col
       by None none so = cc
@@ -45,4 +42,4 @@ module _ (schema : Schema) (t : TableId) (col : ColId) where
     required_told needed = required_is ∙ ap not needed
 
     pub told_needed : IsTrue (is_required schema.store t col) → column.nullable ≡ false
-    told_needed told = not_so column.nullable (sym required_is ∙ told)
+    told_needed told = not_true column.nullable (sym required_is ∙ told)

@@ -9,6 +9,7 @@ use Rattle.round_trip.specs.Words.{SetId, TableId, ColId, PropId, Value, Null, W
 use Rattle.edm_types.specs.declared.mapping.Test.TheVariants.{IsNull, Equals}
 use Rattle.round_trip.specs.soundness.mappings.Joined.{Joined, col, prop}
 use Rattle.round_trip.specs.soundness.mappings.Joined as joined
+use Rattle.round_trip.proofs.Classes.{class_of, joined_class}
 use Rattle.condition_logic.specs.declared.atoms.Atom.TheVariants as atom
 use Rattle.condition_logic.specs.declared.atoms.AtomOf.{AtomOf}
 use Rattle.member_groups.specs.Tested.{IsMember, IsTested}
@@ -36,7 +37,7 @@ use Rattle.regions.proofs.region_laws.pattern.types.Regions.{atom_there, lies_in
 use Rattle.regions.proofs.region_laws.pattern.symbols.Standing.{StandsFree, StandsInKey, joined_by, listed_prop, prop_stands}
 use Rattle.regions.proofs.region_laws.pattern.types.Types.{part_of_type}
 use Rattle.region_states.proofs.defaults.Candidates.{IsPlainKind}
-use Rattle.region_states.proofs.defaults.groups.Classes.{at_class, class_at, class_of, joined_class}
+use Rattle.region_states.proofs.defaults.groups.Classes.{at_class, class_at}
 use Rattle.region_states.proofs.defaults.Listed.{IsTold, found_told, tested_no_key}
 use Rattle.region_states.proofs.defaults.Valued.{Tells, atom_tells}
 use Rattle.region_states.specs.conflicts.SameFacts.{are_compatible}

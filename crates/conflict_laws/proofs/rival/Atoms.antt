@@ -3,21 +3,21 @@ use Rattle.std.proofs.Common.{◌≡◌, ◌≢◌, ◌⊎◌, inl, inr, Bool, t
 use Rattle.std.specs.Option.{option_map_or}
 use Rattle.emc_base.specs.declared.value.EnumKind.{EnumKind}
 use Rattle.emc_base.specs.declared.value.Kind.TheVariants as kind
-use Rattle.round_trip.specs.Words.{PropId, Value, Null, Kind, EntityModel, Schema}
-use Rattle.round_trip.specs.soundness.mappings.Joined.{Joined, Member, prop}
-use Rattle.round_trip.specs.soundness.mappings.Joined as joined
+use Rattle.round_trip.specs.Words.{PropId, Value, Null, Kind, EntityModel}
+use Rattle.round_trip.specs.soundness.mappings.Joined.{Joined, Member}
 use Rattle.round_trip.specs.soundness.Kinds.{IsEnum}
+use Rattle.round_trip.proofs.Classes.{class_of}
 use Rattle.condition_logic.specs.declared.atoms.Atom.{Atom}
 use Rattle.condition_logic.specs.declared.atoms.Atom.TheVariants as atom
 use Rattle.condition_logic.specs.declared.atoms.AtomOf.{AtomOf}
-use Rattle.member_groups.specs.Tested.{IsConstant, IsMember}
+use Rattle.member_groups.specs.Tested.{IsMember}
+use Rattle.member_groups.proofs.Constants.{joined_constant}
 use Rattle.regions.specs.declared.pattern.Symbol.TheVariants as symbol
 use Rattle.regions.specs.Atoms.{atom_at}
 use Rattle.regions.specs.Basis.{Basis}
 use Rattle.regions.specs.Settled.{is_nullable, multi, of_atom, possible, single}
 use Rattle.regions.specs.region_laws.IsBasis.{IsBasis}
 use Rattle.region_states.proofs.defaults.Candidates.{IsPlainKind}
-use Rattle.region_states.proofs.defaults.groups.Classes.{class_of}
 
 module _ (model : EntityModel) (atoms : List AtomOf) (p : PropId) where
   -- a property that may have several values is told no atom, or the last
@@ -84,12 +84,6 @@ plain_class kind.Int64 plain same = cc
 plain_class (kind.Text bound) plain same = cc
 plain_class (kind.Binary bound) plain same = cc
 plain_class (kind.Enum enumeration) plain same = plain
-
--- what is joined has the same constants
-joined_constant : (schema : Schema) (one other : Member) → Joined schema other one → (v : Value) → IsConstant schema one v → IsConstant schema other v
-joined_constant schema one other joins v (inl (third, to, compared)) = inl (third, joined.chain other one third joins to, compared)
-joined_constant schema one other joins v (inr ((third, to, makes), (r, enumeration, n, to_r, of_enum, among, is))) =
-    inr ((third, joined.chain other one third joins to, makes), (r, enumeration, n, joined.chain other one (prop r) joins to_r, of_enum, among, is))
 
 -- as a basis tells them
 pub constant_moves : (basis : Basis) → IsBasis basis → (one other : Member) → IsMember basis.schema one → IsMember basis.schema other → Joined basis.schema other one

@@ -7,6 +7,7 @@ use Rattle.std.proofs.lemmas.Bool.Decides.{Decides-eqb}
 use Rattle.std.proofs.lemmas.List.{length-map}
 use Rattle.std.proofs.lemmas.List.FromFn.{length-enumerate_from}
 use Rattle.emc_base.proofs.Lists.{at_once}
+use Rattle.edm_types.proofs.Lookups.{same_table}
 use Rattle.round_trip.specs.Words.{TableId, ColId, Column, StoreModel, Table, At}
 use Rattle.schema_laws.proofs.state_demand.lists.Lists.{same_by_key}
 use Rattle.regions.specs.declared.region.Region.{Region}
@@ -34,10 +35,6 @@ use Rattle.conflict_laws.proofs.rival.Matching.{keys_match, match_at, match_back
 
 abbrev number : PatternRow → ℕ
 number row = row.table.index
-
--- tables of one number are one
-table_by_number : (t u : TableId) → t.index ≡ u.index → t ≡ u
-table_by_number t u same k = record { index = same k }
 
 module _ (store : StoreModel) (writings : List SymbolWriting) where
   -- a row is of a table of the store, and has a cell for each column
@@ -99,9 +96,9 @@ module _ (basis : Basis) (one two : Region) where
   are_matched told = record {
     rows = λ t. (
       λ has. (let found = match_there matching ones twos told has.0 has.1 in
-          (found.0, found.1, sym (table_by_number has.0.table found.0.table (row_parts has.0 found.0 found.2).0) ∙ has.2)),
+          (found.0, found.1, sym (same_table has.0.table found.0.table (row_parts has.0 found.0 found.2).0) ∙ has.2)),
       λ has. (let found = match_back matching ones twos told has.0 has.1 in
-          (found.0, found.1, table_by_number found.0.table has.0.table (row_parts found.0 has.0 found.2).0 ∙ has.2)),
+          (found.0, found.1, same_table found.0.table has.0.table (row_parts found.0 has.0 found.2).0 ∙ has.2)),
     );
     cells = λ t c cell other has has_other.
         (let same : number has.row ≡ number has_other.row = ap (λ (u : TableId). u.index) (has.of_table ∙ sym has_other.of_table) in
@@ -123,7 +120,7 @@ module _ (basis : Basis) (one two : Region) where
         (table.2 ∙ ap (λ (found : Table). length found.cols) is_table ∙ sym table_too.2)
         (λ i cell cell_too at at_too. matched.cells row.table (record { index = i }) cell cell_too
         (record { row = row; is_row = has; of_table = refl; is_cell = at })
-        (record { row = other; is_row = has_other; of_table = sym (table_by_number row.table other.table same); is_cell = at_too }))
+        (record { row = other; is_row = has_other; of_table = sym (same_table row.table other.table same); is_cell = at_too }))
 
     -- so the lists of rows match
     pub patterns_match : PatternsMatch basis one two

@@ -17,6 +17,7 @@ use Rattle.emc_base.specs.declared.value.Under.TheVariants as under
 use Rattle.round_trip.specs.Words.{SetId, PropId, TypeId, GroupId, Value, Kind, EntityType, Prop, At, props_of}
 use Rattle.round_trip.specs.soundness.mappings.Joined.{IsDependent, prop}
 use Rattle.round_trip.specs.soundness.Kinds.{IsEnum, IsKeyKind, under_kind}
+use Rattle.round_trip.proofs.Classes.{class_of, joined_class}
 use Rattle.member_groups.specs.Tested.{AreInOneGroup}
 use Rattle.schema_laws.proofs.state_demand.lists.Lists.{of_any}
 use Rattle.cells.specs.Limits.{IsSmallModel, IsWithinLimits, most_props}
@@ -30,7 +31,7 @@ use Rattle.region_states.specs.defaults.Fresh.{first_shared, fresh, most_indices
 use Rattle.region_states.specs.defaults.Defaults.{is_dependent}
 use Rattle.region_states.specs.defaults.Admissible.{HasSeveral, IsChoice}
 use Rattle.region_states.proofs.defaults.Changes.{free_choice, short_choice}
-use Rattle.region_states.proofs.defaults.groups.Classes.{at_class, class_at, class_of, dependent_is, joined_class, joined_key_kind}
+use Rattle.region_states.proofs.defaults.groups.Classes.{at_class, class_at, dependent_is, joined_key_kind}
 use Rattle.region_states.proofs.defaults.groups.Constants.{dependent_none}
 use Rattle.region_states.proofs.defaults.Defaults.{Decides-dependent, open_two}
 use Rattle.region_states.proofs.defaults.groups.Shared.{first_shared as free_shared}

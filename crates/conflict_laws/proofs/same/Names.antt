@@ -1,23 +1,13 @@
 -- The place of a key of a set tells the set and the key, and is no place of an association set.
-use Rattle.std.proofs.Common.{◌≡◌, ◌≢◌, ⊎_elim, ℕ, [], ◌∷◌, ◌++◌, List, map, Contains, sym, subst}
-use Rattle.std.proofs.lemmas.List.Elements.{Contains-append_right}
+use Rattle.std.proofs.Common.{◌≡◌, ◌≢◌, ℕ, List, map, Contains, sym, subst}
 use Rattle.emc_base.specs.Lists.{AreApart}
 use Rattle.emc_base.proofs.Lists.{same_place}
 use Rattle.emc_base.proofs.Mapped.{contains_at, contains_map}
+use Rattle.emc_base.proofs.facts.Pairs.{apart_between}
 use Rattle.round_trip.specs.Words.{AssocId, Assoc, EntityModel, EntitySet, SetId, At}
 use Rattle.round_trip.specs.soundness.models.Models.{IsSoundModel}
-use Rattle.schema_laws.proofs.state_demand.lists.Lists.{member_cases, none_in_nil}
 use Rattle.schema_laws.proofs.state_demand.owners.Owners.{pairs_from_map}
-use Rattle.schema_laws.proofs.state_demand.lists.Permutations.{head_apart, rest_apart}
 use Rattle.schema_laws.proofs.sound_demand.owners.Pairing.{apart_first}
-
--- nothing stands in both parts of a list without repeats
-apart_between : {X : Type 0} (xs ys : List X) (x : X) → AreApart (xs ++ ys) → Contains xs x → Contains ys x → ⊥
-apart_between [] ys x apart first second = none_in_nil x first
-apart_between (z ∷ zs) ys x apart first second = ⊎_elim
-    (λ (here : x ≡ z). head_apart z (zs ++ ys) x apart (Contains-append_right zs ys x second) (sym here))
-    (λ (later : Contains zs x). apart_between zs ys x (rest_apart z (zs ++ ys) apart) later second)
-    (member_cases z zs x first)
 
 module _ (model : EntityModel) (sound : IsSoundModel model) where
   -- the names of the sets, and those of the association sets

@@ -11,6 +11,7 @@ use Rattle.emc_base.specs.Lists.{At}
 use Rattle.emc_base.proofs.Lists.{all_from_members, at_once, item_at}
 use Rattle.emc_base.proofs.Mapped.{contains_at}
 use Rattle.emc_base.proofs.Numbered.{all_pairs_map, filter_contains, map_contains}
+use Rattle.emc_base.proofs.facts.Orderings.{is_equal}
 use Rattle.regions.specs.Basis.{Basis}
 use Rattle.regions.proofs.region_laws.lists.Found.{place_of}
 use Rattle.containment.specs.declared.same_conflicts.forms.Form.{Form}
@@ -20,7 +21,7 @@ use Rattle.containment.specs.same_conflicts.Forms.{form_cmp, form_of}
 use Rattle.groupings.specs.item_groups.Groups.{items_of}
 use Rattle.containment.specs.same_conflicts.Rivals.{AreGrouped, IsFormAt}
 use Rattle.containment.specs.same_conflicts.Written.{region_in}
-use Rattle.groupings.proofs.item_groups.Keyed.{is_equal, list_of, list_with}
+use Rattle.groupings.proofs.item_groups.Keyed.{list_of, list_with}
 use Rattle.containment.proofs.same_conflicts.Ordered.{form_total, forms_same, links_same}
 
 module _ (basis : Basis) (written : List Written) (groups : BTreeMap Form (Vec ℕ)) (grouped : AreGrouped basis written groups) (ordered : IsOrdered form_cmp groups) where

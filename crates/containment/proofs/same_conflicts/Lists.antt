@@ -9,11 +9,6 @@ use Rattle.emc_base.proofs.Lists.{at_once}
 use Rattle.emc_base.proofs.Loops.{at_enumerated, take_item}
 use Rattle.regions.proofs.region_laws.lists.Found.{place_of}
 
--- what is not so is false
-pub not_so : (b : Bool) → (b ≡ true → ⊥) → b ≡ false
-not_so true never = absurd (never refl)
-not_so false never = refl
-
 -- whether a list has no item
 pub no_item : {X : Type 0} (xs : List X) (r : Bool) → IsTrue r ↔ (xs ≡ []) → r ≡ not (list_any (λ x. true) xs)
 no_item [] r is = is.1 refl

@@ -2,6 +2,7 @@
 use Rattle.std.proofs.Common.{◌≡◌, ◌==◌, ◌&&◌, Decides, List, find, Some, None, Contains, Bool, true, false, not, refl, sym, subst}
 use Rattle.std.proofs.lemmas.Bool.{and_from, and_parts}
 use Rattle.std.proofs.lemmas.Bool.Decides.{Decides-like}
+use Rattle.emc_base.proofs.facts.Tests.{fails_by}
 use Rattle.round_trip.specs.Words.{PropId, key_props, props_of}
 use Rattle.regions.specs.declared.pattern.Pattern.{Pattern}
 use Rattle.regions.specs.declared.pattern.Symbol.TheVariants as symbol
@@ -16,7 +17,6 @@ use Rattle.region_states.specs.conflicts.SameFacts.{is_lost, is_multi, is_one_of
 use Rattle.containment.specs.declared.same_conflicts.written.Written.{Written}
 use Rattle.containment.specs.same_conflicts.Lost.{is_lost_by}
 use Rattle.containment.specs.same_conflicts.Written.{IsWritten, region_in}
-use Rattle.containment.proofs.same_conflicts.Lists.{not_so}
 
 -- whether a property is one of these
 Decides-one_of : (p : PropId) (props : List PropId) → Decides (is_one_of p props) (Contains props p)
@@ -53,7 +53,7 @@ module _ (basis : Basis) (one : Written) (written : IsWritten basis one) where
 
   -- where none is found, none is
   pub none_lost : find (is_lost_by basis.schema.model one) props ≡ None → (p : PropId) → is_lost basis (region_in one) p ≡ false
-  none_lost none p = not_so (is_lost basis (region_in one) p) lost
+  none_lost none p = fails_by (is_lost basis (region_in one) p) lost
     where
       lost : is_lost basis (region_in one) p ≡ true → ⊥
       lost told =

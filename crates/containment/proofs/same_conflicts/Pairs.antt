@@ -10,6 +10,7 @@ use Rattle.emc_base.specs.Lists.{At}
 use Rattle.emc_base.proofs.Lists.{at_once}
 use Rattle.emc_base.proofs.Mapped.{contains_at, contains_map}
 use Rattle.emc_base.proofs.Numbered.{map_contains}
+use Rattle.emc_base.proofs.facts.Tests.{fails_by}
 use Rattle.round_trip.specs.Words.{SetId, AssocId}
 use Rattle.regions.specs.declared.region.Region.{Region}
 use Rattle.regions.specs.declared.pattern.PatternRow.{PatternRow}
@@ -35,7 +36,7 @@ use Rattle.containment.specs.same_conflicts.Rivals.{AreGrouped, AreTwoOf, Differ
 use Rattle.containment.specs.same_conflicts.Written.{AreWritten, IsWritten, region_in}
 use Rattle.containment.proofs.same_conflicts.Certain.{form_same}
 use Rattle.containment.proofs.same_conflicts.Grouping.{places_rise, same_links, same_list}
-use Rattle.containment.proofs.same_conflicts.Lists.{not_so, pair_at, pair_of}
+use Rattle.containment.proofs.same_conflicts.Lists.{pair_at, pair_of}
 use Rattle.containment.proofs.same_conflicts.Walked.{match_images, match_turned}
 
 -- what isn't so is told so
@@ -103,7 +104,7 @@ module _ (basis : Basis) where
         there = region_at two.q two.two two.there
 
         different : same_region one other ≡ false
-        different = not_so (same_region one other) (λ told.
+        different = fails_by (same_region one other) (λ told.
             let sets = (parts_of basis s one (contains_at (regions_of basis s) two.p one at)).of_set
             ∙ sym (parts_of basis s other (contains_at (regions_of basis s) two.q other there)).of_set in
             let rises = pair_at (λ p q. p < q) list.items (places_rise basis written groups grouped ordered list among) two.i two.j two.p two.q two.before two.first two.later in
@@ -122,7 +123,7 @@ module _ (basis : Basis) where
     -- where none are found, none are
     pub no_rivals : All (λ list. AllPairs (DifferAt basis written) list.items) (values groups)
         → (one other : Region) → Contains (map region_in written) one → Contains (map region_in written) other → are_rivals basis one other ≡ false
-    no_rivals clean one other has has_other = not_so (are_rivals basis one other) (λ told. by told (map_contains region_in written one has) (map_contains region_in written other has_other))
+    no_rivals clean one other has has_other = fails_by (are_rivals basis one other) (λ told. by told (map_contains region_in written one has) (map_contains region_in written other has_other))
       where
         by : are_rivals basis one other ≡ true → (first : Written) × Contains written first × (region_in first ≡ one) → (second : Written) × Contains written second × (region_in second ≡ other) → ⊥
         by told first second =

@@ -4,11 +4,11 @@ use Rattle.std.proofs.lemmas.Bool.{and_from, and_parts, cases_eq}
 use Rattle.std.proofs.lemmas.Option.{slice_get_within}
 use Rattle.emc_base.proofs.Lists.{at_once}
 use Rattle.emc_base.specs.Lists.{At}
+use Rattle.emc_base.proofs.facts.Tests.{fails_by}
 use Rattle.schema_laws.proofs.state_demand.lists.Lists.{head_stands, tail_stands}
 use Rattle.regions.specs.Settled.{Settled, known, free}
 use Rattle.region_states.specs.conflicts.SameFacts.{are_compatible, match_all}
 use Rattle.containment.specs.same_conflicts.Matching.{can_be_same, held_by}
-use Rattle.containment.proofs.same_conflicts.Lists.{not_so}
 
 module _ {X : Type 0} (m : X → X → Bool) where
   -- lists that match have as many items
@@ -39,12 +39,12 @@ module _ {X : Type 0} (m : X → X → Bool) where
 
   -- lists that haven't as many items don't match
   pub no_match_sizes : (xs ys : List X) → length xs ≢ length ys → match_all m xs ys ≡ false
-  no_match_sizes xs ys other = not_so (match_all m xs ys) (λ all. other (match_sizes xs ys all))
+  no_match_sizes xs ys other = fails_by (match_all m xs ys) (λ all. other (match_sizes xs ys all))
 
   -- nor do those with items at one place that don't
   pub no_match_place : (xs ys : List X) (i : ℕ) (x y : X) → At xs i x → At ys i y → m x y ≡ false → match_all m xs ys ≡ false
   no_match_place xs ys i x y at there fails =
-      not_so (match_all m xs ys) (λ all. let holds = match_place xs ys all i x y at there in let never : true ≡ false = sym holds ∙ fails in cc)
+      fails_by (match_all m xs ys) (λ all. let holds = match_place xs ys all i x y at there in let never : true ≡ false = sym holds ∙ fails in cc)
 
   -- those at the first so many places match
   abbrev pub MatchBelow : ℕ → List X → List X → Type 0

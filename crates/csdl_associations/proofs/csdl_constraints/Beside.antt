@@ -2,7 +2,7 @@
 use Rattle.std.proofs.Common.{◌≡◌, ◌≢◌, ◌⊎◌, ⊎_elim, inl, inr, ℕ, zero, suc, ◌+◌, ◌<◌, ◌≤◌, List, [], ◌∷◌, ◌++◌, length, map, take, slice_get, refl, sym, ap, subst, ◌∙◌, arith}
 use Rattle.std.specs.Option.{option_map}
 use Rattle.std.proofs.lemmas.Bool.{cases_eq}
-use Rattle.std.proofs.lemmas.List.{length-append, length-map}
+use Rattle.std.proofs.lemmas.List.{length-append}
 use Rattle.std.proofs.lemmas.Option.{none-some, same_Some, slice_get-map, slice_get_within}
 use Rattle.emc_base.specs.Lists.{At}
 use Rattle.emc_base.proofs.Lists.{at_once}
@@ -57,10 +57,6 @@ module _ {X Y Z : Type 0} (f : X → Z) (g : Y → Z) where
   same_maps (x ∷ xs) [] alike each = absurd (omega arith)
   same_maps (x ∷ xs) (y ∷ ys) alike each = λ k.
       each 0 x y refl refl k ∷ same_maps xs ys (let same : suc (length xs) ≡ suc (length ys) = alike in omega arith) (λ i one other at_one at_other. each (suc i) one other at_one at_other) k
-
-  -- and back
-  pub maps_alike : (xs : List X) (ys : List Y) → map f xs ≡ map g ys → length xs ≡ length ys
-  maps_alike xs ys same = sym (length-map xs f) ∙ ap length same ∙ length-map ys g
 
   pub maps_same : (xs : List X) (ys : List Y) (i : ℕ) (x : X) (y : Y) → At xs i x → At ys i y → map f xs ≡ map g ys → f x ≡ g y
   maps_same xs ys i x y at_x at_y same = same_Some (f x) (g y)

@@ -7,8 +7,9 @@ use Rattle.std.proofs.lemmas.Grind.{flat_map-append}
 use Rattle.std.proofs.lemmas.List.Concat.{flat_map-cons}
 use Rattle.std.proofs.lemmas.List.Elements.{All-contains}
 use Rattle.emc_base.specs.Lists.{At}
-use Rattle.emc_base.proofs.Lists.{at_once, same_place}
+use Rattle.emc_base.proofs.Lists.{same_place}
 use Rattle.emc_base.proofs.Mapped.{contains_at}
+use Rattle.emc_base.proofs.facts.Behind.{at_earlier}
 use Rattle.graphs.specs.base_chains.Chains.{StaysWithin, chain}
 use Rattle.graphs.specs.base_chains.Walks.{IsBasesFirst}
 use Rattle.graphs.proofs.base_chains.Chains.{Ends, chain_root, chain_step}
@@ -68,10 +69,7 @@ module _ {X : Type 0} (base : ℕ → Option ℕ) (count : ℕ) (own : List (Lis
               ∙ sym (list_step i (ends_by_order base count order based within i inside))
 
           before : (m x : ℕ) → m < n + 1 → At order m x → x ≢ i → m < n
-          before m x below at other = ⊎_elim
-              (λ (last : m ≡ n). let P : ℕ → Type 0 = λ k. At order k x in absurd (other (at_once order n x i (subst P last at) here)))
-              (λ (earlier : m ≢ n). omega arith)
-              (cases_eq m n)
+          before = at_earlier order n i here
 
           apart : (m x : ℕ) → n + 1 ≤ m → At order m x → x ≢ i
           apart m x above at same =

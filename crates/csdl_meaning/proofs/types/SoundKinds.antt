@@ -1,16 +1,17 @@
 -- Kinds: those of keys, bounds, and enumerations. V10, V12, V13.
 use Rattle.std.proofs.Common.{◌≡◌, ◌≢◌, ⊎_elim, inr, ℕ, ◌<◌, ◌≤◌, ℤ, pos, negsuc, List, [], ◌∷◌, slice_get, All, Option, Some, None, refl, sym, ap, subst, arith}
-use Rattle.std.specs.Prelude.{◌<ℤ◌, ◌≤ℤ◌, unwrap_or}
+use Rattle.std.specs.Prelude.{◌≤ℤ◌, unwrap_or}
 use Rattle.std.specs.Option.{option_and_then, option_map_or}
 use Rattle.std.proofs.lemmas.Bool.{cases_lt}
-use Rattle.std.proofs.lemmas.Int.{by_lt_z, ints}
+use Rattle.std.proofs.lemmas.Int.{ints}
 use Rattle.std.proofs.lemmas.List.Elements.{All-weaker}
-use Rattle.emc_base.specs.Domain.{InDomain, IsBetween}
+use Rattle.emc_base.specs.Domain.{InDomain}
 use Rattle.emc_base.specs.Lists.{At}
 use Rattle.emc_base.specs.declared.value.Under.{Under}
 use Rattle.emc_base.specs.declared.value.Under.TheVariants as under
 use Rattle.emc_base.specs.declared.value.Value.TheVariants.{Whole}
 use Rattle.emc_base.specs.declared.value.Kind.TheVariants as kind
+use Rattle.emc_base.proofs.facts.Domains.{between_stable}
 use Rattle.round_trip.specs.soundness.Kinds.{IsEnum, IsKeyKind, IsSoundBound, IsSoundKind, largest_bound, under_kind}
 use Rattle.csdl_names.specs.declared.csdl_lists.raw.RawBound.{RawBound}
 use Rattle.csdl_names.specs.declared.csdl_lists.raw.RawBound.TheVariants.{Absent, Max, Number}
@@ -82,19 +83,12 @@ no_enum bound Boolean is = is
 no_enum bound Text is = is
 no_enum bound Binary is = is
 
--- a number that doesn't lie outside lies inside
-between : (low high number : ℤ) → ¬ (¬ IsBetween low high number) → IsBetween low high number
-between low high number fine = (
-  by_lt_z number low (λ (less : number <ℤ low). absurd (fine (λ within. let least : low ≤ℤ number = within.0 in absurd (omega (arith, ints))))) (λ (enough : low ≤ℤ number). enough),
-  by_lt_z high number (λ (more : high <ℤ number). absurd (fine (λ within. let most : number ≤ℤ high = within.1 in absurd (omega (arith, ints))))) (λ (enough : number ≤ℤ high). enough),
-)
-
 -- the same by the underlying type
 inside : (u : Under) (number : ℤ) → ¬ (¬ InDomain (Whole number) (under_kind u)) → InDomain (Whole number) (under_kind u)
-inside under.Byte number = between (pos 0) (pos 255) number
-inside under.Int16 number = between (negsuc 32767) (pos 32767) number
-inside under.Int32 number = between (negsuc 2147483647) (pos 2147483647) number
-inside under.Int64 number = between (negsuc 9223372036854775807) (pos 9223372036854775807) number
+inside under.Byte number = between_stable (pos 0) (pos 255) number
+inside under.Int16 number = between_stable (negsuc 32767) (pos 32767) number
+inside under.Int32 number = between_stable (negsuc 2147483647) (pos 2147483647) number
+inside under.Int64 number = between_stable (negsuc 9223372036854775807) (pos 9223372036854775807) number
 
 -- members have numbers
 some_numbers : (next : ℤ) (members : List RawMember) → members ≢ [] → numbers_from next members ≢ []

@@ -13,11 +13,12 @@ use Rattle.serde_json.specs.Data.{Data, Members}
 use Rattle.serde_json.specs.Find.{as_object, get}
 use Rattle.emc_base.specs.Lists.{At}
 use Rattle.emc_base.proofs.Lists.{item_at}
+use Rattle.emc_base.proofs.facts.Found.{position_passes}
 use Rattle.json_form.specs.TreeParts.{items_in}
 use Rattle.json_form.proofs.MemberByName.{member_found}
 use Rattle.json_form.specs.from_nodes.Reading.{items_at, object_at, optional_text_at}
 use Rattle.groupings.specs.name_places.GivenNames.{first_place}
-use Rattle.groupings.proofs.name_places.Positions.{position_none, position_passes}
+use Rattle.groupings.proofs.name_places.Positions.{position_none}
 use Rattle.round_trip.specs.Words.{EntityModel, EntityType, EntitySet, Assoc, Constraint, Link, TypeId, SetId, AssocId, key_props, props_of, entities_in, links_in, IsEntity, IsIndependent, IsLink, IsState}
 use Rattle.edm_types.specs.Forest.{type_numbered}
 use Rattle.schema_names.specs.SchemaNames.{local_name, set_named, type_named}

@@ -1,10 +1,10 @@
 -- What is first wrong in an array and in an object, and the walk over the entries of a map.
-use Rattle.std.proofs.Common.{◌≡◌, ⊎_elim, inl, inr, ◌+◌, ◌≤◌, ℕ, zero, suc, List, [], ◌∷◌, length, drop, Option, Some, None, IsSome, String, Global, refl, sym, ap, subst, ◌∙◌, arith}
+use Rattle.std.proofs.Common.{◌≡◌, ⊎_elim, inl, inr, ◌+◌, ℕ, suc, List, [], ◌∷◌, drop, Option, Some, None, IsSome, String, Global, refl, sym, ap, subst, ◌∙◌, arith}
 use Rattle.serde_json.specs.Data.{Data, Members}
 use Rattle.serde_json.specs.Find.{as_array, as_object}
 use Rattle.serde_json.specs.View.{members_view}
 use Rattle.serde_json.specs.declared.value.Value.{Value}
-use Rattle.emc_base.specs.Lists.{At}
+use Rattle.emc_base.proofs.facts.Behind.{all_dropped, dropped}
 use Rattle.json_form.specs.TreeParts.{items_in, members_in}
 use Rattle.json_form.proofs.Views.{members_in-entries, shown}
 use Rattle.groupings.specs.least_fault.Least.{IsLeast, earlier}
@@ -52,17 +52,6 @@ pub record Passed (P : List ℕ → Data → List ShapeStep → Type 0) (entries
   pub n : ℕ
   pub left_is : left ≡ drop n entries
   pub least : IsLeast place_cmp (AmongFirst (AtEntry P) entries n) found
-
-dropped : {X : Type 0} (xs : List X) (n : ℕ) (x : X) (rest : List X) → drop n xs ≡ x ∷ rest → At xs n x × (drop (suc n) xs ≡ rest)
-dropped [] zero x rest is = absurd cc
-dropped [] (suc n) x rest is = absurd cc
-dropped (y ∷ ys) zero x rest is = let head : y ≡ x = cc in let tail : ys ≡ rest = cc in (ap Some head, tail)
-dropped (y ∷ ys) (suc n) x rest is = dropped ys n x rest is
-
-all_dropped : {X : Type 0} (xs : List X) (n : ℕ) → drop n xs ≡ [] → length xs ≤ n
-all_dropped [] n is = omega arith
-all_dropped (y ∷ ys) zero is = absurd cc
-all_dropped (y ∷ ys) (suc n) is = let less : length ys ≤ n = all_dropped ys n is in omega arith
 
 module _ (P : List ℕ → Data → List ShapeStep → Type 0) (entries left : Entries) where
   pub passed_none : left ≡ entries → Passed P entries left None

@@ -14,6 +14,7 @@ use Rattle.std.proofs.lemmas.Str.{IsUtf8-from_is_utf8, chars-encodes, is_utf8-fr
 use Rattle.emc_base.specs.Domain.{InDomain, IsBetween, IsByteList, IsText, IsWithin}
 use Rattle.round_trip.specs.Types.{Value, Null, Whole, Flag, Text, Bytes, Kind}
 use Rattle.emc_base.specs.declared.value.Kind.TheVariants as kind
+use Rattle.emc_base.proofs.facts.Tests.{both_decided}
 
 -- it holds, or it doesn't
 abbrev pub Decided : Type 0 → Type 0
@@ -23,16 +24,11 @@ by_test : {P : Type 0} (test : Bool) → (test ≡ true → P) → (P → test �
 by_test true to back = inl (to refl)
 by_test false to back = inr (λ holds. absurd (let is = back holds in cc))
 
-both : {P Q : Type 0} → Decided P → Decided Q → Decided (P × Q)
-both (inl p) (inl q) = inl (p, q)
-both (inl p) (inr not) = inr (λ pair. not pair.1)
-both (inr not) other = inr (λ pair. not pair.0)
-
 upto : (low high : ℤ) → Decided (low ≤ℤ high)
 upto low high = by_lt_z {P = Decided (low ≤ℤ high)} high low (λ less. inr (λ fine. clash_ℤ less fine)) (λ fine. inl fine)
 
 between : (low high number : ℤ) → Decided (IsBetween low high number)
-between low high number = both (upto low number) (upto number high)
+between low high number = both_decided (upto low number) (upto number high)
 
 member : (numbers : List ℤ) (number : ℤ) → Decided (Contains numbers number)
 member numbers number = by_test (list_any (eq_by_cmp int_cmp number) numbers)

@@ -1,8 +1,6 @@
 -- What finders share: a find by its parts, the items of a list that was lent, those that were made of others, and the first that repeats.
-use Rattle.std.proofs.Common.{◌≡◌, ℕ, ◌<◌, List, [], ◌∷◌, length, get_or, map, Option, Some, None, Result, IfOk, slice_get, refl, sym, ap, subst, ◌∙◌}
-use Rattle.std.specs.Option.{option_map}
-use Rattle.std.proofs.lemmas.Option.{none-some, same_Some, slice_get-map, slice_get_read, slice_get_within}
-use Rattle.emc_base.specs.Lists.{At}
+use Rattle.std.proofs.Common.{◌≡◌, ℕ, ◌<◌, List, [], ◌∷◌, length, get_or, Option, Some, Result, IfOk, refl, sym, subst, ◌∙◌}
+use Rattle.std.proofs.lemmas.Option.{slice_get_read, slice_get_within}
 use Rattle.groupings.specs.least_fault.Least.{Among, IsLeast}
 use Rattle.round_trip.specs.Words.{Place}
 use Rattle.entity_state.specs.breach_order.Founds.{found_cmp}
@@ -24,19 +22,6 @@ along {X} P lent items found same least = let Q : List X → Type 0 = λ list. I
 pub along_search : {X E : Type 0} (P : ℕ → X → Found → Type 0) (lent items : List X) (found : Result (Option Found) E) → lent ≡ items
     → IfOk found (IsLeast found_cmp (Among P lent)) → IfOk found (IsLeast found_cmp (Among P items))
 along_search {X} P lent items found same least = let Q : List X → Type 0 = λ list. IfOk found (IsLeast found_cmp (Among P list)) in subst Q same least
-
-module _ {X Y : Type 0} (f : X → Y) where
-  -- the image of what stands at a place
-  pub at_map : (xs : List X) (i : ℕ) (x : X) → At xs i x → At (map f xs) i (f x)
-  at_map xs i x here = slice_get-map f xs i ∙ ap (option_map f) here
-
-  -- an image that stands at a place is that of what stands there
-  pub at_of_map : (xs : List X) (i : ℕ) (y : Y) → At (map f xs) i y → (x : X) × At xs i x × (f x ≡ y)
-  at_of_map xs i y here = by (slice_get xs i) refl
-    where
-      by : (item : Option X) → slice_get xs i ≡ item → (x : X) × At xs i x × (f x ≡ y)
-      by None none = absurd (none-some y (sym (slice_get-map f xs i ∙ ap (option_map f) none) ∙ here))
-      by (Some x) is = (x, is, same_Some (f x) y (sym (slice_get-map f xs i ∙ ap (option_map f) is) ∙ here))
 
 module _ {X : Type 0} (rule n : ℕ) (place_of : X → Place) (keys wanted : List X) (are : keys ≡ wanted) where
   -- the first of these keys that is one before it, as it was found

@@ -9,6 +9,7 @@ use Rattle.std.proofs.lemmas.Bool.{cases_lt}
 use Rattle.std.proofs.lemmas.Option.{get_or_from_slice_get, slice_get_within}
 use Rattle.emc_base.specs.Lists.{At}
 use Rattle.emc_base.proofs.Lists.{at_once}
+use Rattle.emc_base.proofs.facts.Orderings.{not_greater}
 use Rattle.groupings.specs.least_fault.Least.{IsLeast}
 use Rattle.round_trip.specs.Words.{IsFirstBreach, Place}
 use Rattle.entity_state.specs.breach_order.Founds.{found_cmp}
@@ -20,10 +21,6 @@ first_not : (one rest : Ordering) → ordering_then one rest ≢ Greater → one
 first_not Less rest not = λ is. absurd cc
 first_not Equal rest not = λ is. absurd cc
 first_not Greater rest not = absurd (not refl)
-
--- a number that isn't greater
-not_greater : (one other : ℕ) → nat_cmp one other ≢ Greater → one ≤ other
-not_greater one other not = ⊎_elim (λ (less : other < one). absurd (not (sym (nat_cmp_is one other Greater less)))) (λ (fine : one ≤ other). fine) (cases_lt other one)
 
 -- numbers in their order, before whatever decides where they are equal and doesn't say Greater
 upto_then : (one other : ℕ) (rest : Ordering) → one ≤ other → rest ≢ Greater → ordering_then (nat_cmp one other) rest ≢ Greater

@@ -31,12 +31,6 @@ module _ {X : Type 0} (p : X → Bool) where
       subst (λ b. 1 < length (cond b (x ∷ filter p xs) (filter p xs))) (sym one) (omega arith)
   two_kept (x ∷ xs) (suc i) (suc j) d before within one other = kept_more x (filter p xs) 1 (p x) (two_kept xs i j d (omega arith) (omega arith) one other)
 
--- what is told as less is less
-pub is_less : (order : Ordering) → is_lt order ≡ true → order ≡ Less
-is_less Less told = refl
-is_less Equal told = cc
-is_less Greater told = cc
-
 module _ {K : Type 0} (cmp : K → K → Ordering) where
   -- the first so many keys rise
   abbrev pub RisesTo : List (Bor K) → ℕ → Type 0

@@ -1,16 +1,14 @@
 -- Values and lists of cells that are the same.
 use Rattle.std.proofs.Common.{◌≡◌, ◌≢◌, ◌↔◌, ◌⊎◌, ⊎_elim, inl, inr, ℕ, suc, ◌+◌, ◌<◌, List, [], ◌∷◌, length, map, slice_get, refl, sym, ap, subst, ◌∙◌, arith, IsTrue}
 use Rattle.std.specs.Cmp.{Equal-is, tied_itself}
-use Rattle.std.specs.Cmp.Lexicographic.{slice_cmp}
 use Rattle.std.specs.Ordering.{eq_by_cmp, is_eq}
 use Rattle.std.specs.Option.{option_map}
-use Rattle.std.proofs.lemmas.List.{length-map}
 use Rattle.std.proofs.lemmas.Option.{same_Some, slice_get-map}
 use Rattle.std.proofs.lemmas.Bool.{cases_eq}
 use Rattle.emc_base.specs.Lists.{At}
 use Rattle.emc_base.proofs.Lists.{at_once}
 use Rattle.emc_base.specs.Order.{value_cmp}
-use Rattle.emc_base.specs.OrderLaws.{key_cmp_apart, key_cmp_total, value_cmp_apart, value_cmp_total}
+use Rattle.emc_base.specs.OrderLaws.{value_cmp_apart, value_cmp_total}
 use Rattle.round_trip.specs.Types.{Value, Null, Whole, Flag, Text, Bytes}
 
 -- the order of values ties just equal ones
@@ -18,13 +16,6 @@ pub tied_values : (one other : Value) → IsTrue (eq_by_cmp value_cmp one other)
 tied_values one other = (
   λ tied. value_cmp_apart one other ((Equal-is (value_cmp one other)).0 tied),
   λ same. ap is_eq (ap (value_cmp one) (sym same) ∙ tied_itself value_cmp_total one),
-)
-
--- keys that their order ties are equal, and the other way
-pub tied_keys : (one other : List Value) → IsTrue (eq_by_cmp (slice_cmp value_cmp) one other) ↔ (one ≡ other)
-tied_keys one other = (
-  λ tied. key_cmp_apart one other ((Equal-is (slice_cmp value_cmp one other)).0 tied),
-  λ same. ap is_eq (ap (slice_cmp value_cmp one) (sym same) ∙ tied_itself key_cmp_total one),
 )
 
 -- a value is null or it isn't
@@ -40,10 +31,6 @@ module _ {X Y Z : Type 0} (f : X → Z) (g : Y → Z) where
   pub same_at : (xs : List X) (ys : List Y) → map f xs ≡ map g ys → (k : ℕ) (x : X) (y : Y) → At xs k x → At ys k y → f x ≡ g y
   same_at xs ys same k x y here there = same_Some (f x) (g y)
       (sym (slice_get-map f xs k ∙ ap (option_map f) here) ∙ ap (λ zs. slice_get zs k) same ∙ slice_get-map g ys k ∙ ap (option_map g) there)
-
-  -- lists of which as much is made are as long
-  pub same_length : (xs : List X) (ys : List Y) → map f xs ≡ map g ys → length xs ≡ length ys
-  same_length xs ys same = sym (length-map xs f) ∙ ap length same ∙ length-map ys g
 
   -- and where it is the same at each place, it is the same
   pub same_maps : (xs : List X) (ys : List Y) → length xs ≡ length ys → ((k : ℕ) (x : X) (y : Y) → At xs k x → At ys k y → k < length xs → f x ≡ g y) → map f xs ≡ map g ys

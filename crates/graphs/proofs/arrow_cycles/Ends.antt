@@ -6,11 +6,12 @@ use Rattle.std.proofs.lemmas.List.Elements.{Contains-append_left, Contains-push,
 use Rattle.std.proofs.lemmas.Option.{slice_get-get_or}
 use Rattle.emc_base.specs.Lists.{At}
 use Rattle.emc_base.proofs.Lists.{at_once}
-use Rattle.emc_base.proofs.Members.{at_push_cases, contains_nil}
+use Rattle.emc_base.proofs.Members.{at_push_cases, at_push_last, contains_nil}
+use Rattle.emc_base.proofs.Joined.{at_left}
 use Rattle.graphs.specs.arrow_cycles.Arrows.{IsArrow, StayWithin}
 use Rattle.graphs.specs.arrow_cycles.Ends.{GoesTo, IsEnds, IsFrom, with_arrow}
 use Rattle.graphs.specs.declared.arrow_cycles.arrow.Arrow.{Arrow}
-use Rattle.graphs.proofs.arrow_cycles.Places.{at_end, at_left, at_set, at_set_cases, at_set_other}
+use Rattle.graphs.proofs.arrow_cycles.Places.{at_set, at_set_cases, at_set_other}
 
 no_arrow : (from to : ℕ) → ¬ IsArrow [] from to
 no_arrow from to is = let at = is.1 in absurd cc
@@ -82,7 +83,7 @@ module _ (count : ℕ) (arrows : List (Option Arrow)) (ends : List (List ℕ)) (
                 subst Q here.0 (still (Some one) one.from to (so_far.only one.from to (listed, at_before, earlier)))
             | inr last ↦
                 let Q : ℕ → ℕ → Type 0 = λ x y. IsArrow more x y in
-                subst₂ Q here.0 last (length arrows, at_end arrows (Some one))
+                subst₂ Q here.0 last (length arrows, at_push_last arrows (Some one))
           ]
     ]
 

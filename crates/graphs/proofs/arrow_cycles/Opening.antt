@@ -3,14 +3,15 @@ use Rattle.std.proofs.Common.{◌≡◌, ◌≢◌, inl, inr, ℕ, ◌+◌, ◌<
 use Rattle.std.proofs.lemmas.List.{length-append}
 use Rattle.std.proofs.lemmas.Option.{slice_get_within}
 use Rattle.emc_base.specs.Lists.{At}
-use Rattle.emc_base.proofs.Members.{at_push_cases}
+use Rattle.emc_base.proofs.Members.{at_push_cases, at_push_last}
+use Rattle.emc_base.proofs.Joined.{at_left}
 use Rattle.graphs.proofs.base_chains.orders.Orders.{place_of_member}
 use Rattle.graphs.specs.arrow_cycles.Numbers.{Reaches}
 use Rattle.graphs.specs.arrow_cycles.Searches.{IsBeside, IsHeeded, IsSearch, IsTogether, complete, later, onward}
 use Rattle.graphs.specs.declared.arrow_cycles.search.Group.{Group}
 use Rattle.graphs.specs.declared.arrow_cycles.search.Mark.{Mark}
 use Rattle.graphs.specs.declared.arrow_cycles.search.Mark.TheVariants.{New, OnPath, Closed}
-use Rattle.graphs.proofs.arrow_cycles.Places.{at_append, at_end, at_left, at_right, at_set, at_set_cases, at_set_kept}
+use Rattle.graphs.proofs.arrow_cycles.Places.{at_append, at_right, at_set, at_set_cases, at_set_kept}
 
 module _ (Is : ℕ → ℕ → Type 0) (marks : List Mark) (path : List ℕ) (groups : List Group) (pending : List ℕ) (number : ℕ)
     (search : IsSearch Is marks path groups pending number) (place : ℕ) (listed : List ℕ) (unseen : At marks place New) where
@@ -100,7 +101,7 @@ module _ (Is : ℕ → ℕ → Type 0) (marks : List Mark) (path : List ℕ) (gr
         | inl old_q ↦
             let in_path : q < length path = slice_get_within path q w old_q in
             let is : p ≡ length path = new_p.0 in
-            let le : length path ≤ q = together (length groups) begun (at_end groups begun) (omega (arith, is)) in
+            let le : length path ≤ q = together (length groups) begun (at_push_last groups begun) (omega (arith, is)) in
             absurd (omega (arith, in_path, le))
         | inr new_q ↦ inl (new_p.1 ∙ sym new_q.1)
       ]
@@ -157,19 +158,19 @@ module _ (Is : ℕ → ℕ → Type 0) (marks : List Mark) (path : List ℕ) (gr
         | inr here ↦
             let is : OnPath p ≡ OnPath (length path) = here.1 in
             let same : length path ≡ p = cc in
-            let P : ℕ → ℕ → Type 0 = λ q x. At (path ++ place ∷ []) q x in subst₂ P same here.0 (at_end path place)
+            let P : ℕ → ℕ → Type 0 = λ q x. At (path ++ place ∷ []) q x in subst₂ P same here.0 (at_push_last path place)
       ];
       ordered = ordered_more;
       within = within_more;
       grouped = λ p v at. elim (at_push_cases path place p v at) [
         | inl old ↦ let mine = search.grouped p v old in (mine.0, mine.1, at_left groups (begun ∷ []) mine.0 mine.1 mine.2, mine.3)
-        | inr here ↦ let is : p ≡ length path = here.0 in (length groups, begun, at_end groups begun, omega (arith, is))
+        | inr here ↦ let is : p ≡ length path = here.0 in (length groups, begun, at_push_last groups begun, omega (arith, is))
       ];
       leads = leads_more;
       source = λ j to at. elim (at_append pending listed j to at) [
         | inl old ↦ let from = search.source j to old in
             (from.0, from.1, at_left path (place ∷ []) from.0 from.1 from.2, from.3, beside_old from.0 from.1 j from.2 (slice_get_within pending j to old) from.4)
-        | inr here ↦ (length path, place, at_end path place, only to here.1, beside_new j here.0)
+        | inr here ↦ (length path, place, at_push_last path place, only to here.1, beside_new j here.0)
       ];
       heeded = λ p v to at is. elim (at_push_cases path place p v at) [
         | inl old ↦ heeded_old p v to old (search.heeded p v to old is)

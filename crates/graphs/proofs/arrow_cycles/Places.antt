@@ -5,22 +5,11 @@ use Rattle.emc_base.specs.Lists.{At}
 use Rattle.emc_base.proofs.Mapped.{contains_at}
 
 module _ {X : Type 0} where
-  -- an item keeps its place where a list is put behind
-  pub at_left : (xs ys : List X) (i : ℕ) (x : X) → At xs i x → At (xs ++ ys) i x
-  at_left [] ys i x at = absurd cc
-  at_left (z ∷ xs) ys zero x at = at
-  at_left (z ∷ xs) ys (suc i) x at = at_left xs ys i x at
-
   -- an item of a list put behind stands behind
   pub at_right : (xs ys : List X) (i : ℕ) (x : X) → At ys i x → At (xs ++ ys) (length xs + i) x
   at_right [] ys i x at = let P : ℕ → Type 0 = λ k. At ys k x in subst P (let same : i ≡ 0 + i = omega arith in same) at
   at_right (z ∷ xs) ys i x at = let P : ℕ → Type 0 = λ k. At (z ∷ xs ++ ys) k x in
       subst P (let same : suc (length xs + i) ≡ length (z ∷ xs) + i = omega arith in same) (at_right xs ys i x at)
-
-  -- one item put behind a list stands at its end
-  pub at_end : (xs : List X) (x : X) → At (xs ++ x ∷ []) (length xs) x
-  at_end xs x = let P : ℕ → Type 0 = λ k. At (xs ++ x ∷ []) k x in
-      subst P (let same : length xs + 0 ≡ length xs = omega arith in same) (at_right xs (x ∷ []) 0 x refl)
 
   -- an item of two lists put behind one another stands in one of them
   pub at_append : (xs ys : List X) (i : ℕ) (x : X) → At (xs ++ ys) i x → At xs i x ⊎ ((length xs ≤ i) × Contains ys x)

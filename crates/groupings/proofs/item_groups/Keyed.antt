@@ -7,7 +7,7 @@ use Rattle.std.specs.Map.{lookup}
 use Rattle.std.specs.Option.{option_map_or}
 use Rattle.std.specs.Ordering.{is_eq}
 use Rattle.std.specs.declared.cmp.Ordering.{Ordering}
-use Rattle.std.specs.declared.cmp.Ordering.TheVariants.{Less, Equal, Greater}
+use Rattle.std.specs.declared.cmp.Ordering.TheVariants.{Equal}
 use Rattle.std.proofs.lemmas.Cmp.{tied_itself}
 use Rattle.std.proofs.lemmas.List.{map-append}
 use Rattle.std.proofs.lemmas.List.Elements.{All-contains, filter-append}
@@ -15,17 +15,12 @@ use Rattle.std.proofs.lemmas.Map.Views.{All-found}
 use Rattle.std.proofs.lemmas.Map.Entries.{place_from_lookup}
 use Rattle.emc_base.proofs.Mapped.{contains_at, contains_filter, contains_map}
 use Rattle.emc_base.proofs.Numbered.{map_contains}
+use Rattle.emc_base.proofs.facts.Orderings.{is_equal}
 use Rattle.groupings.specs.item_groups.Groups.{items_at, items_of}
 
 -- nothing stands in an empty list
 none_in_nil : {X : Type 0} (x : X) → Contains [] x → ⊥
 none_in_nil x has = absurd (omega arith)
-
--- what is told as equal is
-pub is_equal : (order : Ordering) → is_eq order ≡ true → order ≡ Equal
-is_equal Less told = cc
-is_equal Equal told = refl
-is_equal Greater told = cc
 
 module _ {K : Type 0} (cmp : K → K → Ordering) (total : IsTotalOrder cmp) where
   -- keys that are equal are looked up alike

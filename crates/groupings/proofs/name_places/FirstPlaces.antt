@@ -10,8 +10,9 @@ use Rattle.std.specs.Option.{option_map_or, option_or}
 use Rattle.std.specs.Str.{bytes_eq}
 use Rattle.emc_base.specs.Lists.{At}
 use Rattle.emc_base.proofs.Loops.{take_item}
+use Rattle.emc_base.proofs.facts.Found.{position_passes}
 use Rattle.groupings.specs.name_places.GivenNames.{first_place, noted, IsGivenBefore}
-use Rattle.groupings.proofs.name_places.Positions.{position_push, position_passes, position_first, position_none}
+use Rattle.groupings.proofs.name_places.Positions.{position_push, position_first, position_none}
 
 module _ {X : Type 0} (name_in : X → List ℕ) (items : List X) (name : List ℕ) where
   -- the item at the first place of a name has the name

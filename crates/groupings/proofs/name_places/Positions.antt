@@ -1,5 +1,5 @@
 -- The first place in a list at which a test passes.
-use Rattle.std.proofs.Common.{◌≡◌, ℕ, ◌+◌, ◌<◌, ◌≤◌, List, [], ◌∷◌, ◌++◌, length, length-append, position, Some, None, Bool, true, false, cond, not, subst, sym, ap, ◌∙◌, arith}
+use Rattle.std.proofs.Common.{◌≡◌, ℕ, ◌+◌, ◌<◌, ◌≤◌, List, [], ◌∷◌, ◌++◌, length, length-append, position, Some, None, Bool, false, cond, not, sym, ap, ◌∙◌, arith}
 use Rattle.std.specs.List.{position_or_len}
 use Rattle.std.specs.Option.{option_or}
 use Rattle.std.proofs.lemmas.List.Folds.{position_or_len_push}
@@ -7,7 +7,6 @@ use Rattle.std.proofs.lemmas.List.Sums.{fails_before_first, prefix_len-le-length
 use Rattle.std.proofs.lemmas.List.Quantifiers.{position-Some}
 use Rattle.std.proofs.lemmas.Option.{slice_get_within, get_or_from_slice_get}
 use Rattle.emc_base.specs.Lists.{At}
-use Rattle.emc_base.proofs.Lists.{item_at}
 
 module _ {X : Type 0} (p : X → Bool) where
   -- one item more at the end
@@ -16,16 +15,6 @@ module _ {X : Type 0} (p : X → Bool) where
       let within : position_or_len p xs ≤ length xs = prefix_len-le-length (λ y. not (p y)) xs in
       let longer : length (xs ++ x ∷ []) ≡ length xs + 1 = length-append xs (x ∷ []) in
       grind (arith, position_or_len_push p xs x, within, longer)
-
-  -- what stands at the first place passes
-  pub position_passes : (xs : List X) (i : ℕ) → position p xs ≡ Some i → (x : X) × At xs i x × (p x ≡ true)
-  position_passes xs i is =
-      let first : position_or_len p xs < length xs = grind arith in
-      let found : position_or_len p xs ≡ i = grind arith in
-      at (item_at xs i (subst (λ (n : ℕ). n < length xs) found first))
-    where
-      at : (x : X) × At xs i x → (x : X) × At xs i x × (p x ≡ true)
-      at (x, here) = (x, here, ap p (sym (get_or_from_slice_get xs i x x here)) ∙ (position-Some p xs i x is).1)
 
   -- and what stands before doesn't
   pub position_first : (xs : List X) (i k : ℕ) (x : X) → position p xs ≡ Some i → k < i → At xs k x → p x ≡ false

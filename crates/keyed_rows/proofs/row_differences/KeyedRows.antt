@@ -1,23 +1,19 @@
 -- Rows that some columns tell apart: one for each key.
-use Rattle.std.proofs.Common.{◌≡◌, ◌≢◌, ◌⊎◌, inl, inr, List, [], ◌∷◌, get_or, Contains, Option, Some, None, refl, sym, ap, subst, ◌∙◌, arith}
+use Rattle.std.proofs.Common.{◌≡◌, ◌≢◌, ◌⊎◌, inl, inr, List, [], ◌∷◌, Contains, Option, Some, None, refl, sym, ap, subst, ◌∙◌, arith}
 use Rattle.std.proofs.lemmas.List.Elements.{All-cons, All-contains, All-nil, Contains-append_right}
-use Rattle.std.proofs.lemmas.Option.{slice_get-get_or}
 use Rattle.emc_base.specs.Lists.{At}
 use Rattle.emc_base.proofs.Lists.{at_once, same_place}
+use Rattle.emc_base.proofs.facts.Standing.{place_of_member}
 use Rattle.round_trip.specs.Words.{ColId, Value, Table, Row, cells_of, row_key}
 use Rattle.table_files.specs.InOrder.{AreToldApartBy}
 use Rattle.keyed_rows.specs.row_differences.Differences.{IsRowAt}
 use Rattle.keyed_rows.proofs.row_differences.Apart.{one_key_or_two}
 
--- a member stands at its place
-pub place_of : {X : Type 0} (xs : List X) (x : X) → (has : Contains xs x) → At xs has.0 x
-place_of xs x has = slice_get-get_or xs has.0 x has.1 ∙ (let same : get_or xs has.0 x ≡ x = has.2 in λ i. Some (same i))
-
 -- rows of one key are one row
 pub one_row : (cols : List ColId) (rows : List Row) → AreToldApartBy cols rows → (row other : Row) → Contains rows row → Contains rows other → cells_of row cols ≡ cells_of other cols → row ≡ other
 one_row cols rows apart row other has has_other same =
-    let place = same_place (λ (r : Row). cells_of r cols) rows has.0 has_other.0 row other apart (place_of rows row has) (place_of rows other has_other) same in
-    at_once rows has_other.0 row other (subst (λ i. At rows i row) place (place_of rows row has)) (place_of rows other has_other)
+    let place = same_place (λ (r : Row). cells_of r cols) rows has.0 has_other.0 row other apart (place_of_member rows row has) (place_of_member rows other has_other) same in
+    at_once rows has_other.0 row other (subst (λ i. At rows i row) place (place_of_member rows row has)) (place_of_member rows other has_other)
 
 -- the row of a key is told once
 pub one_row_at : (table : Table) (rows : List Row) → AreToldApartBy table.key rows → (key : List Value) (one two : Option Row) → IsRowAt table rows key one → IsRowAt table rows key two → one ≡ two

@@ -1,37 +1,17 @@
 -- Tables that are the fresh ones but for free cells have no rows that differ.
-use Rattle.std.proofs.Common.{◌≡◌, ◌≢◌, ℕ, List, slice_get, Bool, false, true≢false, IsTrue, All, Contains, Option, Some, None, MatchOption, refl, sym, ap, subst, ◌∙◌}
-use Rattle.std.specs.List.{AllZip}
-use Rattle.std.specs.Option.{IsSomeAnd}
+use Rattle.std.proofs.Common.{◌≡◌, ◌≢◌, List, Bool, false, true≢false, IsTrue, All, Contains, Option, Some, None, sym, ap, subst, ◌∙◌}
 use Rattle.std.proofs.lemmas.List.Elements.{All-contains}
 use Rattle.std.proofs.lemmas.List.Sorted.{Contains-permutation, IsPermutation-sym}
-use Rattle.std.proofs.lemmas.Slice.Zip.{AllZip-left, AllZip-right}
 use Rattle.emc_base.proofs.Mapped.{contains_at}
+use Rattle.emc_base.proofs.facts.Zipped.{zipped_left, zipped_right}
+use Rattle.emc_base.proofs.facts.Standing.{place_of_member}
 use Rattle.schema_laws.proofs.state_demand.lists.Places.{map_agree}
 use Rattle.round_trip.specs.Words.{TableId, ColId, Value, StoreModel, Table, Row, Tables, At, IsErasedRow, cell_of, row_key, rows_in}
+use Rattle.round_trip.proofs.Lookups.{key_columns_at}
 use Rattle.table_files.specs.InOrder.{AreToldApartBy}
 use Rattle.keyed_rows.specs.row_differences.Differences.{IsRowAt, RowsDiffer}
 use Rattle.keyed_rows.specs.row_differences.SameButFree.{AreSameButFree, HasKeptKeys, HaveRowsApart}
-use Rattle.keyed_rows.proofs.row_differences.KeyedRows.{one_row, place_of}
-use Rattle.keyed_rows.proofs.row_differences.NoDifference.{columns_of_key}
-
--- items of zipped lists at one place
-zipped_left : {X Y : Type 0} (R : X → Y → Type 0) (xs : List X) (ys : List Y) → AllZip R xs ys → (i : ℕ) (x : X) → At xs i x → (y : Y) × At ys i y × R x y
-zipped_left {X} {Y} R xs ys zipped i x here =
-    let P : Option X → Type 0 = λ found. MatchOption found (Unit {0}) (λ one. IsSomeAnd (slice_get ys i) (R one)) in
-    by (slice_get ys i) refl (subst P here (AllZip-left R xs ys zipped i))
-  where
-    by : (found : Option Y) → slice_get ys i ≡ found → IsSomeAnd found (R x) → (y : Y) × At ys i y × R x y
-    by None none never = absurd never
-    by (Some y) at holds = (y, at, holds)
-
-zipped_right : {X Y : Type 0} (R : X → Y → Type 0) (xs : List X) (ys : List Y) → AllZip R xs ys → (i : ℕ) (y : Y) → At ys i y → (x : X) × At xs i x × R x y
-zipped_right {X} {Y} R xs ys zipped i y here =
-    let P : Option Y → Type 0 = λ found. MatchOption found (Unit {0}) (λ one. IsSomeAnd (slice_get xs i) (λ x. R x one)) in
-    by (slice_get xs i) refl (subst P here (AllZip-right R xs ys zipped i))
-  where
-    by : (found : Option X) → slice_get xs i ≡ found → IsSomeAnd found (λ x. R x y) → (x : X) × At xs i x × R x y
-    by None none never = absurd never
-    by (Some x) at holds = (x, at, holds)
+use Rattle.keyed_rows.proofs.row_differences.KeyedRows.{one_row}
 
 module _ (store : StoreModel) (is_free : TableId → ColId → Bool) (tables fresh : Tables) (kept : HasKeptKeys store is_free) (apart : HaveRowsApart store fresh)
     (are : AreSameButFree store is_free tables fresh) (t : TableId) (table : Table) (at : At store.tables t.index table) where
@@ -41,23 +21,23 @@ module _ (store : StoreModel) (is_free : TableId → ColId → Bool) (tables fre
   -- erasing keeps the key
   key_kept : (row erased : Row) → Erases row erased → row_key table erased ≡ row_key table row
   key_kept row erased erases = map_agree (cell_of erased) (cell_of row) table.key (λ col has. erases.rest col (λ free.
-      true≢false (sym free ∙ All-contains (λ (c : ColId). is_free t c ≡ false) table.key col (subst (All (λ (c : ColId). is_free t c ≡ false)) (columns_of_key store t table at) (kept t)) has)))
+      true≢false (sym free ∙ All-contains (λ (c : ColId). is_free t c ≡ false) table.key col (subst (All (λ (c : ColId). is_free t c ≡ false)) (key_columns_at store t table at) (kept t)) has)))
 
   -- each held row, erased, is a fresh one
   fresh_row : (row : Row) → Contains (rows_in tables t) row → (erased : Row) × Contains (rows_in fresh t) erased × Erases row erased
   fresh_row row has =
-      let found = zipped_left Erases (rows_in tables t) (rows_in are.erased t) (are.are_erased.rows t) has.0 row (place_of (rows_in tables t) row has) in
+      let found = zipped_left Erases (rows_in tables t) (rows_in are.erased t) (are.are_erased.rows t) has.0 row (place_of_member (rows_in tables t) row has) in
       (found.0, Contains-permutation (rows_in are.erased t) (rows_in fresh t) found.0 (are.same t) (contains_at (rows_in are.erased t) has.0 found.0 found.1), found.2)
 
   -- and each fresh row is one so
   held_row : (erased : Row) → Contains (rows_in fresh t) erased → (row : Row) × Contains (rows_in tables t) row × Erases row erased
   held_row erased has =
       let among = Contains-permutation (rows_in fresh t) (rows_in are.erased t) erased (IsPermutation-sym (rows_in are.erased t) (rows_in fresh t) (are.same t)) has in
-      let found = zipped_right Erases (rows_in tables t) (rows_in are.erased t) (are.are_erased.rows t) among.0 erased (place_of (rows_in are.erased t) erased among) in
+      let found = zipped_right Erases (rows_in tables t) (rows_in are.erased t) (are.are_erased.rows t) among.0 erased (place_of_member (rows_in are.erased t) erased among) in
       (found.0, contains_at (rows_in tables t) among.0 found.0 found.1, found.2)
 
   fresh_apart : AreToldApartBy table.key (rows_in fresh t)
-  fresh_apart = subst (λ cols. AreToldApartBy cols (rows_in fresh t)) (columns_of_key store t table at) (apart t)
+  fresh_apart = subst (λ cols. AreToldApartBy cols (rows_in fresh t)) (key_columns_at store t table at) (apart t)
 
   -- so the rows of no key differ
   pub none_differs : (key : List Value) (held demanded : Option Row) → IsRowAt table (rows_in tables t) key held → IsRowAt table (rows_in fresh t) key demanded

@@ -1,26 +1,23 @@
 -- Tables of which no rows differ are the fresh ones, but for what free cells hold.
-use Rattle.std.proofs.Common.{◌≡◌, ◌≢◌, ◌⊎◌, ⊎_elim, inl, inr, ◌<◌, ◌≤◌, List, [], map, length, get_or, unwrap_or, cond, Bool, true, false, AllPairs, Contains, IsPermutation, Option, Some, None, refl, sym, ap, subst, ◌∙◌, arith}
-use Rattle.std.specs.Option.{option_map_or}
+use Rattle.std.proofs.Common.{◌≡◌, ◌≢◌, ◌⊎◌, ⊎_elim, inl, inr, ◌<◌, ◌≤◌, List, [], map, length, get_or, cond, Bool, true, false, AllPairs, Contains, IsPermutation, Option, Some, None, refl, sym, ap, subst, ◌∙◌, arith}
 use Rattle.std.proofs.lemmas.Bool.{cases_lt}
 use Rattle.std.proofs.lemmas.List.{get_or_default, same_lists}
 use Rattle.std.proofs.lemmas.List.Elements.{All-contains, Contains-get_or}
 use Rattle.std.proofs.lemmas.List.Sorted.{IsPermutation-refl}
-use Rattle.std.proofs.lemmas.Option.{slice_get_past, unwrap_or-slice_get}
+use Rattle.std.proofs.lemmas.Option.{unwrap_or-slice_get}
 use Rattle.emc_base.proofs.Lists.{item_at}
 use Rattle.emc_base.proofs.Mapped.{contains_map}
 use Rattle.emc_base.proofs.Numbered.{all_pairs_map, map_contains}
+use Rattle.edm_types.proofs.Lookups.{rows_beyond}
 use Rattle.schema_laws.proofs.state_demand.lists.Permutations.{same_members_permute}
-use Rattle.round_trip.specs.Words.{TableId, ColId, Value, Null, StoreModel, Table, Column, Row, Tables, At, AreTables, cell_of, cells_of, key_columns, row_key, rows_in}
+use Rattle.round_trip.specs.Words.{TableId, ColId, Value, Null, StoreModel, Table, Column, Row, Tables, At, AreTables, cell_of, cells_of, row_key, rows_in}
+use Rattle.round_trip.proofs.Lookups.{key_columns_at}
 use Rattle.table_files.specs.InOrder.{AreToldApartBy}
 use Rattle.keyed_rows.specs.row_differences.Differences.{DifferAt, IsRowAt}
 use Rattle.keyed_rows.specs.row_differences.SameButFree.{AreSameButFree, HaveNullFreeCells, HaveRowsApart}
 use Rattle.keyed_rows.proofs.row_differences.Apart.{one_or_two}
 use Rattle.keyed_rows.proofs.row_differences.Erased.{are_erased, erase_row, erase_tables, erased_cell, erased_rows, length_row}
 use Rattle.keyed_rows.proofs.row_differences.KeyedRows.{row_of_key}
-
--- the key columns of a table that is there
-pub columns_of_key : (store : StoreModel) (t : TableId) (table : Table) → At store.tables t.index table → key_columns store t ≡ table.key
-columns_of_key store t table at = ap (λ found. option_map_or (λ (one : Table). one.key) found []) at
 
 -- rows that hold the same in each column are one
 same_rows : (one two : Row) → length one.cells ≡ length two.cells → ((col : ColId) → col.index < length one.cells → cell_of one col ≡ cell_of two col) → one ≡ two
@@ -30,10 +27,6 @@ same_rows one two long same =
     get_or_default one.cells k d Null within ∙ sym (unwrap_or-slice_get one.cells k Null) ∙ same col within ∙ unwrap_or-slice_get two.cells k Null
     ∙ get_or_default two.cells k Null d (subst (λ n. k < n) long within)) in
     λ i. record { cells = cells i }
-
--- rows beyond the tables are none
-pub rows_beyond : (tables : Tables) (t : TableId) → length tables ≤ t.index → rows_in tables t ≡ []
-rows_beyond tables t beyond = ap (λ found. unwrap_or found []) (slice_get_past tables t.index beyond)
 
 module _ (store : StoreModel) (is_free : TableId → ColId → Bool) (tables fresh : Tables) (shape : AreTables store tables) (fresh_shape : AreTables store fresh)
     (apart : HaveRowsApart store tables) (fresh_apart : HaveRowsApart store fresh) (nulls : HaveNullFreeCells is_free fresh)
@@ -49,10 +42,10 @@ module _ (store : StoreModel) (is_free : TableId → ColId → Bool) (tables fre
     erase = erase_row (is_free t)
 
     held_apart : AreToldApartBy table.key held
-    held_apart = subst (λ cols. AreToldApartBy cols held) (columns_of_key store t table at) (apart t)
+    held_apart = subst (λ cols. AreToldApartBy cols held) (key_columns_at store t table at) (apart t)
 
     demanded_apart : AreToldApartBy table.key demanded
-    demanded_apart = subst (λ cols. AreToldApartBy cols demanded) (columns_of_key store t table at) (fresh_apart t)
+    demanded_apart = subst (λ cols. AreToldApartBy cols demanded) (key_columns_at store t table at) (fresh_apart t)
 
     long : (row : Row) → Contains held row → length row.cells ≡ length table.cols
     long row has = All-contains (λ (r : Row). length r.cells ≡ length table.cols) held row (shape.rows t table at) has

@@ -5,22 +5,20 @@ use Rattle.std.proofs.lemmas.Bool.{cases_lt}
 use Rattle.std.proofs.lemmas.List.Elements.{All-contains, Contains-append_cases, Contains-append_left, Contains-append_right}
 use Rattle.emc_base.proofs.Lists.{all_from_members, item_at}
 use Rattle.emc_base.proofs.Numbered.{map_contains}
+use Rattle.emc_base.proofs.FoundItems.{some_member}
 use Rattle.round_trip.specs.Words.{TableId, ColId, Value, Null, Assoc, Pair, Cond, Fragment, LinkFragment, Entity, Link, Row, Schema, State, Tables, DemandsCell, Fills, HasDemandedCells, IsFree, IsNamedBy, TablesAre, Writes, Writing, cell_of, end_cells, entity_cells, key_columns, key_props, link_cells, rows_in, value_beside, value_of}
 use Rattle.edm_types.specs.declared.mapping.CondOn.TheVariants as on
+use Rattle.edm_types.proofs.Lookups.{rows_beyond}
+use Rattle.round_trip.proofs.Lookups.{key_columns_at}
 use Rattle.table_files.specs.InOrder.{AreToldApartBy}
 use Rattle.keyed_rows.specs.row_differences.SameButFree.{HaveNullFreeCells, HaveRowsApart}
-use Rattle.keyed_rows.proofs.row_differences.NoDifference.{columns_of_key, rows_beyond}
-
--- what stands there and passes is some
-some_of : {X : Type 0} (P : X → Type 0) (xs : List X) (x : X) → Contains xs x → P x → Any P xs
-some_of P xs x has holds = (has.0, x, has.1, has.2, holds)
 
 -- a column that a writing fills by a cell or a condition is named
 named : (pairs : List Pair) (writing : Writing) (col : ColId) (value : Value) → ((one : ColId × Value) → Contains writing.cells one → Any (λ pair. pair.col ≡ one.0) pairs)
     → Fills writing col value → IsNamedBy pairs writing.conds col
 named pairs writing col value written (inl cell) = inl (written (col, value) cell)
-named pairs writing col value written (inr (inl cond)) = inr (some_of (λ (one : Cond). one.on ≡ on.Col col) writing.conds _ cond refl)
-named pairs writing col value written (inr (inr null)) = inr (some_of (λ (one : Cond). one.on ≡ on.Col col) writing.conds _ null.0 refl)
+named pairs writing col value written (inr (inl cond)) = inr (some_member (λ (one : Cond). one.on ≡ on.Col col) writing.conds _ cond refl)
+named pairs writing col value written (inr (inr null)) = inr (some_member (λ (one : Cond). one.on ≡ on.Col col) writing.conds _ null.0 refl)
 
 -- what is written by pairs is written to their columns
 by_pair : (f : Pair → Value) (pairs : List Pair) (one : ColId × Value) → Contains (map (λ (pair : Pair). (pair.col, f pair)) pairs) one → (pair : Pair) × Contains pairs pair × (pair.col ≡ one.0)
@@ -42,7 +40,7 @@ module _ (schema : Schema) (state : State) where
           (named fragment.pairs writing col value
           (λ one has.
           let pair = by_pair (λ p. value_of schema.model entity p.prop) fragment.pairs one has in
-          some_of (λ (p : Pair). p.col ≡ one.0) fragment.pairs pair.0 pair.1 pair.2)
+          some_member (λ (p : Pair). p.col ≡ one.0) fragment.pairs pair.0 pair.1 pair.2)
           (subst (λ (w : Writing). Fills w col value) same demanded.2))
 
       by_link : (fragment : LinkFragment) (assoc : Assoc) (link : Link) → Contains schema.mapping.links fragment
@@ -56,10 +54,10 @@ module _ (schema : Schema) (state : State) where
           (λ one has. ⊎_elim
           (λ (first : Contains (end_cells schema.model assoc.first.ty fragment.first link.first) one).
           let pair = by_pair (λ p. value_beside p.prop (key_props schema.model assoc.first.ty) link.first) fragment.first one first in
-          some_of (λ (p : Pair). p.col ≡ one.0) pairs pair.0 (Contains-append_left fragment.first fragment.second pair.0 pair.1) pair.2)
+          some_member (λ (p : Pair). p.col ≡ one.0) pairs pair.0 (Contains-append_left fragment.first fragment.second pair.0 pair.1) pair.2)
           (λ (second : Contains (end_cells schema.model assoc.second.ty fragment.second link.second) one).
           let pair = by_pair (λ p. value_beside p.prop (key_props schema.model assoc.second.ty) link.second) fragment.second one second in
-          some_of (λ (p : Pair). p.col ≡ one.0) pairs pair.0 (Contains-append_right fragment.first fragment.second pair.0 pair.1) pair.2)
+          some_member (λ (p : Pair). p.col ≡ one.0) pairs pair.0 (Contains-append_right fragment.first fragment.second pair.0 pair.1) pair.2)
           (Contains-append_cases (end_cells schema.model assoc.first.ty fragment.first link.first) (end_cells schema.model assoc.second.ty fragment.second link.second) one has))
           (subst (λ (w : Writing). Fills w col value) same demanded.2))
 
@@ -75,7 +73,7 @@ module _ (schema : Schema) (state : State) where
         by : (t.index < length schema.store.tables) ⊎ (length schema.store.tables ≤ t.index) → AreToldApartBy (key_columns schema.store t) (rows_in tables t)
         by (inl within) =
             let table = item_at schema.store.tables t.index within in
-            subst (λ cols. AreToldApartBy cols (rows_in tables t)) (sym (columns_of_key schema.store t table.0 table.1)) (are.rows t table.0 table.1).once
+            subst (λ cols. AreToldApartBy cols (rows_in tables t)) (sym (key_columns_at schema.store t table.0 table.1)) (are.rows t table.0 table.1).once
         by (inr beyond) =
             subst (AreToldApartBy (key_columns schema.store t)) (sym (rows_beyond tables t (omega (arith, beyond, are.shape.each)))) (λ i j d below within. absurd (omega arith))
 

@@ -8,8 +8,8 @@ use Rattle.emc_base.proofs.Mapped.{contains_filter, contains_map}
 use Rattle.emc_base.proofs.Numbered.{all_pairs_map, filter_contains, map_contains}
 use Rattle.emc_base.specs.Order.{value_cmp}
 use Rattle.emc_base.specs.OrderLaws.{key_cmp_apart, key_cmp_total}
+use Rattle.emc_base.proofs.facts.Orderings.{is_equal}
 use Rattle.edm_types.specs.Types.{Value}
-use Rattle.groupings.proofs.item_groups.Keyed.{is_equal}
 use Rattle.keyed_rows.specs.row_groups.KeyGroups.{with_key}
 
 module _ {X : Type 0} (keyed : List (List Value × X)) (key : List Value) where

@@ -5,12 +5,13 @@ use Rattle.std.proofs.lemmas.Option.{same_Some, slice_get_within}
 use Rattle.std.proofs.lemmas.List.Elements.{All-append, All-contains, All-nil, Contains-append_left, Contains-append_right}
 use Rattle.emc_base.proofs.Lists.{all_from_members, only_member}
 use Rattle.emc_base.proofs.Mapped.{contains_at}
+use Rattle.edm_types.proofs.Lookups.{same_table}
 use Rattle.case_laws.proofs.filled_rows.Pairs.{pairs_append}
 use Rattle.regions.proofs.region_laws.lists.Choices.{pairs_nil}
 use Rattle.round_trip.specs.Words.{SetId, TableId, Value, Pair, Row, Schema, Table, Tables, At, AreLegalTables, cells_of, rows_in, row_key, value_beside}
 use Rattle.round_trip.specs.soundness.Lookups.{set_key}
 use Rattle.round_trip.specs.soundness.mappings.Mappings.{IsSoundSchema}
-use Rattle.schema_laws.proofs.state_demand.writings.Fitting.{key_is}
+use Rattle.round_trip.proofs.Lookups.{key_columns_at}
 use Rattle.schema_laws.proofs.state_demand.lists.Lists.{head_stands, same_by_key}
 use Rattle.case_laws.specs.region_cases.Meets.{StandsAtKey}
 use Rattle.table_files.specs.Lists.{HasKey, IsFirstOf}
@@ -21,7 +22,6 @@ use Rattle.keyed_rows.specs.set_rows.Owning.{IsOwnedBy, IsTableKey}
 use Rattle.keyed_rows.specs.set_rows.AtKey.{AreRowsBelow, IsRowAt, in_table}
 use Rattle.keyed_rows.proofs.set_rows.KeyOrder.{alike}
 use Rattle.keyed_rows.proofs.set_rows.Owners.{owned_by}
-use Rattle.keyed_rows.proofs.set_rows.TableRows.{same_table}
 
 -- a row with its table
 abbrev Placed : Type 0
@@ -55,19 +55,19 @@ module _ (schema : Schema) (sound : IsSoundSchema schema) (tables : Tables) (leg
         owned = is.0.owned;
         is_table = here;
         stands = has;
-        at_key = ap (cells_of row) (sym (key_is schema.store t table here)) ∙ with_key ∙ is.1;
+        at_key = ap (cells_of row) (sym (key_columns_at schema.store t table here)) ∙ with_key ∙ is.1;
       }
 
       -- and one that stands there has this primary key
       key_by : (row : Row) → Stands row → HasKey schema.store t own row
       key_by row at =
-          ap (cells_of row) (key_is schema.store t at.table at.is_table) ∙ at.at_key
+          ap (cells_of row) (key_columns_at schema.store t at.table at.is_table) ∙ at.at_key
           ∙ ap (map (λ (pair : Pair). value_beside pair.prop (set_key schema.model s) key)) (sym (alike schema sound t s is.0 tables key row at)) ∙ sym is.1
 
       -- two that stand there are one
       one_row : (row other : Row) → Stands row → Stands other → row ≡ other
       one_row row other at too =
-          let cols = key_is schema.store t table here in
+          let cols = key_columns_at schema.store t table here in
           same_by_key (row_key table) (rows_in tables t) row other (legal.rows t table here).keys at.stands too.stands
           (ap (cells_of row) (sym cols) ∙ key_by row at ∙ sym (key_by other too) ∙ ap (cells_of other) cols)
 

@@ -1,5 +1,5 @@
 -- Keyed rows of a set, grouped by their keys, are its rows by the keys of its entities.
-use Rattle.std.proofs.Common.{◌≡◌, ◌≢◌, ◌<◌, List, [], ◌∷◌, length, map, filter, get_or, Bool, All, AllPairs, Contains, refl, sym, ap, subst, ◌∙◌, arith}
+use Rattle.std.proofs.Common.{◌≡◌, ◌≢◌, ◌<◌, List, [], length, map, filter, get_or, Bool, All, AllPairs, Contains, sym, ap, subst, ◌∙◌, arith}
 use Rattle.std.specs.Borrow.{Bor}
 use Rattle.std.specs.Cmp.Lexicographic.{slice_cmp}
 use Rattle.std.specs.Global.{Vec}
@@ -13,11 +13,11 @@ use Rattle.emc_base.proofs.Mapped.{contains_map}
 use Rattle.emc_base.proofs.Numbered.{all_pairs_map, map_contains}
 use Rattle.emc_base.specs.Order.{value_cmp}
 use Rattle.emc_base.specs.OrderLaws.{key_cmp_apart}
-use Rattle.groupings.proofs.item_groups.Keyed.{is_equal}
+use Rattle.emc_base.proofs.facts.Orderings.{is_equal}
+use Rattle.emc_base.proofs.facts.Standing.{some_item}
 use Rattle.round_trip.specs.Words.{SetId, TableId, Value, Row, Schema, Tables}
 use Rattle.round_trip.specs.soundness.Lookups.{set_key}
 use Rattle.case_laws.specs.region_cases.Meets.{StandsAtKey}
-use Rattle.schema_laws.proofs.state_demand.lists.Lists.{head_stands}
 use Rattle.schema_laws.proofs.state_demand.owners.Owners.{pairs_from_map}
 use Rattle.case_laws.specs.candidates.Rows.{AreRowsAt, HasRows, shown_row, shown_rows}
 use Rattle.case_laws.specs.declared.candidates.placed.PlacedRow.{PlacedRow}
@@ -38,10 +38,6 @@ with_key_alike {X} P keyed key pairs =
     λ k d inside. key_cmp_apart (get_or kept k d).0 key (is_equal (slice_cmp value_cmp (get_or kept k d).0 key) (filter_passes test keyed k d inside)) in
     all_pairs_map P (λ (one : List Value × X). one.1) kept (λ i j d below inside.
     AllPairs-filter R test keyed pairs i j d below inside (has_key i d (omega (arith, below, inside)) ∙ sym (has_key j d inside)))
-
-some_member : {X : Type 0} (xs : List X) → xs ≢ [] → (x : X) × Contains xs x
-some_member [] some = absurd (some refl)
-some_member (x ∷ xs) some = (x, head_stands x xs)
 
 -- a keyed row that is lent
 abbrev pub shown : List Value × PlacedRow → KeyedRow
@@ -74,7 +70,7 @@ module _ (schema : Schema) (tables : Tables) (s : SetId) (keyed : List (List Val
 
   group_member : (group : Group) → Contains groups group → (placed : PlacedRow) × Contains (with_key keyed group.0) placed
   group_member group has =
-      let found = some_member group.1 (All-contains (λ (one : Group). one.1 ≢ []) groups group grouped.some has) in
+      let found = some_item group.1 (All-contains (λ (one : Group). one.1 ≢ []) groups group grouped.some has) in
       (found.0, subst (λ items. Contains items found.0) (group_rows group has) found.1)
 
   abbrev Stands : List Value → TableId × Row → Type 0

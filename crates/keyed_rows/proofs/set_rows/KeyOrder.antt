@@ -13,10 +13,10 @@ use Rattle.emc_base.proofs.Numbered.{map_contains}
 use Rattle.round_trip.specs.Words.{SetId, TableId, ColId, PropId, Value, Pair, Row, Schema, Table, Tables, At, cell_of, cells_of, row_key, rows_in, value_beside, key_columns}
 use Rattle.round_trip.specs.soundness.Lookups.{set_key}
 use Rattle.round_trip.specs.soundness.mappings.Mappings.{IsSoundSchema}
+use Rattle.round_trip.proofs.Lookups.{key_columns_at}
 use Rattle.case_laws.specs.region_cases.Meets.{StandsAtKey}
 use Rattle.schema_laws.specs.state_demand.Owners.{props_in}
 use Rattle.schema_laws.specs.state_demand.WellWritten.{cols_of}
-use Rattle.schema_laws.proofs.state_demand.writings.Fitting.{key_is}
 use Rattle.schema_laws.proofs.state_demand.lists.Lists.{head_stands, same_by_key, tail_stands}
 use Rattle.schema_laws.proofs.state_demand.owners.Owners.{pairs_from_map}
 use Rattle.schema_laws.proofs.state_demand.lists.Places.{map_agree}
@@ -50,7 +50,7 @@ module _ (schema : Schema) (sound : IsSoundSchema schema) (t : TableId) (s : Set
 
   -- its columns are those of the table's primary key
   pub cols_are : (table : Table) → At schema.store.tables t.index table → cols_of own.pairing ≡ table.key
-  cols_are table here = own.owned.cols ∙ key_is schema.store t table here
+  cols_are table here = own.owned.cols ∙ key_columns_at schema.store t table here
 
   -- any other pairing is the same
   pub alike : (tables : Tables) (key : List Value) (row : Row) (at : StandsAtKey schema tables s key t row) → own.pairing ≡ at.pairing

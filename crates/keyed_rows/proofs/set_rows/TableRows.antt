@@ -9,13 +9,14 @@ use Rattle.emc_base.specs.Order.{value_cmp}
 use Rattle.emc_base.proofs.Lists.{all_from_members}
 use Rattle.emc_base.proofs.Mapped.{contains_map}
 use Rattle.emc_base.proofs.Numbered.{all_pairs_map}
+use Rattle.edm_types.proofs.Lookups.{same_table}
 use Rattle.case_laws.proofs.filled_rows.Pairs.{pairs_append}
 use Rattle.regions.proofs.region_laws.lists.Choices.{pairs_nil}
 use Rattle.round_trip.specs.Words.{SetId, TableId, ColId, Row, Schema, Table, Tables, At, AreLegalTables, rows_in, cells_of, key_columns}
 use Rattle.round_trip.specs.soundness.mappings.Mappings.{IsSoundSchema}
+use Rattle.round_trip.proofs.Lookups.{key_columns_at}
 use Rattle.table_owners.specs.declared.table_writers.writer.Owner.{Owner}
 use Rattle.table_owners.specs.Owners.{TellsOwner}
-use Rattle.schema_laws.proofs.state_demand.writings.Fitting.{key_is}
 use Rattle.table_files.proofs.Rising.{rising_apart}
 use Rattle.table_files.specs.InOrder.{AreToldApartBy}
 use Rattle.keyed_rows.specs.set_rows.Owning.{IsOwnedBy, IsKeyOrder}
@@ -26,10 +27,6 @@ use Rattle.keyed_rows.proofs.set_rows.Owners.{owned_by}
 -- of one key, in tables that rise
 abbrev Rises : KeyedRow → KeyedRow → Type 0
 Rises one later = one.0 ≡ later.0 → one.1.0.index < later.1.0.index
-
--- a table by its place
-pub same_table : (t u : TableId) → t.index ≡ u.index → t ≡ u
-same_table t u same = λ k. record { index = same k }
 
 module _ (schema : Schema) (sound : IsSoundSchema schema) (tables : Tables) (legal : AreLegalTables schema.store tables) (s : SetId) (t : TableId) where
   module _ (order : List ColId) (is : IsKeyOrder schema t s order) (table : Table) (here : At schema.store.tables t.index table) where
@@ -43,7 +40,7 @@ module _ (schema : Schema) (sound : IsSoundSchema schema) (tables : Tables) (leg
 
     -- the columns of the primary key tell the rows apart
     pub rows_apart : AreToldApartBy (key_columns schema.store t) (rows_in tables t)
-    rows_apart = subst (λ cols. AreToldApartBy cols (rows_in tables t)) (sym (key_is schema.store t table here)) (legal.rows t table here).keys
+    rows_apart = subst (λ cols. AreToldApartBy cols (rows_in tables t)) (sym (key_columns_at schema.store t table here)) (legal.rows t table here).keys
 
     module _ (sorted : List Row) (same : IsPermutation (rows_in tables t) sorted)
         (rising : AllPairs (λ (row later : Row). slice_cmp value_cmp (cells_of row order) (cells_of later order) ≡ Less) sorted) where

@@ -1,5 +1,5 @@
 -- Lists whose items agree place by place.
-use Rattle.std.proofs.Common.{◌≡◌, ⊎_elim, List, [], ◌∷◌, ◌++◌, ◌==◌, map, Bool, true, false, Contains, refl, sym, subst, ◌∙◌}
+use Rattle.std.proofs.Common.{◌≡◌, ⊎_elim, List, [], ◌∷◌, ◌==◌, map, Bool, true, false, Contains, refl, sym, subst, ◌∙◌}
 use Rattle.std.specs.List.{AllZip}
 use Rattle.std.proofs.lemmas.Bool.Decides.{not_from_Decides}
 use Rattle.round_trip.specs.Words.{PropId, ColId, Value, value_beside}
@@ -8,13 +8,6 @@ use Rattle.schema_laws.proofs.state_demand.lists.Lists.{head_stands, member_case
 use Rattle.case_laws.proofs.lists.Beside.{beside_first, beside_later}
 
 module _ {X Y : Type 0} (R : X → Y → Type 0) where
-  -- one item more in each
-  pub zip_push : (xs : List X) (ys : List Y) (x : X) (y : Y) → AllZip R xs ys → R x y → AllZip R (xs ++ x ∷ []) (ys ++ y ∷ [])
-  zip_push [] [] x y all one = (one, tt)
-  zip_push [] (w ∷ ys) x y all one = absurd all
-  zip_push (z ∷ xs) [] x y all one = absurd all
-  zip_push (z ∷ xs) (w ∷ ys) x y all one = (all.0, zip_push xs ys x y all.1 one)
-
   -- an item of the second list has one of the first
   pub zip_second : (xs : List X) (ys : List Y) (y : Y) → AllZip R xs ys → Contains ys y → (x : X) × R x y
   zip_second xs [] y all has = absurd (none_in_nil y has)

@@ -8,6 +8,7 @@ use Rattle.std.specs.Ordering.{nat_cmp, ordering_then}
 use Rattle.std.proofs.lemmas.Bool.{cases_lt}
 use Rattle.std.proofs.lemmas.Result.{IfOk-weaker}
 use Rattle.emc_base.specs.Lists.{At}
+use Rattle.emc_base.proofs.facts.Orderings.{not_greater}
 use Rattle.json_form.specs.declared.pointer.Step.{Step}
 use Rattle.json_form.specs.declared.pointer.Step.TheVariants.{Member, Item}
 use Rattle.json_form.specs.Pointers.{steps_cmp}
@@ -63,10 +64,6 @@ pub least_of_other : (P Q : Fault → Type 0) (found : Option Fault) → IsLeast
     → IsLeast fault_cmp (λ fault. P fault ⊎ Q fault) found
 least_of_other P Q None none least = λ fault. ⊎_elim (none fault) (least fault)
 least_of_other P Q (Some found) none least = (inr least.0, λ fault. ⊎_elim (λ holds. absurd (none fault holds)) (least.1 fault))
-
--- a number that isn't greater by the order of numbers
-pub not_greater : (one other : ℕ) → nat_cmp one other ≢ Greater → one ≤ other
-not_greater one other not = ⊎_elim (λ (less : other < one). absurd (not (sym (nat_cmp_is one other Greater less)))) (λ (fine : one ≤ other). fine) (cases_lt other one)
 
 -- and back
 pub upto_not_greater : (one other : ℕ) → one ≤ other → nat_cmp one other ≢ Greater

@@ -5,8 +5,6 @@ use Rattle.std.specs.BTreeMap.{is_at}
 use Rattle.std.specs.BTreeSet.{BTreeSet, Updates, contains}
 use Rattle.std.specs.List.{list_any}
 use Rattle.std.specs.Ordering.{is_eq}
-use Rattle.std.specs.declared.cmp.Ordering.{Ordering}
-use Rattle.std.specs.declared.cmp.Ordering.TheVariants.{Less, Equal, Greater}
 use Rattle.std.proofs.lemmas.Bool.{cases_eq}
 use Rattle.std.proofs.lemmas.Cmp.{tied_itself}
 use Rattle.std.proofs.lemmas.Map.Views.{btree_set_contains_iff}
@@ -14,6 +12,7 @@ use Rattle.std.proofs.lemmas.Option.{slice_get_within}
 use Rattle.emc_base.specs.Order.{value_cmp}
 use Rattle.emc_base.specs.OrderLaws.{value_cmp_apart, value_cmp_total}
 use Rattle.emc_base.proofs.Lists.{at_once}
+use Rattle.emc_base.proofs.facts.Orderings.{is_equal}
 use Rattle.round_trip.specs.Words.{Value, At}
 use Rattle.groupings.proofs.linked_places.Lists.{at_before_set, at_set, at_set_other}
 use Rattle.member_groups.specs.mapping_asks.Adding.{Adds, Each, EachBelow, Tells}
@@ -25,16 +24,10 @@ use Rattle.member_groups.proofs.group_numbers.Holding.{holds_as}
 abbrev Sets : Type 0
 Sets = List (BTreeSet Value)
 
--- an order that is equal, as a test
-equal : (order : Ordering) → is_eq order ≡ true → order ≡ Equal
-equal Less is = absurd cc
-equal Equal is = refl
-equal Greater is = absurd cc
-
 -- the order of values tells them apart
 pub tells_value : (one other : Value) → Decides (is_eq (value_cmp one other)) (one ≡ other)
 tells_value one other = (
-  λ is. value_cmp_apart one other (equal (value_cmp one other) is),
+  λ is. value_cmp_apart one other (is_equal (value_cmp one other) is),
   λ same. subst (λ (value : Value). is_eq (value_cmp one value) ≡ true) same (ap is_eq (tied_itself value_cmp_total one)),
 )
 

@@ -3,11 +3,10 @@ use Rattle.std.proofs.Common.{◌≡◌, ◌≢◌, ◌⊎◌, ◌↔◌, ◌==�
 use Rattle.std.specs.Bool.{Decides}
 use Rattle.std.specs.Option.{option_map_or}
 use Rattle.std.specs.Ordering.{nat_cmp, is_eq, ordering_then}
-use Rattle.std.specs.declared.cmp.Ordering.{Ordering}
-use Rattle.std.specs.declared.cmp.Ordering.TheVariants.{Less, Equal, Greater}
 use Rattle.std.proofs.lemmas.Bool.Decides.{Decides-and, Decides-eqb}
 use Rattle.std.proofs.lemmas.Cmp.{nat_cmp_total, tied_itself}
-use Rattle.std.proofs.lemmas.Map.Lookups.{exact_pairs, exact_unsigned}
+use Rattle.std.proofs.lemmas.Map.Lookups.{exact_unsigned}
+use Rattle.emc_base.proofs.facts.Orderings.{both_numbers, is_equal}
 use Rattle.round_trip.specs.Words.{Schema}
 use Rattle.round_trip.specs.soundness.mappings.Joined.{Joined, Member, col, prop}
 use Rattle.member_groups.specs.declared.joined_groups.groups.Groups.{Groups}
@@ -17,21 +16,9 @@ use Rattle.member_groups.specs.joined_groups.Labels.{label_cmp, label_eq, label_
 use Rattle.member_groups.specs.declared.joined_groups.labels.Label.{Label}
 use Rattle.member_groups.specs.declared.joined_groups.labels.Label.TheVariants.{Column, Group, Prop}
 
--- an order that is equal, as a test
-equal : (order : Ordering) → is_eq order ≡ true → order ≡ Equal
-equal Less is = absurd cc
-equal Equal is = refl
-equal Greater is = absurd cc
-
 -- the order of numbers tells them apart
 same_number : (a b : ℕ) → is_eq (nat_cmp a b) ≡ true → a ≡ b
-same_number a b is = exact_unsigned a b (equal (nat_cmp a b) is)
-
--- the order of two numbers, one after the other, tells them apart
-both_numbers : (a b c d : ℕ) → is_eq (ordering_then (nat_cmp a c) (nat_cmp b d)) ≡ true → (a ≡ c) × (b ≡ d)
-both_numbers a b c d is =
-    let same : (a, b) ≡ (c, d) = exact_pairs nat_cmp nat_cmp exact_unsigned exact_unsigned (a, b) (c, d) (equal (ordering_then (nat_cmp a c) (nat_cmp b d)) is) in
-    (ap (λ (p : ℕ × ℕ). p.0) same, ap (λ (p : ℕ × ℕ). p.1) same)
+same_number a b is = exact_unsigned a b (is_equal (nat_cmp a b) is)
 
 -- a label is equal to itself
 equal_itself : (label : Label) → is_eq (label_cmp label label) ≡ true

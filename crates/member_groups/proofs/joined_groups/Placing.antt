@@ -8,9 +8,10 @@ use Rattle.std.proofs.lemmas.List.Sums.{sum_by_more}
 use Rattle.std.proofs.lemmas.Option.{get_or_from_slice_get, slice_get_past, slice_get_within}
 use Rattle.round_trip.specs.Words.{EntityModel, StoreModel, Prop, Table, At, key_props}
 use Rattle.emc_base.proofs.Lists.{at_once}
+use Rattle.emc_base.proofs.Joined.{at_left}
 use Rattle.member_groups.specs.declared.joined_groups.places.Places.{Places}
 use Rattle.member_groups.specs.joined_groups.Places.{ArePlacesUpTo, HavePlaces, IsAdded, IsColumnOfKey, IsPropOfKey, held_at, start_of}
-use Rattle.member_groups.proofs.joined_groups.Lists.{at_end, at_front}
+use Rattle.member_groups.proofs.joined_groups.Lists.{at_end}
 
 module _ (IsOfKey : ℕ → Type 0) (first : ℕ) where
   pub none_placed : HavePlaces IsOfKey 0 first []
@@ -22,13 +23,13 @@ module _ (IsOfKey : ℕ → Type 0) (first : ℕ) where
   one_placed n places is_key so_far tells = record {
     size = let longer = length_push places (then_some (not is_key) (first + n)) in let size : length places ≡ n = so_far.size in omega (arith, longer, size);
     keys = λ i within key. ⊎_elim
-        (λ (below : i < n). at_front places more i None (so_far.keys i below key))
+        (λ (below : i < n). at_left places more i None (so_far.keys i below key))
         (λ (past : n ≤ i). let last : n ≡ i = omega (arith, within, past) in
         let P : ℕ → Type 0 = λ k. IsOfKey k → At (places ++ more) k None in
         subst P last (λ own. by_key is_key (tells.1 own)) key)
         (cases_lt i n);
     others = λ i within free. ⊎_elim
-        (λ (below : i < n). at_front places more i (Some (first + i)) (so_far.others i below free))
+        (λ (below : i < n). at_left places more i (Some (first + i)) (so_far.others i below free))
         (λ (past : n ≤ i). let last : n ≡ i = omega (arith, within, past) in
         let P : ℕ → Type 0 = λ k. ¬ IsOfKey k → At (places ++ more) k (Some (first + k)) in
         subst P last (λ own. by_none is_key tells.0 own) free)
@@ -109,7 +110,7 @@ module _ (model : EntityModel) (store : StoreModel) where
         (λ (below : t < n).
         let old = so_far.columns t one below at in
         let P : List (List (Option ℕ)) → Type 0 = λ tables. At tables t old.0 in
-        (old.0, subst P (sym added.tables) (at_front before.tables (added.columns ∷ []) t old.0 old.1), old.2))
+        (old.0, subst P (sym added.tables) (at_left before.tables (added.columns ∷ []) t old.0 old.1), old.2))
         (λ (past : n ≤ t). let last : n ≡ t = omega (arith, within, past) in
         let Q : ℕ → Type 0 = λ k. At store.tables k one → (columns : List (Option ℕ)) × At after.tables k columns
         × HavePlaces (IsColumnOfKey one) (length one.cols) (start_of model store.tables k) columns in

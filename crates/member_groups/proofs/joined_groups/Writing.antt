@@ -1,17 +1,15 @@
 -- The links of pairs, one pair after another and one fragment after another, and what the link of a pair tells.
-use Rattle.std.proofs.Common.{◌≡◌, ◌⊎◌, inl, inr, ℕ, ◌<◌, List, [], ◌∷◌, ◌++◌, Option, Some, None, Contains, sym, ap, subst, ◌∙◌, arith}
+use Rattle.std.proofs.Common.{◌≡◌, ◌⊎◌, inl, inr, ℕ, List, [], ◌∷◌, ◌++◌, Option, Some, None, Contains, sym, ap, subst, ◌∙◌}
 use Rattle.std.specs.Prelude.{option_and_then, option_map}
 use Rattle.std.proofs.lemmas.List.Elements.{Contains-append_left, Contains-push, Contains-push_cases}
 use Rattle.std.proofs.lemmas.Option.{same_Some}
+use Rattle.emc_base.proofs.Members.{contains_nil}
 use Rattle.round_trip.specs.Words.{Fragment, Pair, TableId}
 use Rattle.round_trip.specs.soundness.mappings.Joined.{col, prop}
 use Rattle.groupings.specs.declared.linked_places.classes.Link.{Link}
 use Rattle.member_groups.specs.declared.joined_groups.places.Places.{Places}
 use Rattle.member_groups.specs.joined_groups.Places.{place_of}
 use Rattle.member_groups.specs.joined_groups.Writes.{AreLinks, AreMore, LinksBy, link_by}
-
-no_member : {X : Type 0} (x : X) → ¬ Contains [] x
-no_member x has = absurd (let within : has.0 < 0 = has.1 in omega arith)
 
 module _ (places : Places) (table : TableId) where
   -- without a pair
@@ -20,7 +18,7 @@ module _ (places : Places) (table : TableId) where
     λ has. inl has,
     λ some. elim some [
       | inl old ↦ old
-      | inr by ↦ absurd (no_member by.0 by.1)
+      | inr by ↦ absurd (contains_nil by.0 by.1)
     ],
   )
 
@@ -67,7 +65,7 @@ module _ (places : Places) (table : TableId) where
 module _ (places : Places) where
   -- without a fragment
   pub no_links : AreLinks places [] []
-  no_links = λ link. (λ has. absurd (no_member link has), λ some. absurd (no_member some.0 some.1))
+  no_links = λ link. (λ has. absurd (contains_nil link has), λ some. absurd (contains_nil some.0 some.1))
 
   -- with one fragment more
   pub more_links : (fragments : List Fragment) (fragment : Fragment) (links after : List Link) → AreLinks places fragments links

@@ -1,23 +1,19 @@
 -- What comes to what is known, one thing after another.
-use Rattle.std.proofs.Common.{◌≡◌, ◌⊎◌, ⊎_elim, inl, inr, ℕ, ◌+◌, ◌<◌, List, [], ◌∷◌, ◌++◌, Bool, true, false, cond, take, Contains, true≢false, refl, sym, ap, subst, ◌∙◌, arith}
+use Rattle.std.proofs.Common.{◌≡◌, ◌⊎◌, inl, inr, ℕ, ◌+◌, ◌<◌, List, [], ◌∷◌, ◌++◌, true, false, cond, take, Contains, true≢false, sym, ap, subst, ◌∙◌, arith}
 use Rattle.std.specs.BTreeSet.{BTreeSet, IsEmpty, contains, Updates}
 use Rattle.std.specs.BTreeMap.{is_at}
 use Rattle.std.specs.List.{list_any}
 use Rattle.std.specs.Bool.{Decides}
-use Rattle.std.specs.Cmp.{unsigned_ties}
 use Rattle.std.specs.Ordering.{is_eq, nat_cmp}
 use Rattle.std.specs.declared.cmp.Ordering.{Ordering}
-use Rattle.std.specs.Prelude.{◌==◌}
 use Rattle.std.proofs.lemmas.Bool.{cases_eq}
-use Rattle.std.proofs.lemmas.Bool.Decides.{Decides-at, Decides-eqb}
 use Rattle.std.proofs.lemmas.List.Elements.{Contains-append_left, Contains-push, Contains-push_cases}
 use Rattle.emc_base.specs.Lists.{At}
 use Rattle.emc_base.proofs.Loops.{take_item}
+use Rattle.emc_base.proofs.Members.{contains_nil}
+use Rattle.emc_base.proofs.facts.Tests.{by_either, old_or_new}
+use Rattle.emc_base.proofs.facts.Orderings.{tells_number}
 use Rattle.member_groups.specs.mapping_asks.Adding.{Adds, Each, EachBelow, HasKey, Tells}
-
--- nothing stands in the empty list
-pub no_member : {X : Type 0} (x : X) → ¬ Contains [] x
-no_member x has = absurd (let within : has.0 < 0 = has.1 in omega arith)
 
 module _ {Y : Type 0} where
   -- one kind comes, and then another
@@ -100,7 +96,7 @@ module _ {Y : Type 0} where
   module _ {X : Type 0} (P : X → Y → Type 0) where
     -- by no item nothing is so
     pub each_none : (y : Y) → ¬ Each P [] y
-    each_none y some = no_member some.0 some.1
+    each_none y some = contains_nil some.0 some.1
 
     -- what is so by one of the items so far or by the next
     pub each_next : (xs : List X) (i : ℕ) (x : X) → At xs i x → Tells (λ y. Each P (take i xs) y ⊎ P x y) (Each P (take (i + 1) xs))
@@ -154,27 +150,14 @@ pub adds_key : {X : Type 0} (cmp : X → X → Ordering) → ((one other : X) �
 adds_key {X} cmp tells before after key updates = record {
   each = λ other.
       (let is : contains cmp after other ≡ cond (is_eq (cmp key other)) true (contains cmp before other) = updates.0 other in (
-        λ has. by (is_eq (cmp key other)) (contains cmp before other) (λ eq. sym ((tells key other).0 eq)) (sym is ∙ has),
-        λ some. is ∙ back (is_eq (cmp key other)) (contains cmp before other)
+        λ has. old_or_new (is_eq (cmp key other)) (contains cmp before other) (λ eq. sym ((tells key other).0 eq)) (sym is ∙ has),
+        λ some. is ∙ by_either (is_eq (cmp key other)) (contains cmp before other)
             (elim some [
               | inl old ↦ inl old
               | inr same ↦ inr ((tells key other).1 (sym same))
             ]),
       ));
 }
-  where
-    by : {P : Type 0} (eq old : Bool) → (eq ≡ true → P) → cond eq true old ≡ true → (old ≡ true) ⊎ P
-    by true old found is = inr (found refl)
-    by false old found is = inl is
-
-    back : (eq old : Bool) → (old ≡ true) ⊎ (eq ≡ true) → cond eq true old ≡ true
-    back true old either = refl
-    back false true either = refl
-    back false false either = ⊎_elim (λ is. is) (λ is. is) either
-
--- the order of numbers tells them apart
-pub tells_number : (one other : ℕ) → Decides (is_eq (nat_cmp one other)) (one ≡ other)
-tells_number one other = Decides-at (is_eq (nat_cmp one other)) (one == other) (sym (unsigned_ties one other)) (Decides-eqb one other)
 
 -- one number comes
 pub adds_number : (before after : BTreeSet ℕ) (number : ℕ) → Updates nat_cmp before after number true → Adds (λ k. k ≡ number) (HasKey before) (HasKey after)

@@ -10,12 +10,14 @@ use Rattle.std.proofs.lemmas.Bool.{both_ways, not-false, not-true}
 use Rattle.std.proofs.lemmas.Bool.Decides.{Decides-and, Decides-eqb}
 use Rattle.std.proofs.lemmas.List.Elements.{Contains-append_left, Contains-push, Contains-push_cases}
 use Rattle.std.proofs.lemmas.Option.{same_Some}
+use Rattle.emc_base.proofs.Members.{contains_nil}
+use Rattle.emc_base.proofs.facts.Orderings.{tells_number}
 use Rattle.member_groups.specs.contracts.mapping_asks.member.MemberIdPartialEq.TheImpl as member_equal
 use Rattle.member_groups.specs.declared.mapping_asks.member.MemberId.{MemberId}
 use Rattle.member_groups.specs.declared.mapping_asks.member.MemberId.TheVariants.{Column, Prop}
 use Rattle.member_groups.specs.mapping_asks.Adding.{HasKey, Tells}
 use Rattle.member_groups.specs.mapping_asks.Several.{StandsWithTwo}
-use Rattle.member_groups.proofs.mapping_asks.Adding.{adds_number, no_member, tells_number}
+use Rattle.member_groups.proofs.mapping_asks.Adding.{adds_number}
 
 -- whether two properties or columns are equal
 abbrev pub member_eq : MemberId → MemberId → Bool
@@ -45,8 +47,8 @@ pub record HoldsFirsts (entries : List (ℕ × MemberId)) (firsts : BTreeMap ℕ
 pub no_firsts : (firsts : BTreeMap ℕ MemberId) (several : BTreeSet ℕ) → ((k : ℕ) → get nat_cmp firsts k ≡ None) → ((k : ℕ) → ¬ HasKey several k) → HoldsFirsts [] firsts several
 no_firsts firsts several none never = record {
   known = λ k member is. absurd (let not : get nat_cmp firsts k ≡ None = none k in cc);
-  noted = λ k member has. absurd (no_member (k, member) has);
-  told = λ k. (λ has. absurd (never k has), λ two. absurd (no_member (k, two.0) two.2));
+  noted = λ k member has. absurd (contains_nil (k, member) has);
+  told = λ k. (λ has. absurd (never k has), λ two. absurd (contains_nil (k, two.0) two.2));
 }
 
 module _ (entries : List (ℕ × MemberId)) (firsts after : BTreeMap ℕ MemberId) (several : BTreeSet ℕ) (so_far : HoldsFirsts entries firsts several) (k : ℕ) (member first : MemberId)

@@ -1,19 +1,18 @@
 -- What comes to those that are known, one after another.
-use Rattle.std.proofs.Common.{◌≡◌, ◌⊎◌, ⊎_elim, ◌↔◌, inl, inr, ℕ, ◌+◌, ◌<◌, List, [], ◌∷◌, ◌++◌, Bool, true, false, cond, take, Contains, refl, sym, ap, subst, ◌∙◌, arith}
+use Rattle.std.proofs.Common.{◌≡◌, ◌⊎◌, ◌↔◌, inl, inr, ℕ, ◌+◌, List, [], ◌∷◌, ◌++◌, true, cond, take, refl, sym, ap, subst, ◌∙◌}
 use Rattle.std.specs.BTreeSet.{contains, Updates}
 use Rattle.std.specs.Ordering.{is_eq}
 use Rattle.std.proofs.lemmas.List.Elements.{Contains-append_left, Contains-push, Contains-push_cases}
 use Rattle.emc_base.specs.Lists.{At}
 use Rattle.emc_base.proofs.Loops.{take_item}
+use Rattle.emc_base.proofs.Members.{contains_nil}
+use Rattle.emc_base.proofs.facts.Tests.{by_either, old_or_new}
 use Rattle.round_trip.specs.soundness.mappings.Joined.{Member}
 use Rattle.member_groups.specs.declared.joined_groups.groups.Groups.{Groups}
 use Rattle.msl_checks.specs.barred_members.Added.{Adds, Each}
 use Rattle.member_groups.specs.joined_groups.Labels.{label_cmp, label_of}
 use Rattle.msl_checks.specs.declared.barred_members.barred.Barred.{Barred}
 use Rattle.member_groups.proofs.joined_groups.Labelled.{tells_label}
-
-no_member : {X : Type 0} (x : X) → ¬ Contains [] x
-no_member x has = absurd (let within : has.0 < 0 = has.1 in omega arith)
 
 -- one kind comes, and then another
 pub adds_both : (P Q : Member → Type 0) (before between after : Barred) → Adds P before between → Adds Q between after → Adds (λ member. P member ⊎ Q member) before after
@@ -69,7 +68,7 @@ adds_nothing P none barred = record {
 module _ {X : Type 0} (P : X → Member → Type 0) where
   -- by no item nothing comes
   pub adds_none : (barred : Barred) → Adds (Each P []) barred barred
-  adds_none barred = adds_nothing (Each P []) (λ member some. no_member some.0 some.1) barred
+  adds_none barred = adds_nothing (Each P []) (λ member some. contains_nil some.0 some.1) barred
 
   one_more : (xs : List X) (x : X) (member : Member) → (Each P xs member ⊎ P x member) ↔ Each P (xs ++ x ∷ []) member
   one_more xs x member = (
@@ -102,20 +101,11 @@ adds_one one before after same updates = record {
       (let mine = label_of before.groups one in
       let tells = tells_label mine label in
       let is : contains label_cmp after.labels label ≡ cond (is_eq (label_cmp mine label)) true (contains label_cmp before.labels label) = updates.0 label in (
-        λ has. by (is_eq (label_cmp mine label)) (contains label_cmp before.labels label) (λ eq. (one, refl, tells.0 eq)) (sym is ∙ has),
-        λ some. is ∙ back (is_eq (label_cmp mine label)) (contains label_cmp before.labels label)
+        λ has. old_or_new (is_eq (label_cmp mine label)) (contains label_cmp before.labels label) (λ eq. (one, refl, tells.0 eq)) (sym is ∙ has),
+        λ some. is ∙ by_either (is_eq (label_cmp mine label)) (contains label_cmp before.labels label)
             (elim some [
               | inl old ↦ inl old
               | inr some_one ↦ inr (tells.1 (ap (label_of before.groups) (sym some_one.1) ∙ some_one.2))
             ]),
       ));
 }
-  where
-    by : {P : Type 0} (eq old : Bool) → (eq ≡ true → P) → cond eq true old ≡ true → (old ≡ true) ⊎ P
-    by true old found is = inr (found refl)
-    by false old found is = inl is
-
-    back : (eq old : Bool) → (old ≡ true) ⊎ (eq ≡ true) → cond eq true old ≡ true
-    back true old either = refl
-    back false true either = refl
-    back false false either = ⊎_elim (λ is. is) (λ is. is) either

@@ -12,7 +12,8 @@ use Rattle.emc_base.specs.Lists.{At}
 use Rattle.emc_base.proofs.Loops.{take_item}
 use Rattle.emc_base.proofs.Mapped.{contains_map}
 use Rattle.emc_base.proofs.Numbered.{map_contains}
-use Rattle.groupings.proofs.name_places.Positions.{position_first, position_none, position_passes, position_push}
+use Rattle.emc_base.proofs.facts.Found.{position_passes}
+use Rattle.groupings.proofs.name_places.Positions.{position_first, position_none, position_push}
 use Rattle.msl_rules.specs.declared.msl_lists.raw.RawPair.{RawPair}
 use Rattle.msl_rules.specs.declared.msl_lists.raw.RawEndMapping.{RawEndMapping}
 use Rattle.msl_rules.specs.LinkRules.{IsWrittenAtEarlierEnd}

@@ -4,13 +4,13 @@ use Rattle.std.specs.List.{enumerate_from, flat_map}
 use Rattle.std.proofs.lemmas.List.{map-append}
 use Rattle.emc_base.specs.Lists.{At}
 use Rattle.emc_base.proofs.Loops.{take-enumerated}
+use Rattle.emc_base.proofs.facts.Images.{one_more_gives}
 use Rattle.json_form.specs.declared.pointer.Step.{Step}
 use Rattle.table_owners.specs.declared.table_writers.writer.Writer.{Writer}
 use Rattle.msl_rules.specs.OwnerRules.{PlacedWriter}
 use Rattle.msl_fragments.specs.msl_owners.AllWriters.{Adds, Holds}
 use Rattle.msl_fragments.specs.msl_owners.Spots.{place_of}
 use Rattle.msl_fragments.specs.declared.msl_owners.all_writers.AllWriters.{AllWriters}
-use Rattle.msl_fragments.proofs.msl_owners.Flat.{flat_map_item}
 
 -- what stands behind a list in its images
 joined : {X Y : Type 0} (f : X → Y) (before now after : List Y) (one two : List X) → now ≡ before ++ map f one → after ≡ now ++ map f two → after ≡ before ++ map f (one ++ two)
@@ -38,7 +38,7 @@ module _ {X : Type 0} (f : ℕ × X → List PlacedWriter) (items : List X) (bef
       → Adds before now (flat_map f (take i (enumerate_from 0 items))) → Adds now after (f (i, item)) → Adds before after (flat_map f (take (i + 1) (enumerate_from 0 items)))
   adds_item i item now after here one two =
       let passed = flat_map f (take i (enumerate_from 0 items)) in
-      adds_same before after (passed ++ f (i, item)) (flat_map f (take (i + 1) (enumerate_from 0 items))) (sym (flat_map_item f items i item here))
+      adds_same before after (passed ++ f (i, item)) (flat_map f (take (i + 1) (enumerate_from 0 items))) (sym (one_more_gives f items i item here))
       (adds_both before now after passed (f (i, item)) one two)
 
   -- what was added when all are passed

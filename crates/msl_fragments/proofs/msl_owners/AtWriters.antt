@@ -6,9 +6,11 @@ use Rattle.std.specs.Cmp.{nat_cmp_total, tied_itself}
 use Rattle.std.specs.Option.{option_and_then, option_map}
 use Rattle.std.specs.Ordering.{nat_cmp, ordering_then}
 use Rattle.std.proofs.lemmas.List.{length-map}
-use Rattle.std.proofs.lemmas.Option.{slice_get-map, slice_get_within}
+use Rattle.std.proofs.lemmas.Option.{slice_get_within}
 use Rattle.emc_base.specs.Lists.{At}
 use Rattle.emc_base.proofs.Lists.{item_at}
+use Rattle.emc_base.proofs.facts.Orderings.{not_greater}
+use Rattle.emc_base.proofs.Joined.{at_map}
 use Rattle.json_form.specs.declared.pointer.Step.{Step}
 use Rattle.json_form.specs.Pointers.{steps_cmp}
 use Rattle.groupings.specs.least_fault.Least.{IsLeast}
@@ -18,17 +20,12 @@ use Rattle.layouts.specs.Faults.{fault_cmp}
 use Rattle.layouts.specs.Rules.{rule_number}
 use Rattle.layouts.proofs.Faults.{same_fault}
 use Rattle.layouts.specs.rule_places.Places.{IsAt}
-use Rattle.layouts.proofs.rule_places.Rules.{not_greater}
 use Rattle.table_owners.specs.declared.table_writers.writer.Writer.{Writer}
 use Rattle.msl_rules.specs.OwnerRules.{PlacedWriter}
 use Rattle.msl_fragments.specs.msl_owners.AllWriters.{Holds, fault_at_writer}
 use Rattle.msl_fragments.specs.msl_owners.Spots.{place_of}
 use Rattle.msl_fragments.specs.declared.msl_owners.all_writers.AllWriters.{AllWriters}
 use Rattle.msl_fragments.proofs.msl_owners.Order.{Rises, Upto, rises_at}
-
--- the image of what stands at a place
-pub at_image : {X Y : Type 0} (f : X → Y) (xs : List X) (i : ℕ) (x : X) → At xs i x → At (map f xs) i (f x)
-at_image f xs i x here = slice_get-map f xs i ∙ ap (option_map f) here
 
 -- a writer stands at a place where an item does
 pub written_at : (writers : List PlacedWriter) (k : ℕ) (writer : Writer) → At (map (λ one. one.writer) writers) k writer → k < length writers
@@ -61,7 +58,7 @@ module _ (rule : Rule) (Breaks : List Writer → ℕ → Type 0) (writers : List
         first = item_at writers k (within k is.0)
 
         told : option_map at (slice_get places k) ≡ Some (at first.0.place)
-        told = ap (λ (ps : List (List Step)). option_map at (slice_get ps k)) are ∙ ap (option_map at) (at_image (λ (one : PlacedWriter). one.place) writers k first.0 first.1)
+        told = ap (λ (ps : List (List Step)). option_map at (slice_get ps k)) are ∙ ap (option_map at) (at_map (λ (one : PlacedWriter). one.place) writers k first.0 first.1)
 
         before : (fault : Fault) → BreaksAt fault → fault_cmp (at first.0.place) fault ≢ Greater
         before fault some =

@@ -1,5 +1,5 @@
 -- The order of places: that of the items of a list, and of lists of lists, whose places rise.
-use Rattle.std.proofs.Common.{◌≡◌, ◌≢◌, ⊎_elim, ℕ, suc, ◌+◌, ◌<◌, ◌≤◌, List, [], ◌∷◌, ◌++◌, All, AllPairs, get_or, sym, subst, ◌∙◌, arith}
+use Rattle.std.proofs.Common.{◌≡◌, ◌≢◌, ⊎_elim, ℕ, suc, ◌+◌, ◌<◌, ◌≤◌, List, [], ◌∷◌, ◌++◌, All, AllPairs, get_or, sym, subst, arith}
 use Rattle.std.specs.declared.cmp.Ordering.{Ordering}
 use Rattle.std.specs.declared.cmp.Ordering.TheVariants.{Less, Equal, Greater}
 use Rattle.std.specs.Cmp.{nat_cmp_is, tied_itself}
@@ -11,6 +11,7 @@ use Rattle.std.proofs.lemmas.List.Kept.{AllPairs-cons}
 use Rattle.std.proofs.lemmas.Option.{get_or_from_slice_get, slice_get_within}
 use Rattle.emc_base.specs.Lists.{At}
 use Rattle.emc_base.proofs.Lists.{at_once}
+use Rattle.emc_base.proofs.facts.Orderings.{equal_upto}
 use Rattle.json_form.specs.declared.pointer.Step.{Step}
 use Rattle.json_form.specs.declared.pointer.Step.TheVariants.{Item}
 use Rattle.json_form.specs.PlaceOrder.{step_cmp_total, steps_cmp_total}
@@ -19,10 +20,6 @@ use Rattle.json_form.specs.Pointers.{steps_cmp}
 -- a place doesn't come after another
 abbrev pub Upto : List Step → List Step → Type 0
 Upto one other = steps_cmp one other ≢ Greater
-
--- an order that is equal
-equal_upto : (order : Ordering) → order ≡ Equal → order ≢ Greater
-equal_upto order is = λ greater. let both : Equal ≡ Greater = sym is ∙ greater in absurd cc
 
 -- nor after itself
 pub upto_itself : (place : List Step) → Upto place place

@@ -1,16 +1,16 @@
 -- A type of a sound model is derived from another, or not: a climb over base types ends.
-use Rattle.std.proofs.Common.{◌≡◌, ⊎_elim, inl, inr, ℕ, ◌<◌, length, Option, Some, option_map, refl, sym, ap, subst, ◌∙◌}
-use Rattle.std.specs.Option.{option_and_then}
+use Rattle.std.proofs.Common.{◌≡◌, ⊎_elim, inl, inr, ℕ, ◌<◌, length, Option, refl, sym, subst}
 use Rattle.graphs.specs.base_chains.Chains.{IsAncestor, IsUpFrom, direct, further}
 use Rattle.graphs.proofs.base_chains.Chains.{above_above}
 use Rattle.edm_types.specs.Forest.{type_numbered}
 use Rattle.edm_types.specs.IsA.{same, base, chain}
-use Rattle.round_trip.specs.Words.{EntityModel, EntityType, HasBase, IsA, TypeId}
+use Rattle.round_trip.specs.Words.{EntityModel, IsA, TypeId}
 use Rattle.round_trip.specs.soundness.models.Models.{IsSoundModel}
 use Rattle.schema_names.specs.Inherited.{base_place}
 use Rattle.schema_names.proofs.Inherits.{has_base, sound_inherits}
 use Rattle.graphs.proofs.base_chains.Settled.{up_or_not}
 use Rattle.emc_base.proofs.Stable.{settled}
+use Rattle.schema_names.proofs.Places.{base_here}
 
 -- up from what is up
 up_up : (above : ℕ → Option ℕ) (i j k : ℕ) → IsUpFrom above i j → IsUpFrom above j k → IsUpFrom above i k
@@ -23,16 +23,10 @@ up_up above i j k first second = ⊎_elim
     first
 
 module _ (model : EntityModel) where
-  -- a base type has its place
-  base_here : (t u : TypeId) → HasBase model t u → base_place model t.index ≡ Some u.index
-  base_here t u has =
-      ap (λ (found : Option EntityType). option_map (λ (v : TypeId). v.index) (option_and_then (λ type. type.base) found)) has.1
-      ∙ ap (λ (found : Option TypeId). option_map (λ (v : TypeId). v.index) found) has.2
-
   -- what a type is derived from stands up from it
   stands_up : (t u : TypeId) → IsA model t u → IsUpFrom (base_place model) t.index u.index
   stands_up t u (same _) = inl refl
-  stands_up t u (base _ _ has) = inr (direct t.index u.index (base_here t u has))
+  stands_up t u (base _ _ has) = inr (direct t.index u.index (base_here model t u has))
   stands_up t u (chain _ v _ first second) = up_up (base_place model) t.index v.index u.index (stands_up t v first) (stands_up v u second)
 
   -- and back

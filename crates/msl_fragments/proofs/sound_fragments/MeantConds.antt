@@ -14,13 +14,13 @@ use Rattle.edm_types.specs.declared.mapping.Test.TheVariants.{Equals}
 use Rattle.round_trip.specs.Words.{Cond, CondOn, EntityModel, Kind, InDomain, PropId, Schema, StoreModel, Test, Value}
 use Rattle.round_trip.specs.soundness.mappings.Conditions.{AskOf, AskOfNoKeyColumn, AskOfNoKeyProp, ComparesInDomain, kind_of}
 use Rattle.round_trip.specs.soundness.mappings.Joined.{ComparesNoBarred}
-use Rattle.round_trip.specs.soundness.Kinds.{IsBinary}
 use Rattle.round_trip.specs.soundness.Lookups.{set_key}
 use Rattle.round_trip.specs.soundness.mappings.Mappings.{IsCondId}
 use Rattle.msl_rules.specs.condition_values.Spelled.{IsSpelled, spelled}
 use Rattle.emc_base.proofs.FoundItems.{and_then_some, member_of, map_some}
 use Rattle.layouts.proofs.rule_places.FaultPlaces.{fault_at, in_list}
 use Rattle.emc_base.proofs.Joined.{in_found}
+use Rattle.emc_base.proofs.facts.Found.{where_found}
 use Rattle.schema_names.specs.SchemaNames.{column_named}
 use Rattle.msl_rules.specs.declared.msl_lists.raw.RawCond.{RawCond}
 use Rattle.msl_rules.specs.declared.msl_lists.raw.RawMapping.{RawMapping}
@@ -28,9 +28,10 @@ use Rattle.msl_rules.specs.Found.{col_numbered, cond_in, conds_in, kind_on, name
 use Rattle.msl_rules.specs.FragmentRules.{IsCondFault, IsNoValue, IsOfKey}
 use Rattle.msl_rules.specs.KeepsMapping.{KeepsMappingRules}
 use Rattle.msl_rules.specs.MappingMeaning.{schema_in}
+use Rattle.msl_rules.proofs.condition_values.NotBinary.{not_binary}
 use Rattle.msl_fragments.proofs.sound_fragments.NamesFound.{col_inside, prop_inside}
 use Rattle.msl_fragments.proofs.sound_fragments.StableKinds.{lies}
-use Rattle.msl_fragments.proofs.sound_fragments.Written.{FoundFragment, no_fragment_fault, where_found}
+use Rattle.msl_fragments.proofs.sound_fragments.Written.{FoundFragment, no_fragment_fault}
 
 -- a value is compared with: then a text gives it for the kind
 pub compared : (known : Option Kind) (value : Option (List ℕ)) (is_null : Option Bool) (constant : Value) → test_of known value is_null ≡ Some (Equals constant)
@@ -43,11 +44,6 @@ compared known (Some text) None constant is =
 compared known None (Some flag) constant is = absurd cc
 compared known (Some text) (Some flag) constant is = absurd cc
 compared known None None constant is = absurd cc
-
--- no text gives a value for a binary kind
-pub not_binary : (k : Kind) (text : List ℕ) (constant : Value) → spelled k text ≡ Some constant → ¬ IsBinary k
-not_binary (kind.Binary bound) text constant is binary = absurd cc
-not_binary k text constant is binary = absurd binary
 
 module _ (model : EntityModel) (store : StoreModel) (named : List ℕ → Option PropId) (t : ℕ) where
   -- a condition on a property names the property

@@ -17,6 +17,7 @@ use Rattle.groupings.proofs.name_places.FirstPlaces.{names_apart}
 use Rattle.emc_base.proofs.FoundItems.{and_then_some, pairs_found, map_some}
 use Rattle.layouts.proofs.rule_places.FaultPlaces.{fault_at, in_list}
 use Rattle.emc_base.proofs.Joined.{in_found}
+use Rattle.emc_base.proofs.facts.Found.{where_found}
 use Rattle.schema_names.specs.SchemaNames.{column_named}
 use Rattle.msl_rules.specs.declared.msl_lists.raw.RawMapping.{RawMapping}
 use Rattle.msl_rules.specs.declared.msl_lists.raw.RawPair.{RawPair}
@@ -26,7 +27,7 @@ use Rattle.msl_rules.specs.KeepsMapping.{KeepsMappingRules}
 use Rattle.msl_rules.specs.MappingMeaning.{schema_in}
 use Rattle.msl_fragments.proofs.sound_fragments.NamesFound.{col_inside, one_col_name, one_prop_name, prop_inside}
 use Rattle.msl_fragments.proofs.sound_fragments.StableKinds.{corresponds}
-use Rattle.msl_fragments.proofs.sound_fragments.Written.{FoundFragment, no_fragment_fault, where_found}
+use Rattle.msl_fragments.proofs.sound_fragments.Written.{FoundFragment, no_fragment_fault}
 
 -- a pair means the property and the column that its names stand for
 pub record MeansPair (store : StoreModel) (named : List ℕ → Option PropId) (t : ℕ) (pair : RawPair) (found : Pair) : Type 0 where

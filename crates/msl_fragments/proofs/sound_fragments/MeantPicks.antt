@@ -17,6 +17,7 @@ use Rattle.groupings.proofs.name_places.FirstPlaces.{first_has}
 use Rattle.layouts.proofs.rule_places.FaultPlaces.{fault_at, in_list}
 use Rattle.emc_base.proofs.FoundItems.{some_member, map_some}
 use Rattle.emc_base.proofs.Joined.{in_found}
+use Rattle.emc_base.proofs.facts.Found.{where_found}
 use Rattle.schema_names.specs.SchemaNames.{prop_named, type_named}
 use Rattle.msl_rules.specs.declared.msl_lists.raw.RawCond.{RawCond}
 use Rattle.msl_rules.specs.declared.msl_lists.raw.RawMapping.{RawMapping}
@@ -28,7 +29,7 @@ use Rattle.msl_rules.specs.NameRules.{IsUnsharedName, NamesNoShared, PicksOther}
 use Rattle.msl_fragments.proofs.sound_fragments.DerivedTypes.{is_derived}
 use Rattle.msl_fragments.proofs.sound_fragments.NamesFound.{of_first, prop_of_type, type_inside}
 use Rattle.msl_fragments.proofs.sound_fragments.StableFacts.{has_prop}
-use Rattle.msl_fragments.proofs.sound_fragments.Written.{FoundFragment, no_shared_fault, picks_of_set, where_found}
+use Rattle.msl_fragments.proofs.sound_fragments.Written.{FoundFragment, no_shared_fault, picks_of_set}
 
 -- what an item of a TypeName means: it names a type
 pub record MeansPick (model : EntityModel) (picks : List RawPick) (found : Pick) : Type 0 where

@@ -1,33 +1,21 @@
 -- What stands at the places that names of types, properties and columns stand for. One property and one column has one name.
-use Rattle.std.proofs.Common.{◌≡◌, ℕ, ◌<◌, Bool, true, false, cond, List, [], ◌∷◌, find, length, slice_get, Contains, Option, Some, None, refl, sym, ap, subst, ◌∙◌}
+use Rattle.std.proofs.Common.{◌≡◌, ℕ, ◌<◌, Bool, true, false, List, [], length, slice_get, Contains, Option, Some, None, refl, sym, ap, subst, ◌∙◌}
 use Rattle.std.specs.Option.{option_and_then, option_map_or}
 use Rattle.std.specs.Str.{bytes_eq}
-use Rattle.std.proofs.lemmas.Option.{same_Some, slice_get_within}
+use Rattle.std.proofs.lemmas.Option.{slice_get_within}
 use Rattle.std.proofs.lemmas.Slice.Eq.{bytes_eq-Decides}
 use Rattle.emc_base.specs.Lists.{At}
 use Rattle.emc_base.proofs.Lists.{at_once}
-use Rattle.emc_base.proofs.Members.{contains_head, contains_tail}
 use Rattle.edm_types.specs.Forest.{type_numbered}
 use Rattle.round_trip.specs.Words.{Column, EntityModel, Prop, PropId, StoreModel, Table, props_of}
 use Rattle.round_trip.specs.soundness.Lookups.{columns_of}
 use Rattle.groupings.specs.name_places.GivenNames.{first_place}
 use Rattle.groupings.proofs.name_places.FirstPlaces.{first_has}
 use Rattle.emc_base.proofs.FoundItems.{and_then_some}
+use Rattle.emc_base.proofs.facts.Found.{found_passes}
 use Rattle.schema_names.specs.SchemaNames.{column_named, has_name, local_name, prop_named, type_named}
 use Rattle.msl_rules.specs.declared.msl_lists.raw.RawPick.{RawPick}
 use Rattle.msl_rules.specs.Found.{prop_of_picks, table_numbered}
-
--- what is found stands in the list and passes
-pub found_passes : {X : Type 0} (test : X → Bool) (xs : List X) (x : X) → find test xs ≡ Some x → Contains xs x × (test x ≡ true)
-found_passes test [] x is = absurd cc
-found_passes {X} test (y ∷ xs) x is = by (test y) refl is (found_passes test xs x)
-  where
-    by : (passes : Bool) → test y ≡ passes → cond passes (Some y) (find test xs) ≡ Some x → (find test xs ≡ Some x → Contains xs x × (test x ≡ true))
-        → Contains (y ∷ xs) x × (test x ≡ true)
-    by true passes first rest =
-        let one : y ≡ x = same_Some y x first in
-        (subst (λ (z : X). Contains (y ∷ xs) z) one (contains_head y xs), ap test (sym one) ∙ passes)
-    by false fails later rest = let found = rest later in (contains_tail y xs x found.0, found.1)
 
 -- what passes where there is something
 passes_some : {X : Type 0} (test : X → Bool) (found : Option X) → option_map_or test found false ≡ true → (x : X) × (found ≡ Some x) × (test x ≡ true)

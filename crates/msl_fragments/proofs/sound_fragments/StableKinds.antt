@@ -1,15 +1,10 @@
 -- Kinds that correspond and values in domains: that they do holds where it can't but hold.
-use Rattle.std.proofs.Common.{◌≡◌, ◌≢◌, ⊎_elim, ℕ, zero, suc, ◌<◌, ◌≤◌, ℤ, pos, negsuc, true, List, length, get_or, Option, Some, None, refl, sym, ap, subst, ◌∙◌, arith}
-use Rattle.std.specs.Prelude.{◌<ℤ◌, ◌≤ℤ◌}
+use Rattle.std.proofs.Common.{◌≡◌, ◌≢◌, ⊎_elim, ℕ, zero, suc, ◌<◌, pos, negsuc, Option, Some, None, refl, sym, ap, subst, ◌∙◌, arith}
 use Rattle.std.specs.Ordering.{int_eq}
 use Rattle.std.specs.Set.{is_member}
-use Rattle.std.specs.Str.{IsUtf8, chars, is_utf8}
-use Rattle.std.proofs.lemmas.Bool.{cases_eq, cases_lt}
+use Rattle.std.proofs.lemmas.Bool.{cases_eq}
 use Rattle.std.proofs.lemmas.Bool.Decides.{Decides-int_eq}
-use Rattle.std.proofs.lemmas.Int.{by_lt_z, ints}
 use Rattle.std.proofs.lemmas.Map.Made.{is_member-Decides}
-use Rattle.std.proofs.lemmas.Str.{IsUtf8-from_is_utf8, chars-encodes, is_utf8-from_IsUtf8}
-use Rattle.emc_base.specs.Domain.{IsBetween, IsByteList, IsText, IsWithin}
 use Rattle.emc_base.specs.declared.value.Kind.TheVariants as kind
 use Rattle.emc_base.specs.declared.value.Under.{Under}
 use Rattle.emc_base.specs.declared.value.Under.TheVariants as under
@@ -17,6 +12,7 @@ use Rattle.emc_base.specs.declared.value.Value.TheVariants as value
 use Rattle.round_trip.specs.Words.{InDomain, Kind, Value}
 use Rattle.round_trip.specs.soundness.Kinds.{Corresponds, IsNoSmaller, under_kind}
 use Rattle.emc_base.proofs.Stable.{stable}
+use Rattle.emc_base.proofs.facts.Domains.{between_stable, bytes_stable, text_stable, within_stable}
 
 -- a number for each kind without parts, and larger ones for the others
 abbrev number_of : Kind → ℕ
@@ -56,16 +52,11 @@ plain one other small never = ⊎_elim
     (λ (differ : number_of one ≢ number_of other). absurd (never (λ is. differ (ap number_of is))))
     (cases_eq (number_of one) (number_of other))
 
--- so many are within a bound
-within : (bound : Option ℕ) (count : ℕ) → ¬ (¬ IsWithin bound count) → IsWithin bound count
-within None count never = tt
-within (Some most) count never = ⊎_elim (λ (more : most < count). absurd (never (λ few. let upto : count ≤ most = few in omega arith))) (λ (few : count ≤ most). few) (cases_lt most count)
-
 -- a bound is no smaller than another
 no_smaller : (first second : Option ℕ) → ¬ (¬ IsNoSmaller first second) → IsNoSmaller first second
 no_smaller first None never = tt
 no_smaller None (Some second) never = absurd (never (λ no. no))
-no_smaller (Some first) (Some second) never = within (Some second) first never
+no_smaller (Some first) (Some second) never = within_stable (Some second) first never
 
 -- V29
 pub corresponds : (property column : Kind) → ¬ (¬ Corresponds property column) → Corresponds property column
@@ -86,46 +77,14 @@ corresponds (kind.Enum enumeration) column never = sym (plain (under_kind enumer
     small under.Int32 = omega arith
     small under.Int64 = omega arith
 
--- a number lies between two others
-no_less : (low high : ℤ) → ¬ (¬ (low ≤ℤ high)) → low ≤ℤ high
-no_less low high never = by_lt_z high low (λ (less : high <ℤ low). absurd (never (λ fine. let upto : low ≤ℤ high = fine in absurd (omega (arith, ints))))) (λ (fine : low ≤ℤ high). fine)
-
-between : (low high number : ℤ) → ¬ (¬ IsBetween low high number) → IsBetween low high number
-between low high number never = (no_less low number (λ no. never (λ is. no is.0)), no_less number high (λ no. never (λ is. no is.1)))
-
--- bytes are a text
-a_text : (bound : Option ℕ) (bytes : List ℕ) → ¬ (¬ IsText bound bytes) → IsText bound bytes
-a_text bound bytes never =
-    let is : is_utf8 bytes ≡ true = stable (is_utf8 bytes) (λ is. is, λ is. is) (λ no. never (λ text. no (is_utf8-from_IsUtf8 bytes (text.characters, (text.scalar, text.spelled))))) in
-    let utf8 = IsUtf8-from_is_utf8 bytes is in
-    record {
-      characters = utf8.0;
-      scalar = utf8.1.0;
-      spelled = utf8.1.1;
-      within = within bound (length utf8.0) (λ no. never (λ text. no (one_spelling text utf8)));
-    }
-  where
-    one_spelling : (text : IsText bound bytes) (utf8 : IsUtf8 bytes) → IsWithin bound (length utf8.0)
-    one_spelling text utf8 =
-        let same : text.characters ≡ utf8.0 = sym (chars-encodes text.characters text.scalar) ∙ ap chars (text.spelled ∙ sym utf8.1.1) ∙ chars-encodes utf8.0 utf8.1.0 in
-        let P : List ℕ → Type 0 = λ characters. IsWithin bound (length characters) in
-        subst P same text.within
-
--- bytes are a byte list
-byte_list : (bound : Option ℕ) (bytes : List ℕ) → ¬ (¬ IsByteList bound bytes) → IsByteList bound bytes
-byte_list bound bytes never = record {
-  small = λ k d inside. ⊎_elim (λ (less : get_or bytes k d < 256). less) (λ (more : 256 ≤ get_or bytes k d). absurd (never (λ list. let less : get_or bytes k d < 256 = list.small k d inside in omega arith))) (cases_lt (get_or bytes k d) 256);
-  within = within bound (length bytes) (λ no. never (λ list. no list.within));
-}
-
 -- a value lies in a domain
 pub lies : (v : Value) (k : Kind) → ¬ (¬ InDomain v k) → InDomain v k
-lies (value.Whole number) kind.Byte never = between (pos 0) (pos 255) number never
-lies (value.Whole number) kind.Int16 never = between (negsuc 32767) (pos 32767) number never
-lies (value.Whole number) kind.Int32 never = between (negsuc 2147483647) (pos 2147483647) number never
-lies (value.Whole number) kind.Int64 never = between (negsuc 9223372036854775807) (pos 9223372036854775807) number never
+lies (value.Whole number) kind.Byte never = between_stable (pos 0) (pos 255) number never
+lies (value.Whole number) kind.Int16 never = between_stable (negsuc 32767) (pos 32767) number never
+lies (value.Whole number) kind.Int32 never = between_stable (negsuc 2147483647) (pos 2147483647) number never
+lies (value.Whole number) kind.Int64 never = between_stable (negsuc 9223372036854775807) (pos 9223372036854775807) number never
 lies (value.Whole number) (kind.Enum enumeration) never = stable (is_member int_eq enumeration.members number) (is_member-Decides Decides-int_eq enumeration.members number) never
 lies (value.Flag flag) kind.Boolean never = tt
-lies (value.Text text) (kind.Text bound) never = a_text bound text never
-lies (value.Bytes bytes) (kind.Binary bound) never = byte_list bound bytes never
+lies (value.Text text) (kind.Text bound) never = text_stable bound text never
+lies (value.Bytes bytes) (kind.Binary bound) never = bytes_stable bound bytes never
 lies v k never = absurd (never (λ no. no))

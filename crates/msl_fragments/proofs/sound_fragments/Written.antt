@@ -1,6 +1,6 @@
 -- Each fragment of entities that a document means is what one of its MappingFragments means whose set and table are found; and what is wrong with
 -- such a MappingFragment is wrong with the document.
-use Rattle.std.proofs.Common.{◌≡◌, inl, inr, ℕ, List, [], ◌∷◌, Contains, MatchOption, Option, Some, codes, option_map, refl, sym, ap, subst, ◌∙◌}
+use Rattle.std.proofs.Common.{◌≡◌, inl, inr, ℕ, List, [], ◌∷◌, Contains, Some, codes, option_map, refl, ap, ◌∙◌}
 use Rattle.std.specs.List.{Any, enumerate_from}
 use Rattle.emc_base.specs.Lists.{At}
 use Rattle.emc_base.proofs.Numbered.{enumerated_at}
@@ -16,6 +16,7 @@ use Rattle.round_trip.specs.Words.{EntityModel, EntitySet, Fragment, StoreModel}
 use Rattle.emc_base.proofs.FoundItems.{and_then_some, map_some}
 use Rattle.layouts.proofs.rule_places.FaultPlaces.{fault_at, in_list}
 use Rattle.emc_base.proofs.Joined.{in_flat_map, in_found}
+use Rattle.emc_base.proofs.facts.Found.{where_found}
 use Rattle.schema_names.specs.SchemaNames.{set_named, table_named}
 use Rattle.msl_rules.specs.declared.msl_lists.raw.RawFragment.{RawFragment}
 use Rattle.msl_rules.specs.declared.msl_lists.raw.RawMapping.{RawMapping}
@@ -42,10 +43,6 @@ pub record FoundFragment (model : EntityModel) (store : StoreModel) (raw : RawMa
   pub set_found : set_named model set.name ≡ Some s
   pub t : ℕ
   pub table_found : table_named store written.table ≡ Some t
-
--- what is wrong where something is found
-pub where_found : {X : Type 0} (P : X → Type 0) (found : Option X) (x : X) → found ≡ Some x → P x → MatchOption found ⊥ P
-where_found {X} P found x is holds = subst (λ (o : Option X). MatchOption o ⊥ P) (sym is) holds
 
 -- what is wrong in the container
 in_container : (P : Fault → Type 0) (rule : Rule) (rest : List Step) → P (fault_at rule rest) → InContainer P (fault_at rule (Member (codes "EntityContainerMapping") ∷ rest))

@@ -20,6 +20,7 @@ use Rattle.groupings.proofs.name_places.FirstPlaces.{names_apart}
 use Rattle.schema_names.specs.SchemaNames.{column_named, prop_named}
 use Rattle.layouts.proofs.rule_places.FaultPlaces.{fault_at, in_list}
 use Rattle.emc_base.proofs.Joined.{apart-append, in_found}
+use Rattle.schema_names.proofs.Places.{same_column_name}
 use Rattle.msl_rules.specs.declared.msl_lists.raw.RawEndMapping.{RawEndMapping}
 use Rattle.msl_rules.specs.declared.msl_lists.raw.RawMapping.{RawMapping}
 use Rattle.msl_rules.specs.declared.msl_lists.raw.RawPair.{RawPair}
@@ -32,7 +33,7 @@ use Rattle.msl_fragments.proofs.sound_links.FoundPairs.{cols_apart, pair_parts, 
 use Rattle.msl_fragments.proofs.sound_links.KeptLinks.{none_of_end, role_found, roles_apart}
 use Rattle.msl_fragments.proofs.sound_links.LinkEnds.{IsMappedEnd, first_mapped, second_mapped}
 use Rattle.msl_fragments.proofs.sound_links.MeantLinks.{IsMeantLink, meant_by}
-use Rattle.msl_fragments.proofs.sound_links.OneName.{named_prop, one_column, one_prop}
+use Rattle.msl_fragments.proofs.sound_links.OneName.{named_prop, one_prop}
 use Rattle.msl_fragments.proofs.sound_links.Placed.{just_stable}
 use Rattle.msl_fragments.proofs.sound_links.Stable.{corresponds_stable}
 
@@ -162,7 +163,7 @@ module _ (model : EntityModel) (store : StoreModel) (raw : RawMapping) (keeps : 
         let first = col_named it.assoc.first first_end one has in
         let next = col_named it.assoc.second second_end other there in
         cols_differ first.0 next.0 first.1 next.1
-        (one_column store it.table first.0.col next.0.col other.index (first.2 ∙ ap (λ (col : ColId). Some col.index) same) next.2)))));
+        (same_column_name store it.table first.0.col next.0.col other.index (first.2 ∙ ap (λ (col : ColId). Some col.index) same) next.2)))));
   }
 
   -- the same of both ends

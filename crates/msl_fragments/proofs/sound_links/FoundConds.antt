@@ -4,7 +4,6 @@ use Rattle.std.proofs.lemmas.Option.{same_Some}
 use Rattle.msl_rules.specs.condition_values.Spelled.{IsSpelled, spelled}
 use Rattle.edm_types.specs.declared.mapping.CondOn.TheVariants as on
 use Rattle.edm_types.specs.declared.mapping.Test.TheVariants.{Equals}
-use Rattle.emc_base.specs.declared.value.Kind.TheVariants as kinds
 use Rattle.round_trip.specs.Words.{Cond, CondOn, InDomain, Kind, PropId, Schema, Test, Value}
 use Rattle.round_trip.specs.soundness.mappings.Conditions.{ComparesInDomain, kind_of}
 use Rattle.round_trip.specs.soundness.Kinds.{IsBinary}
@@ -12,6 +11,7 @@ use Rattle.emc_base.proofs.FoundItems.{and_then_some, map_some}
 use Rattle.msl_rules.specs.declared.msl_lists.raw.RawCond.{RawCond}
 use Rattle.msl_rules.specs.Found.{cond_in, kind_on, on_in, table_numbered, test_of}
 use Rattle.msl_rules.specs.FragmentRules.{IsNoValue}
+use Rattle.msl_rules.proofs.condition_values.NotBinary.{not_binary}
 use Rattle.msl_fragments.proofs.sound_links.Stable.{domain_stable}
 
 -- a condition on a value compares with what its text gives
@@ -31,17 +31,6 @@ value_test known (Some text) None constant is =
 value_test known (Some text) (Some flag) constant is = absurd cc
 value_test known None None constant is = absurd cc
 value_test known None (Some flag) constant is = absurd cc
-
--- what a text spells is of no list of bytes
-not_binary : (k : Kind) (text : List ℕ) (constant : Value) → spelled k text ≡ Some constant → ¬ IsBinary k
-not_binary (kinds.Binary bound) text constant is = absurd cc
-not_binary kinds.Byte text constant is = λ no. no
-not_binary kinds.Int16 text constant is = λ no. no
-not_binary kinds.Int32 text constant is = λ no. no
-not_binary kinds.Int64 text constant is = λ no. no
-not_binary kinds.Boolean text constant is = λ no. no
-not_binary (kinds.Text bound) text constant is = λ no. no
-not_binary (kinds.Enum enumeration) text constant is = λ no. no
 
 module _ (schema : Schema) (named : List ℕ → Option PropId) (t : ℕ) where
   -- what a condition is on, and what it asks

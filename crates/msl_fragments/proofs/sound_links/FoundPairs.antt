@@ -13,9 +13,10 @@ use Rattle.groupings.proofs.name_places.FirstPlaces.{first_has}
 use Rattle.schema_names.specs.SchemaNames.{column_named}
 use Rattle.emc_base.proofs.FoundItems.{and_then_some, pairs_found, map_some}
 use Rattle.emc_base.proofs.Joined.{in_found}
+use Rattle.schema_names.proofs.Places.{same_column_name}
 use Rattle.msl_rules.specs.declared.msl_lists.raw.RawPair.{RawPair}
 use Rattle.msl_rules.specs.Found.{col_numbered, pair_in, pairs_in, table_numbered}
-use Rattle.msl_fragments.proofs.sound_links.OneName.{named_column, one_column}
+use Rattle.msl_fragments.proofs.sound_links.OneName.{named_column}
 
 -- a column that is found stands in its table
 pub column_inside : (store : StoreModel) (t : ℕ) (name : List ℕ) (c : ℕ) → column_named store t name ≡ Some c → c < length (columns_of store (table_numbered t))
@@ -58,7 +59,7 @@ module _ (schema : Schema) (named : List ℕ → Option PropId) (t : ℕ) where
   pub one_col : (one other : RawPair) (pair next : Pair) → pair_in schema.model schema.store named t one ≡ Some pair
       → column_named schema.store t other.col ≡ Some next.col.index → pair.col ≡ next.col → one.col ≡ other.col
   one_col one other pair next first second same =
-      one_column schema.store t one.col other.col next.col.index ((pair_parts one pair first).1 ∙ ap (λ (col : ColId). Some col.index) same) second
+      same_column_name schema.store t one.col other.col next.col.index ((pair_parts one pair first).1 ∙ ap (λ (col : ColId). Some col.index) same) second
 
   -- and so it is of columns
   pub cols_apart : (raws : List RawPair) → AllPairs (λ one other. one.col ≢ other.col) raws → AreApart (map (λ pair. pair.col) (pairs_in schema.model schema.store named t raws))

@@ -65,11 +65,3 @@ named_column store t name c = by (slice_get store.tables t) refl
         → (table : Table) × At store.tables t table × (first_place (λ col. col.name) table.cols name ≡ Some c)
     by None none is = absurd cc
     by (Some table) here is = (table, here, is)
-
--- two names of one column
-pub one_column : (store : StoreModel) (t : ℕ) (one other : List ℕ) (c : ℕ) → column_named store t one ≡ Some c → column_named store t other ≡ Some c → one ≡ other
-one_column store t one other c first second =
-    let a = named_column store t one c first in
-    let b = named_column store t other c second in
-    let P : Table → Type 0 = λ table. first_place (λ col. col.name) table.cols other ≡ Some c in
-    one_place (λ col. col.name) a.0.cols one other c a.2 (subst P (at_once store.tables t b.0 a.0 b.1 a.1) b.2)

@@ -1,16 +1,13 @@
 -- Facts on ids, kinds and values that can be tested: they hold where they can't but hold.
-use Rattle.std.proofs.Common.{◌≡◌, ◌≢◌, ◌⊎◌, ⊎_elim, inl, inr, ℕ, ◌<◌, ◌≤◌, ◌==◌, ℤ, pos, negsuc, ◌≤ℤ◌, List, [], ◌∷◌, length, get_or, int_eq, IsTrue, encode_utf8_all, All, Contains, Option, Some, None, refl, sym, ap, subst, ◌∙◌, arith}
+use Rattle.std.proofs.Common.{◌≡◌, ◌≢◌, ◌⊎◌, ⊎_elim, inl, inr, ℕ, ◌<◌, ◌≤◌, ◌==◌, pos, negsuc, List, [], ◌∷◌, get_or, int_eq, IsTrue, encode_utf8_all, All, Contains, Option, Some, None, refl, sym, ap, subst, ◌∙◌, arith}
 use Rattle.std.specs.Bool.{Decides}
-use Rattle.std.specs.Int.Signed.{clash_ℤ}
 use Rattle.std.specs.Set.{is_member}
-use Rattle.std.specs.Str.{IsUtf8, all_scalars, chars, is_utf8}
+use Rattle.std.specs.Str.{all_scalars, chars}
 use Rattle.std.proofs.lemmas.Bool.{cases_eq, cases_lt}
 use Rattle.std.proofs.lemmas.Bool.Decides.{Decides-eqb, Decides-int_eq}
-use Rattle.std.proofs.lemmas.Int.{by_lt_z}
 use Rattle.std.proofs.lemmas.List.Elements.{All-cons, All-contains, All-head, All-nil, All-tail}
 use Rattle.std.proofs.lemmas.Map.Made.{is_member-Decides}
-use Rattle.std.proofs.lemmas.Str.{IsUtf8-from_is_utf8, chars-encodes, is_utf8-from_IsUtf8}
-use Rattle.emc_base.specs.Domain.{IsBetween, IsByteList, IsText, IsWithin}
+use Rattle.std.proofs.lemmas.Str.{chars-encodes}
 use Rattle.emc_base.specs.declared.value.Kind.TheVariants as kind
 use Rattle.emc_base.specs.declared.value.Under.{Under}
 use Rattle.emc_base.specs.declared.value.Under.TheVariants as under
@@ -19,6 +16,7 @@ use Rattle.emc_base.proofs.Lists.{all_from_members}
 use Rattle.round_trip.specs.Words.{ColId, InDomain, Kind, PropId, Value}
 use Rattle.round_trip.specs.soundness.Kinds.{Corresponds, IsNoSmaller, under_kind}
 use Rattle.emc_base.proofs.Stable.{stable, told}
+use Rattle.emc_base.proofs.facts.Domains.{between_stable, bytes_stable, text_stable}
 
 -- one of two facts that are so or aren't
 pub or_told : {P Q : Type 0} → P ⊎ (¬ P) → Q ⊎ (¬ Q) → (P ⊎ Q) ⊎ (¬ (P ⊎ Q))
@@ -67,50 +65,9 @@ bounds_stable (Some first) (Some second) never = ⊎_elim
     (λ (fine : first ≤ second). fine)
     (cases_lt second first)
 
--- a count is within a bound
-within_stable : (bound : Option ℕ) (count : ℕ) → ¬ (¬ IsWithin bound count) → IsWithin bound count
-within_stable None count never = tt
-within_stable (Some most) count never = ⊎_elim
-    (λ (above : most < count). absurd (never (λ within. let least : count ≤ most = within in omega arith)))
-    (λ (fine : count ≤ most). fine)
-    (cases_lt most count)
-
--- a whole number is no more than another
-le_stable : (low high : ℤ) → ¬ (¬ (low ≤ℤ high)) → low ≤ℤ high
-le_stable low high never = by_lt_z high low (λ below. absurd (never (λ fine. clash_ℤ below fine))) (λ fine. fine)
-
-between_stable : (low high number : ℤ) → ¬ (¬ IsBetween low high number) → IsBetween low high number
-between_stable low high number never = (le_stable low number (λ no. never (λ both. no both.0)), le_stable number high (λ no. never (λ both. no both.1)))
-
 -- bytes spell just one list of characters
 spelled_by : (characters bytes : List ℕ) → IsTrue (all_scalars characters) → encode_utf8_all characters ≡ bytes → chars bytes ≡ characters
 spelled_by characters bytes scalar is = ap chars (sym is) ∙ chars-encodes characters scalar
-
--- a text lies in the domain of a bound
-text_stable : (bound : Option ℕ) (bytes : List ℕ) → ¬ (¬ IsText bound bytes) → IsText bound bytes
-text_stable bound bytes never =
-    let utf8 : IsUtf8 bytes = stable (is_utf8 bytes) (IsUtf8-from_is_utf8 bytes, is_utf8-from_IsUtf8 bytes) (λ no. never (λ text. no (text.characters, (text.scalar, text.spelled)))) in
-    let P : List ℕ → Type 0 = λ characters. IsWithin bound (length characters) in
-    record {
-      characters = utf8.0;
-      scalar = utf8.1.0;
-      spelled = utf8.1.1;
-      within = within_stable bound (length utf8.0) (λ no. never (λ text.
-          no (subst P (sym (spelled_by text.characters bytes text.scalar text.spelled) ∙ spelled_by utf8.0 bytes utf8.1.0 utf8.1.1) text.within)));
-    }
-
--- a byte list does
-bytes_stable : (bound : Option ℕ) (bytes : List ℕ) → ¬ (¬ IsByteList bound bytes) → IsByteList bound bytes
-bytes_stable bound bytes never = record {
-  small = all_stable (λ byte. byte < 256) byte_stable bytes (λ no. never (λ list. no list.small));
-  within = within_stable bound (length bytes) (λ no. never (λ list. no list.within));
-}
-  where
-    byte_stable : (byte : ℕ) → ¬ (¬ (byte < 256)) → byte < 256
-    byte_stable byte never = ⊎_elim
-        (λ (small : byte < 256). small)
-        (λ (large : 256 ≤ byte). absurd (never (λ small. let below : byte < 256 = small in omega arith)))
-        (cases_lt byte 256)
 
 -- a value lies in the domain of a kind
 pub domain_stable : (v : Value) (k : Kind) → ¬ (¬ InDomain v k) → InDomain v k

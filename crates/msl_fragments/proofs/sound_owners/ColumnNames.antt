@@ -1,29 +1,18 @@
 -- Pairs by their columns: where no two pairs of a list name one column, no two of what they stand for have one.
-use Rattle.std.proofs.Common.{◌≡◌, ℕ, List, Contains, Option, Some, option_map, slice_get, sym, ap, subst, ◌∙◌}
+use Rattle.std.proofs.Common.{◌≡◌, ℕ, List, Contains, Option, Some, option_map, sym, ap, subst, ◌∙◌}
 use Rattle.std.proofs.lemmas.Option.{same_Some}
 use Rattle.emc_base.specs.Lists.{At}
 use Rattle.emc_base.proofs.Lists.{at_once, same_place}
 use Rattle.graphs.proofs.base_chains.orders.Orders.{place_of_member}
-use Rattle.groupings.specs.name_places.GivenNames.{IsGivenBefore, first_place}
-use Rattle.groupings.proofs.name_places.FirstPlaces.{first_has, names_apart}
-use Rattle.round_trip.specs.Words.{ColId, EntityModel, Pair, PropId, StoreModel, Table}
+use Rattle.groupings.specs.name_places.GivenNames.{IsGivenBefore}
+use Rattle.groupings.proofs.name_places.FirstPlaces.{names_apart}
+use Rattle.round_trip.specs.Words.{ColId, EntityModel, Pair, PropId, StoreModel}
 use Rattle.schema_names.specs.SchemaNames.{column_named}
 use Rattle.emc_base.proofs.FoundItems.{and_then_some, map_some}
 use Rattle.emc_base.proofs.Joined.{in_found}
+use Rattle.schema_names.proofs.Places.{same_column_name}
 use Rattle.msl_rules.specs.declared.msl_lists.raw.RawPair.{RawPair}
 use Rattle.msl_rules.specs.Found.{col_numbered, pair_in, pairs_in}
-
--- names that stand for one column are one name
-pub same_column_name : (store : StoreModel) (t : ℕ) (one other : List ℕ) (c : ℕ) → column_named store t one ≡ Some c → column_named store t other ≡ Some c → one ≡ other
-same_column_name store t one other c is is_too =
-    let place_in : List ℕ → Table → Option ℕ = λ name table. first_place (λ col. col.name) table.cols name in
-    let first = and_then_some (place_in one) (slice_get store.tables t) c is in
-    let second = and_then_some (place_in other) (slice_get store.tables t) c is_too in
-    let table : second.0 ≡ first.0 = same_Some second.0 first.0 (sym second.1 ∙ first.1) in
-    let P : Table → Type 0 = λ table. place_in other table ≡ Some c in
-    let has = first_has (λ col. col.name) first.0.cols one c first.2 in
-    let has_too = first_has (λ col. col.name) first.0.cols other c (subst P table second.2) in
-    sym has.2 ∙ ap (λ col. col.name) (at_once first.0.cols c has.0 has_too.0 has.1 has_too.1) ∙ has_too.2
 
 -- no two of the pairs have one column
 abbrev pub TellsByColumn : List Pair → Type 0

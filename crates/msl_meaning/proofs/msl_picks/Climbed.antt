@@ -1,31 +1,14 @@
 -- A type and what stands above it: by a climb over base types, each type is asked whether it is the wanted one.
-use Rattle.std.proofs.Common.{◌≡◌, ◌≢◌, ◌⊎◌, ⊎_elim, inl, inr, ◌↔◌, ℕ, MatchOption, Option, Some, None, option_map, refl, sym, ap, subst, ◌∙◌}
-use Rattle.std.specs.Option.{option_and_then}
+use Rattle.std.proofs.Common.{◌≡◌, ◌≢◌, ◌⊎◌, ⊎_elim, ◌↔◌, ℕ, MatchOption, Option, Some, None, refl, sym, subst}
 use Rattle.edm_types.specs.Forest.{type_numbered}
 use Rattle.edm_types.specs.IsA.{same, base, chain}
-use Rattle.round_trip.specs.Words.{EntityModel, EntityType, TypeId, HasBase, IsA}
+use Rattle.edm_types.proofs.Lookups.{first_step}
+use Rattle.round_trip.specs.Words.{EntityModel, TypeId, HasBase, IsA}
 use Rattle.schema_names.specs.Inherited.{base_place}
 use Rattle.schema_names.proofs.Inherits.{has_base}
+use Rattle.schema_names.proofs.Places.{base_here}
 
 module _ (model : EntityModel) where
-  -- a base type has its place
-  base_here : (t u : TypeId) → HasBase model t u → base_place model t.index ≡ Some u.index
-  base_here t u has =
-      ap (λ (found : Option EntityType). option_map (λ (v : TypeId). v.index) (option_and_then (λ type. type.base) found)) has.1
-      ∙ ap (λ (found : Option TypeId). option_map (λ (v : TypeId). v.index) found) has.2
-
-  -- what a type is derived from it is itself, or its base type is derived from that
-  first_step : (t u : TypeId) → IsA model t u → (t.index ≡ u.index) ⊎ ((v : TypeId) × HasBase model t v × IsA model v u)
-  first_step t u (same _) = inl refl
-  first_step t u (base _ _ has) = inr (u, has, same u)
-  first_step t u (chain _ v _ first second) = ⊎_elim
-      (λ (one : t.index ≡ v.index).
-      let P : TypeId → Type 0 = λ s. (s.index ≡ u.index) ⊎ ((w : TypeId) × HasBase model s w × IsA model w u) in
-      let alike : t ≡ v = λ k. record { index = one k } in
-      subst P (sym alike) (first_step v u second))
-      (λ (step : (w : TypeId) × HasBase model t w × IsA model w v). inr (step.0, step.1, chain step.0 v u step.2 second))
-      (first_step t v first)
-
   module _ (wanted : TypeId) where
     -- the type at a place is derived from the wanted one
     abbrev pub IsBelow : ℕ → Type 0
@@ -40,8 +23,8 @@ module _ (model : EntityModel) where
             (λ (one : t ≡ wanted.index). absurd (other one))
             (λ (step : (v : TypeId) × HasBase model (type_numbered t) v × IsA model v wanted).
             let P : Option ℕ → Type 0 = λ found. MatchOption found ⊥ IsBelow in
-            subst P (sym (base_here (type_numbered t) step.0 step.1)) step.2)
-            (first_step (type_numbered t) wanted is)
+            subst P (sym (base_here model (type_numbered t) step.0 step.1)) step.2)
+            (first_step model (type_numbered t) wanted is)
 
         up : (found : Option ℕ) → base_place model t ≡ found → MatchOption found ⊥ IsBelow → IsBelow t
         up None root none = absurd none

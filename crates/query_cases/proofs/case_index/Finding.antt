@@ -16,8 +16,8 @@ use Rattle.emc_base.specs.Lists.{At, places_of}
 use Rattle.emc_base.proofs.Lists.{all_from_members}
 use Rattle.emc_base.proofs.Mapped.{contains_enumerated, contains_map}
 use Rattle.emc_base.proofs.Numbered.{at_places, map_contains, places_contain, places_rise}
+use Rattle.emc_base.proofs.facts.Orderings.{is_equal}
 use Rattle.groupings.specs.item_groups.Groups.{items_at, items_of}
-use Rattle.groupings.proofs.item_groups.Keyed.{is_equal}
 use Rattle.case_laws.specs.declared.region_cases.case.Case.{Case}
 use Rattle.query_cases.specs.declared.case_index.telling.Column.{Column}
 use Rattle.query_cases.specs.case_index.Codes.{case_code}

@@ -7,8 +7,8 @@ use Rattle.std.specs.Ordering.{is_eq, nat_cmp}
 use Rattle.std.proofs.lemmas.List.Elements.{All-contains}
 use Rattle.emc_base.proofs.Lists.{all_from_members}
 use Rattle.emc_base.proofs.Numbered.{filter_contains, map_contains}
+use Rattle.emc_base.proofs.facts.Orderings.{is_equal}
 use Rattle.groupings.specs.item_groups.Groups.{items_at, items_of}
-use Rattle.groupings.proofs.item_groups.Keyed.{is_equal}
 
 -- what is so of each item with its key is so of what is listed at a key
 pub all_listed : {X : Type 0} (P : ℕ → X → Type 0) (groups : BTreeMap ℕ (Vec X)) (keyed : List (ℕ × X))

@@ -6,7 +6,7 @@ use Rattle.std.proofs.lemmas.Map.Entries.{place_from_lookup}
 use Rattle.emc_base.specs.Order.{value_cmp}
 use Rattle.emc_base.specs.OrderLaws.{value_cmp_apart}
 use Rattle.emc_base.proofs.Mapped.{contains_at, contains_map}
-use Rattle.groupings.proofs.item_groups.Keyed.{is_equal}
+use Rattle.emc_base.proofs.facts.Orderings.{is_equal}
 use Rattle.round_trip.specs.Words.{Value}
 
 -- a value that is none of the keys has no number

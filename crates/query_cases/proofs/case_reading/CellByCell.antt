@@ -1,12 +1,14 @@
 -- Rows at a key against the case of a region: cell by cell, and twin by twin.
-use Rattle.std.proofs.Common.{◌≡◌, ◌≢◌, ⊎_elim, ◌<◌, ℕ, List, Bool, length, AllPairs, Any, Contains, Some, refl, sym, ap, subst, ◌∙◌, arith}
+use Rattle.std.proofs.Common.{◌≡◌, ◌≢◌, ⊎_elim, ◌<◌, ℕ, List, Bool, length, AllPairs, Any, Contains, refl, sym, ap, subst, ◌∙◌, arith}
 use Rattle.std.specs.List.{AllZip}
 use Rattle.std.specs.Option.{option_map_or}
 use Rattle.std.proofs.lemmas.List.Elements.{All-contains}
-use Rattle.std.proofs.lemmas.Option.{slice_get-get_or, slice_get_within}
+use Rattle.std.proofs.lemmas.Option.{slice_get_within}
 use Rattle.emc_base.proofs.Lists.{all_from_members, item_at}
 use Rattle.emc_base.proofs.Mapped.{contains_at}
 use Rattle.emc_base.proofs.Numbered.{all_pairs_map}
+use Rattle.emc_base.proofs.facts.Standing.{place_of_member}
+use Rattle.emc_base.proofs.facts.Zipped.{zip_long}
 use Rattle.round_trip.specs.Words.{TableId, ColId, PropId, Null, Row, Tables, Value, At, cell_of}
 use Rattle.schema_laws.proofs.state_demand.lists.Lists.{any_of, of_any, same_by_key}
 use Rattle.regions.specs.declared.region.Region.{Region}
@@ -27,11 +29,7 @@ use Rattle.query_cases.specs.declared.case_reading.reading.Reading.{Reading}
 use Rattle.query_cases.specs.declared.case_reading.reading.Twins.{Twins}
 use Rattle.query_cases.specs.case_reading.Reading.{IsReadingOf, ShowsAt}
 use Rattle.query_cases.specs.case_reading.Sources.{AgreeTwins, cell_at}
-use Rattle.query_cases.proofs.case_reading.Zips.{rising_zip, zip_at, zip_long, zip_members}
-
--- a member stands at a place
-pub member_at : {X : Type 0} (xs : List X) (x : X) → (has : Contains xs x) → At xs has.0 x
-member_at xs x has = slice_get-get_or xs has.0 x has.1 ∙ ap Some has.2
+use Rattle.query_cases.proofs.case_reading.Zips.{rising_zip, zip_at, zip_members}
 
 module _ (is_free : TableId → ColId → Bool) (basis : Basis) (region : Region) (tables : Tables) (key : List Value) (rows : List (TableId × Row))
     (here : AreRowsAt basis.schema tables region.set key rows) where
@@ -97,7 +95,7 @@ module _ (is_free : TableId → ColId → Bool) (basis : Basis) (region : Region
 
     pub placed_of : (t : TableId) (held : Row) (col : ColId) (told : CaseCell) → Tells t held col told → IsPlaced t held col told
     placed_of t held col told has =
-        let at_row = member_at case.rows has.row has.of_case in
+        let at_row = place_of_member case.rows has.row has.of_case in
         let found = row_beside has.of_case.0 has.row at_row in
         let among = contains_at rows has.of_case.0 found.placed found.at in
         record {
@@ -225,7 +223,7 @@ module _ (is_free : TableId → ColId → Bool) (basis : Basis) (region : Region
 
     present_row : (row : CaseRow) → Contains case.rows row → (held : Row) × Stands row.table held
     present_row row has =
-        let found = row_beside beside has.0 row (member_at case.rows row has) in
+        let found = row_beside beside has.0 row (place_of_member case.rows row has) in
         let stands = stands_at found.placed (contains_at rows has.0 found.placed found.at) in
         (found.placed.1, subst (λ t. Stands t found.placed.1) (sym found.of_table) stands)
 
@@ -236,7 +234,7 @@ module _ (is_free : TableId → ColId → Bool) (basis : Basis) (region : Region
         let within : has.0 < length case.rows = subst (λ n. has.0 < n) (sym (zip_long R case.rows rows beside)) has.1 in
         let found = item_at case.rows has.0 within in
         any_of (λ (row : CaseRow). row.table ≡ t) case.rows found.0 (contains_at case.rows has.0 found.0 found.1)
-        (zip_at R case.rows rows beside has.0 found.0 (t, held) found.1 (member_at rows (t, held) has))
+        (zip_at R case.rows rows beside has.0 found.0 (t, held) found.1 (place_of_member rows (t, held) has))
 
     pub meets_case : MeetsCase basis tables key case
     meets_case = record {

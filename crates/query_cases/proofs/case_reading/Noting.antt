@@ -1,17 +1,16 @@
 -- Noting the first cell that shows each property, and its later twins.
 use Rattle.std.proofs.Common.{◌≡◌, ◌⊎◌, ⊎_elim, ◌==◌, inl, inr, ℕ, List, [], ◌∷◌, ◌++◌, map, All, Bool, true, false, cond, Contains, Option, None, Some, refl, sym, ap, subst, ◌∙◌}
 use Rattle.std.specs.List.{AllZip, enumerate_from}
-use Rattle.std.specs.Bool.{Decides}
 use Rattle.std.specs.BTreeMap.{BTreeMap, get, Updates}
-use Rattle.std.specs.Cmp.{unsigned_ties}
 use Rattle.std.specs.Option.{option_map_or, unwrap_or}
 use Rattle.std.specs.Ordering.{is_eq, nat_cmp}
-use Rattle.std.proofs.lemmas.Bool.Decides.{Decides-and, Decides-at, Decides-eqb}
+use Rattle.std.proofs.lemmas.Bool.Decides.{Decides-and, Decides-eqb}
 use Rattle.std.proofs.lemmas.List.Elements.{All-contains, Contains-append_left, Contains-push, Contains-push_cases}
 use Rattle.std.proofs.lemmas.Option.{same_Some}
 use Rattle.emc_base.proofs.Lists.{all_from_members}
 use Rattle.emc_base.proofs.Mapped.{all_zip-map, contains_enumerated}
 use Rattle.emc_base.proofs.Numbered.{enumerated_at}
+use Rattle.emc_base.proofs.facts.Orderings.{tells_number}
 use Rattle.round_trip.specs.Words.{At, EntityModel, Null, PropId, Value, props_of}
 use Rattle.schema_laws.proofs.state_demand.lists.Lists.{contains_flat_map, head_stands, member_cases, member_of_flat_map, none_in_nil}
 use Rattle.case_laws.specs.declared.region_cases.case.Case.{Case}
@@ -26,10 +25,6 @@ use Rattle.query_cases.specs.declared.case_reading.reading.Twins.{Twins}
 use Rattle.query_cases.specs.case_reading.Noted.{AreNoted, first_source, source_by}
 use Rattle.query_cases.specs.case_reading.Reading.{IsReadAs, IsReadingOf, IsSource, ShowsAt, fixed_value}
 use Rattle.query_cases.specs.case_reading.Shown.{shown_cell, shown_props, shown_row}
-
--- the order of numbers tells them apart
-tells_number : (one other : ℕ) → Decides (is_eq (nat_cmp one other)) (one ≡ other)
-tells_number one other = Decides-at (is_eq (nat_cmp one other)) (one == other) (sym (unsigned_ties one other)) (Decides-eqb one other)
 
 same_prop : (p q : PropId) → p.index ≡ q.index → p ≡ q
 same_prop p q same = λ k. record { index = same k }

@@ -4,6 +4,7 @@ use Rattle.std.specs.Option.{option_map_or}
 use Rattle.std.specs.Prelude.{option_and_then}
 use Rattle.std.proofs.lemmas.List.{length-map}
 use Rattle.emc_base.proofs.Lists.{all_from_members}
+use Rattle.emc_base.proofs.facts.Zipped.{zip_long}
 use Rattle.round_trip.specs.Words.{SetId, TableId, ColId, PropId, Entity, EntityModel, Null, Row, Tables, Value, props_of, value_of}
 use Rattle.schema_laws.proofs.state_demand.lists.Lists.{head_stands}
 use Rattle.condition_logic.specs.declared.atoms.Atom.{Atom}
@@ -33,7 +34,7 @@ use Rattle.query_cases.specs.declared.case_reading.reading.Source.TheVariants as
 use Rattle.query_cases.specs.case_reading.Reading.{IsReadAs, IsReadingOf, IsSource, ShowsAt, fixed_value, one_value}
 use Rattle.query_cases.specs.case_reading.Sources.{cell_at, read_entity, source_value}
 use Rattle.query_cases.proofs.case_reading.CellByCell.{Shows, besides, case, shown_at, shown_here}
-use Rattle.query_cases.proofs.case_reading.Zips.{IsBeside, beside_item, zip_long}
+use Rattle.query_cases.proofs.case_reading.Zips.{IsBeside, beside_item}
 
 -- a symbol by which symbols are settled stands first, and may have several values
 pub record StandsFirst (model : EntityModel) (atoms : List AtomOf) (symbols : List Symbol) (one : Symbol) : Type 0 where

@@ -9,13 +9,6 @@ use Rattle.regions.proofs.region_laws.values.Symbols.{Decides-prop}
 use Rattle.schema_laws.proofs.state_demand.lists.Lists.{head_stands, member_cases, none_in_nil, tail_stands}
 
 module _ {X Y : Type 0} (R : X → Y → Type 0) where
-  -- lists side by side are of one length
-  pub zip_long : (xs : List X) (ys : List Y) → AllZip R xs ys → length xs ≡ length ys
-  zip_long [] [] zip = refl
-  zip_long [] (y ∷ ys) zip = absurd zip
-  zip_long (x ∷ xs) [] zip = absurd zip
-  zip_long (x ∷ xs) (y ∷ ys) zip = ap suc (zip_long xs ys zip.1)
-
   -- and each item has one beside it
   zip_read : (xs : List X) (ys : List Y) → AllZip R xs ys → (i : ℕ) (x : X) (y : Y) → i < length xs → R (get_or xs i x) (get_or ys i y)
   zip_read [] [] zip i x y within = absurd (omega arith)

@@ -1,11 +1,11 @@
 -- No two limits are told of one schema.
-use Rattle.std.proofs.Common.{◌≡◌, ◌+◌, List, [], ◌∷◌, ◌++◌, flat_map, length, min, slice_get, Option, Contains, refl, sym, ap, ◌∙◌}
+use Rattle.std.proofs.Common.{◌≡◌, ◌+◌, List, [], ◌++◌, flat_map, length, min, slice_get, Option, sym, ap, ◌∙◌}
 use Rattle.std.specs.List.{enumerate_from}
 use Rattle.std.proofs.lemmas.Option.{slice_get_within}
 use Rattle.emc_base.proofs.Numbered.{enumerated_at}
+use Rattle.emc_base.proofs.facts.Images.{flat_map_agree}
 use Rattle.edm_types.specs.declared.faults.LimitKind.TheVariants as limit
 use Rattle.round_trip.specs.Words.{LimitFault, Schema}
-use Rattle.schema_laws.proofs.state_demand.lists.Lists.{head_stands, tail_stands}
 use Rattle.cells.specs.Limits.{most_assocs, most_constants}
 use Rattle.regions.specs.Basis.{Basis}
 use Rattle.regions.specs.Regions.{most_counted}
@@ -14,19 +14,11 @@ use Rattle.region_partition.specs.mapping_limits.FirstLimit.{IsFirstLimit, colum
 use Rattle.region_partition.proofs.limit_laws.Alike.{regions_alike}
 use Rattle.region_partition.proofs.limit_laws.Answered.{beside, right_beside, same_constants}
 
--- lists of the members that are the same, joined
-joined_alike : {X Y : Type 0} (f g : X → List Y) (xs : List X) → ((x : X) → Contains xs x → f x ≡ g x) → flat_map f xs ≡ flat_map g xs
-joined_alike f g [] each = refl
-joined_alike f g (x ∷ xs) each =
-    let here : f x ≡ g x = each x (head_stands x xs) in
-    let rest : flat_map f xs ≡ flat_map g xs = joined_alike f g xs (λ y has. each y (tail_stands x xs y has)) in
-    λ k. here k ++ rest k
-
 module _ (schema : Schema) (one two : Basis) (is_one : IsBasis (beside one schema)) (is_two : IsBasis (beside two schema)) where
   -- the same limits on constants are passed
   constants_alike : flat_map (constants_passed (beside one schema)) (enumerate_from 0 schema.model.props)
       ≡ flat_map (constants_passed (beside two schema)) (enumerate_from 0 schema.model.props)
-  constants_alike = joined_alike (constants_passed (beside one schema)) (constants_passed (beside two schema)) (enumerate_from 0 schema.model.props) (λ placed has.
+  constants_alike = flat_map_agree (constants_passed (beside one schema)) (constants_passed (beside two schema)) (enumerate_from 0 schema.model.props) (λ placed has.
       let within = slice_get_within schema.model.props placed.0 placed.1 (enumerated_at schema.model.props placed has) in
       let same = same_constants schema one two is_one is_two (record { index = placed.0 }) within in
       λ k. passed limit.Constants placed.1.name (length (same k)) most_constants)

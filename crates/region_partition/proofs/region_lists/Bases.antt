@@ -1,5 +1,5 @@
 -- A walk up the base types.
-use Rattle.std.proofs.Common.{◌≡◌, ℕ, zero, suc, Bool, true, false, ◌==◌, ◌||◌, Option, refl, ap, ◌∙◌}
+use Rattle.std.proofs.Common.{◌≡◌, ℕ, zero, suc, true, false, ◌==◌, ◌||◌, Option, ap, ◌∙◌}
 use Rattle.std.specs.Option.{option_map_or}
 use Rattle.round_trip.specs.Words.{TypeId, EntityModel}
 use Rattle.schema_laws.specs.sound_demand.Deriving.{base_of, is_under}
@@ -17,8 +17,3 @@ module _ (model : EntityModel) (t u : TypeId) where
       ap (λ (k : ℕ). is_under model k t u) one
       ∙ ap (λ b. b || option_map_or (λ base. is_under model left base u) (base_of model t) false) other
       ∙ ap (λ (o : Option TypeId). option_map_or (λ base. is_under model left base u) o false) is
-
--- a test that cannot pass
-pub fails_by : (b : Bool) → (b ≡ true → ⊥) → b ≡ false
-fails_by true never = absurd (never refl)
-fails_by false never = refl

@@ -4,12 +4,12 @@ use Rattle.std.specs.List.{enumerate_from}
 use Rattle.std.specs.Option.{option_map_or}
 use Rattle.emc_base.specs.Lists.{At}
 use Rattle.emc_base.proofs.Loops.{take-enumerated}
+use Rattle.emc_base.proofs.facts.Images.{one_more_gives}
 use Rattle.round_trip.specs.Words.{SetId, TypeId, AssocId, Assoc}
 use Rattle.schema_laws.specs.sound_demand.Deriving.{derives}
 use Rattle.table_owners.specs.declared.places.LinkPlace.{LinkPlace}
 use Rattle.table_owners.specs.declared.places.LinkPlace.TheVariants as place
 use Rattle.cells.specs.declared.parts.Parts.{Parts}
-use Rattle.cells.proofs.Lists.{one_more_gives}
 use Rattle.regions.specs.Basis.{Host, host_end, partner_end}
 use Rattle.regions.specs.Regions.{flag_values, flagged, flags_at}
 use Rattle.region_states.specs.region_basis.BasisOf.{basis_of, host_at, host_by, hosts_in, hosts_told}

@@ -15,6 +15,7 @@ use Rattle.emc_base.specs.declared.value.EnumKind.{EnumKind}
 use Rattle.emc_base.specs.declared.value.Kind.TheVariants as kind
 use Rattle.emc_base.proofs.Lists.{all_from_members}
 use Rattle.emc_base.proofs.Numbered.{all_pairs_map, map_contains}
+use Rattle.emc_base.proofs.facts.Pairs.{pairs_append}
 use Rattle.round_trip.specs.Words.{PropId, Value, Kind, Prop, Entity, Whole, Flag}
 use Rattle.round_trip.specs.soundness.mappings.Joined.{prop}
 use Rattle.round_trip.specs.soundness.Kinds.{IsSoundKind}
@@ -30,7 +31,7 @@ use Rattle.regions.specs.region_laws.RegionAt.{atom_in}
 use Rattle.regions.proofs.region_laws.lists.Choices.{pairs_nil}
 use Rattle.regions.proofs.region_laws.values.Told.{sound_kind}
 use Rattle.region_partition.specs.region_search.Standing.{Rises, Stand, atom_cmp, told_cmp}
-use Rattle.region_partition.proofs.region_search.Rising.{pairs_also, pairs_append, pairs_one}
+use Rattle.region_partition.proofs.region_search.Rising.{pairs_also, pairs_one}
 
 -- the order of atoms
 pub atom_itself : (a : Atom) → atom_cmp a a ≡ Equal

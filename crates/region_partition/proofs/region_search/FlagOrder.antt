@@ -18,8 +18,8 @@ use Rattle.regions.specs.Symbols.{is_linked}
 use Rattle.regions.specs.region_laws.RegionAt.{has_link}
 use Rattle.regions.proofs.region_laws.lists.Choices.{pairs_tail}
 use Rattle.regions.proofs.region_laws.entities.Flags.{Decides-flagged, InOrder, IsFlag, flag_member, no_later, of_host}
+use Rattle.regions.proofs.region_laws.pattern.symbols.Origins.{linked_decided}
 use Rattle.region_partition.specs.region_search.Standing.{Rises, Stand, all_cmp, flag_cmp, host_cmp}
-use Rattle.region_partition.proofs.region_search.Linked.{Decides-linked}
 use Rattle.region_partition.proofs.region_search.Rising.{all_by, pairs_one}
 
 -- false stands before true
@@ -54,7 +54,7 @@ module _ (basis : Basis) (links : List Hosted) where
             let R : Bool → Bool → Type 0 = λ one later. Stand (flag_cmp ZeroOrOne (is_linked basis (flagged host.assoc one) host.assoc) (has_link links host.assoc))
             (flag_cmp ZeroOrOne (is_linked basis (flagged host.assoc later) host.assoc) (has_link links host.assoc)) in
             let shown : (b : Bool) → is_linked basis (flagged host.assoc b) host.assoc ≡ b = λ b.
-            same_from_decides (is_linked basis (flagged host.assoc b) host.assoc) b (Decides-linked basis (flagged host.assoc b) host.assoc) (Decides-flagged host.assoc b) in
+            same_from_decides (is_linked basis (flagged host.assoc b) host.assoc) b (linked_decided basis (flagged host.assoc b) host.assoc) (Decides-flagged host.assoc b) in
             AllPairs-cons R false (true ∷ [])
             (All-cons (R false) true [] (stand_flags (is_linked basis (flagged host.assoc false) host.assoc) (is_linked basis (flagged host.assoc true) host.assoc)
             (has_link links host.assoc) (shown false) (shown true)) (All-nil (R false)))
@@ -74,16 +74,16 @@ module _ (basis : Basis) (links : List Hosted) where
         (Decides-like (is_linked basis (one ++ two) a)
         (λ has. ⊎_elim (λ (first : Contains one a). first) (λ (later : Contains two a). absurd (none later)) (Contains-append_cases one two a has))
         (λ has. Contains-append_left one two a has)
-        (Decides-linked basis (one ++ two) a))
-        (Decides-linked basis one a)
+        (linked_decided basis (one ++ two) a))
+        (linked_decided basis one a)
 
     in_second : (one two : List AssocId) (a : AssocId) → ¬ Contains one a → is_linked basis (one ++ two) a ≡ is_linked basis two a
     in_second one two a none = same_from_decides (is_linked basis (one ++ two) a) (is_linked basis two a)
         (Decides-like (is_linked basis (one ++ two) a)
         (λ has. ⊎_elim (λ (first : Contains one a). absurd (none first)) (λ (later : Contains two a). later) (Contains-append_cases one two a has))
         (λ has. Contains-append_right one two a has)
-        (Decides-linked basis (one ++ two) a))
-        (Decides-linked basis two a)
+        (linked_decided basis (one ++ two) a))
+        (linked_decided basis two a)
 
     abbrev Shows : List AssocId → Host → List AssocId → Type 0
     Shows linked host flag = is_linked basis linked host.assoc ≡ is_linked basis flag host.assoc

@@ -1,28 +1,19 @@
 -- A flag stands equal to the links just where it tells them.
-use Rattle.std.proofs.Common.{◌≡◌, ◌≢◌, ◌↔◌, List, slice_get, Any, Contains, Option, Some, None, Bool, true, false, Decides, is_eq, ◌==◌, refl, sym, subst, ◌∙◌}
+use Rattle.std.proofs.Common.{◌≡◌, ◌≢◌, ◌↔◌, List, slice_get, Any, Contains, Option, Some, None, Bool, true, false, Decides, is_eq, refl, sym, subst, ◌∙◌}
 use Rattle.std.specs.Option.{option_map_or}
 use Rattle.std.specs.Ordering.{bool_cmp}
 use Rattle.std.specs.declared.cmp.Ordering.TheVariants.{Equal}
-use Rattle.std.proofs.lemmas.Bool.Decides.{Decides-like}
 use Rattle.std.proofs.lemmas.Option.{same_Some}
-use Rattle.round_trip.specs.Words.{AssocId, Assoc, Hosted, Mult}
+use Rattle.round_trip.specs.Words.{Assoc, Hosted, Mult}
 use Rattle.edm_types.specs.declared.model.Mult.TheVariants.{One, ZeroOrOne, Many}
-use Rattle.schema_laws.proofs.state_demand.lists.Lists.{Decides-any, any_of, of_any}
 use Rattle.regions.specs.declared.region.Region.{Region}
 use Rattle.regions.specs.Basis.{Basis, Host, partner_end}
 use Rattle.regions.specs.Regions.{TellsLinks, model_of}
 use Rattle.regions.specs.Symbols.{is_linked}
 use Rattle.regions.specs.region_laws.RegionAt.{has_link}
 use Rattle.regions.proofs.region_laws.entities.Flags.{Decides-link, one_few, optional_few}
-use Rattle.regions.proofs.region_laws.values.Symbols.{Decides-assoc}
+use Rattle.regions.proofs.region_laws.pattern.symbols.Origins.{linked_decided}
 use Rattle.region_partition.specs.region_search.Standing.{flag_cmp, host_cmp}
-
-module _ (basis : Basis) where
-  pub Decides-linked : (linked : List AssocId) (a : AssocId) → Decides (is_linked basis linked a) (Contains linked a)
-  Decides-linked linked a = Decides-like (is_linked basis linked a)
-      (λ any. let found = of_any (λ one. one ≡ a) linked any in subst (Contains linked) found.2 found.1)
-      (λ has. any_of (λ one. one ≡ a) linked a has refl)
-      (Decides-any (λ (one : AssocId). one.index == a.index) (λ one. one ≡ a) (λ one. Decides-assoc one a) linked)
 
 -- two answers to two questions are one just where the questions are
 both : {P Q : Type 0} (one two : Bool) → Decides one P → Decides two Q → Decides (is_eq (bool_cmp one two)) (P ↔ Q)
@@ -49,7 +40,7 @@ module _ (basis : Basis) (region : Region) (links : List Hosted) (host : Host) w
           let P : Type 0 = Contains region.linked host.assoc in
           let Q : Type 0 = Any (λ (hosted : Hosted). hosted.assoc ≡ host.assoc) links in
           let told = flag {P = P} {Q = Q} (partner_end host.first_hosts assoc).mult (is_linked basis region.linked host.assoc) (has_link links host.assoc)
-          (Decides-linked basis region.linked host.assoc) (Decides-link links host.assoc) in (
+          (linked_decided basis region.linked host.assoc) (Decides-link links host.assoc) in (
             λ is other there few.
                 let same : assoc ≡ other = same_Some assoc other (sym here ∙ there) in
                 told.0 is (subst (λ (one : Assoc). (partner_end host.first_hosts one).mult ≢ Many) (sym same) few),

@@ -1,12 +1,13 @@
 -- Lists of choices rise towards what they are compared with.
-use Rattle.std.proofs.Common.{◌≡◌, ◌∷◌, ◌++◌, List, [], map, flat_map, AllPairs, Contains, refl, ap, subst, ◌∙◌}
+use Rattle.std.proofs.Common.{◌≡◌, ◌∷◌, List, [], map, flat_map, AllPairs, Contains, refl, ap, subst, ◌∙◌}
 use Rattle.std.specs.declared.cmp.Ordering.{Ordering}
 use Rattle.std.specs.declared.cmp.Ordering.TheVariants.{Less, Equal, Greater}
 use Rattle.std.specs.Ordering.{ordering_then}
-use Rattle.std.proofs.lemmas.List.Elements.{All-append, All-contains, All-nil}
+use Rattle.std.proofs.lemmas.List.Elements.{All-contains, All-nil}
 use Rattle.std.proofs.lemmas.List.Kept.{AllPairs-cons}
 use Rattle.emc_base.proofs.Lists.{all_from_members}
 use Rattle.emc_base.proofs.Numbered.{all_pairs_map, map_contains}
+use Rattle.emc_base.proofs.facts.Pairs.{pairs_append}
 use Rattle.schema_laws.proofs.state_demand.lists.Lists.{head_stands, member_of_flat_map, tail_stands}
 use Rattle.regions.specs.Lists.{choices}
 use Rattle.region_partition.specs.region_search.Standing.{Rises, Stand}
@@ -35,13 +36,6 @@ stand_next first one later stand = (
 module _ {X : Type 0} where
   pub pairs_one : (R : X → X → Type 0) (x : X) → AllPairs R (x ∷ [])
   pairs_one R x = AllPairs-cons R x [] (All-nil (R x)) (pairs_nil R)
-
-  -- what is so by pairs in each list, and between them
-  pub pairs_append : (R : X → X → Type 0) (xs ys : List X) → AllPairs R xs → AllPairs R ys → ((x y : X) → Contains xs x → Contains ys y → R x y) → AllPairs R (xs ++ ys)
-  pairs_append R [] ys first second between = second
-  pairs_append R (x ∷ xs) ys first second between = AllPairs-cons R x (xs ++ ys)
-      (All-append (R x) xs ys (pairs_head R x xs first) (all_from_members (R x) ys (λ y has. between x y (head_stands x xs) has)))
-      (pairs_append R xs ys (pairs_tail R x xs first) second (λ z y has other. between z y (tail_stands x xs z has) other))
 
   -- what follows for members
   pub pairs_also : (R S : X → X → Type 0) (xs : List X) → ((x y : X) → Contains xs x → Contains xs y → R x y → S x y) → AllPairs R xs → AllPairs S xs

@@ -1,5 +1,5 @@
 -- The atoms of a region: one for each tested property of its type.
-use Rattle.std.proofs.Common.{◌≡◌, ◌≢◌, ⊎_elim, ◌==◌, List, [], ◌∷◌, map, find, slice_get, option_map, Contains, Option, Some, None, Bool, true, IsTrue, refl, sym, ap, subst, ◌∙◌}
+use Rattle.std.proofs.Common.{◌≡◌, ◌≢◌, ⊎_elim, ◌==◌, List, [], ◌∷◌, map, find, slice_get, option_map, Contains, Option, Some, None, IsTrue, refl, sym, ap, subst, ◌∙◌}
 use Rattle.std.specs.List.{AllZip}
 use Rattle.std.specs.Option.{option_map_or}
 use Rattle.std.proofs.lemmas.Bool.{cond_both}
@@ -11,6 +11,7 @@ use Rattle.emc_base.specs.Lists.{AreApart}
 use Rattle.emc_base.proofs.Lists.{at_once}
 use Rattle.emc_base.proofs.Mapped.{contains_filter}
 use Rattle.emc_base.proofs.Numbered.{filter_contains, map_contains}
+use Rattle.emc_base.proofs.facts.Found.{found_passes}
 use Rattle.round_trip.specs.Words.{SetId, TypeId, PropId, Prop, At, key_props, props_of}
 use Rattle.member_groups.proofs.joined_groups.Grouping.{joined_free}
 use Rattle.round_trip.specs.soundness.mappings.Joined.{IsNoKey, prop}
@@ -28,17 +29,6 @@ use Rattle.regions.proofs.region_laws.lists.Choices.{choice_each, pairs_head, pa
 use Rattle.regions.proofs.region_laws.listing.Listed.{is_listed, set_is}
 use Rattle.regions.proofs.region_laws.entities.Owning.{declared_above}
 use Rattle.regions.proofs.region_laws.values.Symbols.{Decides-prop}
-
--- what is found passes, and is there
-found_passes : {X : Type 0} (test : X → Bool) (xs : List X) (x : X) → find test xs ≡ Some x → Contains xs x × (test x ≡ true)
-found_passes test [] x found = cc
-found_passes {X} test (y ∷ xs) x found =
-    let P : Option X → Type 0 = λ one. one ≡ Some x → Contains (y ∷ xs) x × (test x ≡ true) in
-    cond_both (test y) (Some y) (find test xs) P
-    (λ told same. let is : y ≡ x = same_Some y x same in
-    (subst (Contains (y ∷ xs)) is (head_stands y xs), (let T : X → Type 0 = λ one. test one ≡ true in subst T is told)))
-    (λ told same. let rest = found_passes test xs x same in (tail_stands y xs x rest.0, rest.1))
-    found
 
 -- items that tell the properties beside them, each once, are found by these
 module _ (R : PropId → AtomOf → Type 0) (names : (p : PropId) (told : AtomOf) → R p told → told.prop ≡ p) where

@@ -1,5 +1,5 @@
 -- Lists of numbers in order, items of a list that are left when others are taken away, and the first two items.
-use Rattle.std.proofs.Common.{◌≡◌, ◌≢◌, ⊎_elim, ℕ, zero, suc, ◌+◌, ◌<◌, ◌≤◌, List, [], ◌∷◌, filter, length, slice_get, unwrap_or, Contains, Bool, true, false, true≢false, not, Decides, refl, sym, ap, subst, arith}
+use Rattle.std.proofs.Common.{◌≡◌, ◌≢◌, ⊎_elim, ℕ, zero, suc, ◌+◌, ◌<◌, ◌≤◌, List, [], ◌∷◌, filter, length, slice_get, unwrap_or, Contains, true, Decides, refl, sym, ap, subst, arith}
 use Rattle.std.specs.List.{list_any}
 use Rattle.std.proofs.lemmas.Bool.Decides.{not_from_Decides}
 use Rattle.std.proofs.lemmas.List.Elements.{All-contains}
@@ -8,6 +8,7 @@ use Rattle.std.proofs.lemmas.List.Kept.{AllPairs-cons, AllPairs-filter}
 use Rattle.emc_base.specs.Lists.{AreApart}
 use Rattle.emc_base.proofs.Lists.{all_from_members}
 use Rattle.emc_base.proofs.Numbered.{filter_contains}
+use Rattle.emc_base.proofs.facts.Tests.{not_true}
 use Rattle.round_trip.specs.Words.{Value}
 use Rattle.schema_laws.specs.state_demand.Selecting.{same_value}
 use Rattle.schema_laws.proofs.state_demand.lists.Lists.{Decides-any, any_of, head_stands, member_cases, none_in_nil, of_any, tail_stands}
@@ -43,10 +44,6 @@ Decides-constant constants v = (
       subst (Contains constants) (sym found.2) found.1,
   λ has. (Decides-any (same_value v) (λ other. v ≡ other) (Decides-value v) constants).1 (any_of (λ other. v ≡ other) constants v has refl),
 )
-
-not_true : (b : Bool) → not b ≡ true → b ≡ false
-not_true true is = absurd (true≢false (sym is))
-not_true false is = refl
 
 pub free_is : (constants : List Value) (v : Value) → is_free constants v ≡ true → ¬ Contains constants v
 free_is constants v free = not_from_Decides (list_any (same_value v) constants) (Decides-constant constants v) (not_true (list_any (same_value v) constants) free)

@@ -3,12 +3,13 @@ use Rattle.std.proofs.Common.{◌≡◌, ◌⊎◌, inl, inr, List, Bool, true, 
 use Rattle.std.proofs.lemmas.List.Elements.{All-contains}
 use Rattle.emc_base.proofs.Mapped.{contains_at}
 use Rattle.emc_base.proofs.Numbered.{map_contains}
+use Rattle.emc_base.proofs.facts.Standing.{some_item}
 use Rattle.round_trip.specs.Words.{SetId, AssocId, Assoc, ColId, Entity, Link, LinkFragment, Pair, State, Table, At, key_columns, key_of, links_in}
 use Rattle.round_trip.specs.FailsAt.{IsHostedAt}
 use Rattle.round_trip.specs.soundness.mappings.Owners.{IsPlaced}
 use Rattle.round_trip.specs.soundness.Stores.{IsSoundTable}
+use Rattle.round_trip.proofs.Lookups.{key_columns_at}
 use Rattle.schema_laws.specs.state_demand.Owners.{IsHostAt, IsHosted, IsLinkOf}
-use Rattle.schema_laws.proofs.state_demand.writings.Fitting.{key_is}
 use Rattle.schema_laws.specs.sound_demand.Fragments.{IsHostedFragment}
 use Rattle.schema_laws.specs.sound_demand.ReadBack.{HasLinkOf}
 use Rattle.schema_laws.proofs.sound_demand.Fitting.{sound_link}
@@ -18,7 +19,6 @@ use Rattle.regions.specs.Basis.{Basis, Host, host_end, host_key}
 use Rattle.regions.specs.region_laws.IsBasis.{IsBasis}
 use Rattle.regions.proofs.region_laws.pattern.symbols.Hosting.{hosted_side, partner_no_key}
 use Rattle.regions.proofs.region_laws.pattern.symbols.Origins.{side}
-use Rattle.region_states.proofs.focus.Listed.{some_member}
 
 module _ (basis : Basis) (is : IsBasis basis) (s : SetId) (pairing : List Pair) (assoc : Assoc) (fragment : LinkFragment) (table : Table)
     (to : IsHostedFragment basis.schema s pairing assoc fragment table) where
@@ -36,8 +36,8 @@ module _ (basis : Basis) (is : IsBasis basis) (s : SetId) (pairing : List Pair) 
   some_pair =
       let sound : IsSoundTable table = All-contains IsSoundTable basis.schema.store.tables table is.sound.store.tables
       (contains_at basis.schema.store.tables fragment.table.index table to.to.is_table) in
-      let col = some_member (key_columns basis.schema.store fragment.table)
-      (λ none. sound.key.some (sym (key_is basis.schema.store fragment.table table to.to.is_table) ∙ none)) in
+      let col = some_item (key_columns basis.schema.store fragment.table)
+      (λ none. sound.key.some (sym (key_columns_at basis.schema.store fragment.table table to.to.is_table) ∙ none)) in
       let pair = map_contains (λ (one : Pair). one.col) pairing col.0 (subst (λ cols. Contains cols col.0) (sym to.owned.cols) col.1) in
       (pair.0, pair.1, subst IsKeyCol (sym pair.2) col.1)
 

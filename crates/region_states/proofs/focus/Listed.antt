@@ -1,16 +1,17 @@
 -- The rows and cells of the pattern of a focus are those of what the focus writes.
-use Rattle.std.proofs.Common.{◌≡◌, ◌≢◌, ◌↔◌, inl, inr, ◌<◌, List, [], ◌∷◌, ◌++◌, length, Contains, false, IsTrue, refl, sym, ap, subst, ◌∙◌}
+use Rattle.std.proofs.Common.{◌≡◌, ◌↔◌, inl, inr, ◌<◌, List, ◌++◌, length, Contains, false, IsTrue, refl, sym, ap, subst, ◌∙◌}
 use Rattle.std.proofs.lemmas.List.Elements.{All-contains}
 use Rattle.emc_base.proofs.Lists.{item_at}
 use Rattle.emc_base.proofs.Mapped.{contains_at}
 use Rattle.emc_base.proofs.Numbered.{map_contains}
+use Rattle.emc_base.proofs.facts.Standing.{some_item}
 use Rattle.round_trip.specs.Words.{TableId, ColId, SetId, Assoc, Column, Cond, CondOn, Fragment, LinkFragment, Pair, Table, Value, At}
 use Rattle.edm_types.specs.declared.mapping.CondOn.TheVariants as on
 use Rattle.round_trip.specs.soundness.mappings.Mappings.{HasFragmentIds, HasLinkFragmentIds, HasPairIds, IsCondId}
 use Rattle.round_trip.specs.soundness.Stores.{IsColId, IsKeyColumn, IsSoundTable, IsTableId}
 use Rattle.member_groups.specs.Tested.{HasCondition}
 use Rattle.schema_laws.specs.state_demand.Owners.{IsJoinedTo, IsOwned}
-use Rattle.schema_laws.proofs.state_demand.lists.Lists.{any_of, head_stands}
+use Rattle.schema_laws.proofs.state_demand.lists.Lists.{any_of}
 use Rattle.schema_laws.proofs.sound_demand.Fitting.{columns_are, link_ids, sound_fragment}
 use Rattle.regions.specs.declared.region.Region.{Region}
 use Rattle.regions.specs.declared.pattern.Symbol.{Symbol}
@@ -31,11 +32,6 @@ use Rattle.regions.proofs.region_laws.pattern.Keys.{owned_here}
 use Rattle.regions.proofs.region_laws.pattern.symbols.Origins.{From, IsRegionWriter, by_cond, by_end, by_host, by_pair, chosen_of, is_from, link_of, region_writer}
 use Rattle.regions.proofs.region_laws.pattern.symbols.Hosting.{one_link, side_among}
 use Rattle.region_states.specs.focus.Held.{HasRow, ListsValue}
-
--- a list that isn't empty has a member
-pub some_member : {X : Type 0} (xs : List X) → xs ≢ [] → (x : X) × Contains xs x
-some_member [] some = absurd (some refl)
-some_member (x ∷ xs) some = (x, head_stands x xs)
 
 module _ (basis : Basis) (is : IsBasis basis) where
   abbrev HasTable : TableId → Type 0
@@ -166,7 +162,7 @@ module _ (basis : Basis) (is : IsBasis basis) where
       let table : Table = found.1 in
       let sound : IsSoundTable table = All-contains IsSoundTable basis.schema.store.tables table is.sound.store.tables
       (contains_at basis.schema.store.tables t.index table found.2) in
-      let col = some_member table.key sound.key.some in
+      let col = some_item table.key sound.key.some in
       let key : IsKeyColumn table col.0 = All-contains (IsKeyColumn table) table.key col.0 sound.key.columns col.1 in
       let cell : HasCell (pattern_of basis (focus.Entity region)) t col.0 (cell_symbols writings t col.0) = record {
         row = pattern_row writings t table;

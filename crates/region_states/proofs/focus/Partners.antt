@@ -1,8 +1,9 @@
 -- An entity that a region holds with its partners: the region holds it with the links that it hosts, and has a flag just where one is there.
-use Rattle.std.proofs.Common.{◌≡◌, ⊎_elim, List, [], Bool, true, false, not, if◌then◌else◌, Any, Contains, refl, sym, ap, subst, ◌∙◌}
+use Rattle.std.proofs.Common.{◌≡◌, ⊎_elim, List, [], Bool, Any, Contains, refl, sym, ap, subst, ◌∙◌}
 use Rattle.emc_base.proofs.Lists.{all_from_members}
 use Rattle.emc_base.proofs.Mapped.{contains_filter}
 use Rattle.emc_base.proofs.Numbered.{filter_contains}
+use Rattle.emc_base.proofs.facts.Tests.{not_is}
 use Rattle.round_trip.specs.Words.{SetId, AssocId, PropId, Entity, Hosted, Link, State, Value, key_of, links_in}
 use Rattle.schema_laws.specs.state_demand.Selecting.{same_key}
 use Rattle.schema_laws.proofs.state_demand.writings.Decisions.{so_or_not}
@@ -20,10 +21,6 @@ use Rattle.regions.specs.region_laws.pattern.Allowed.{ArePartners}
 use Rattle.regions.proofs.region_laws.pattern.symbols.Origins.{linked_decided}
 use Rattle.regions.proofs.region_laws.pattern.types.Regions.{parts_of}
 use Rattle.region_states.specs.focus.Held.{IsHeldAt}
-
-not_is : (b : Bool) → not b ≡ (if b then false else true)
-not_is true = refl
-not_is false = refl
 
 -- the flag of a host tells whether a link stands at the entity
 module _ (basis : Basis) (state : State) (s : SetId) (entity : Entity) (region : Region) (part : AssocId → Bool → PropId → Value)

@@ -1,19 +1,17 @@
 -- Where no legal state fails and no association is independent, legal states with the same tables are the same.
-use Rattle.std.proofs.Common.{◌≡◌, ⊎_elim, inl, ◌<◌, ◌≤◌, List, [], length, Contains, IsPermutation, refl, sym, subst, ◌∙◌}
+use Rattle.std.proofs.Common.{◌≡◌, ⊎_elim, inl, ◌<◌, ◌≤◌, [], length, Contains, IsPermutation, refl}
 use Rattle.std.proofs.lemmas.Bool.{cases_lt}
 use Rattle.std.proofs.lemmas.List.Elements.{All-contains}
-use Rattle.std.proofs.lemmas.List.Sorted.{IsPermutation-refl, IsPermutation-sym, Contains-permutation}
+use Rattle.std.proofs.lemmas.List.Sorted.{IsPermutation-sym, Contains-permutation}
 use Rattle.emc_base.proofs.Lists.{item_at}
+use Rattle.emc_base.proofs.facts.Pairs.{both_none}
+use Rattle.emc_base.proofs.facts.Standing.{none_stands}
 use Rattle.round_trip.specs.Words.{AreSameTables, Assoc, AssocId, At, Entity, EntitySet, IsIndependent, IsLegal, IsLink, IsSameState, Keeps, RoundTrips, Schema, SetId, State, Tables, TablesAre, entities_in, key_of, links_in, place_at, rows_in}
 use Rattle.round_trip.specs.declared.FailKind.TheVariants as kind
 use Rattle.round_trip.specs.soundness.mappings.Mappings.{IsSoundSchema}
 use Rattle.schema_laws.proofs.sound_demand.Kept.{all_stored}
 use Rattle.schema_laws.proofs.state_demand.lists.Permutations.{same_members_permute}
-use Rattle.schema_laws.proofs.kept_states.Entities.{apart_by_key, none_stands, past_none, stands_or_not}
-
--- two empty lists are the same
-both_none : {X : Type 0} (xs ys : List X) → xs ≡ [] → ys ≡ [] → IsPermutation xs ys
-both_none xs ys no_xs no_ys = subst (IsPermutation xs) (no_xs ∙ sym no_ys) (IsPermutation-refl xs)
+use Rattle.schema_laws.proofs.kept_states.Entities.{apart_by_key, past_none, stands_or_not}
 
 module _ (schema : Schema) (round_trips : RoundTrips schema) where
   -- a set of the model holds each entity of the one state in the other too

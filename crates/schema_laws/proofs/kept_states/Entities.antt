@@ -1,10 +1,10 @@
 -- Whether two entities are one is decided, and whether an entity stands in a list; lists of a state past those of its model are empty.
-use Rattle.std.proofs.Common.{◌≡◌, ◌≢◌, ◌⊎◌, ◌==◌, inl, inr, ⊎_elim, ℕ, ◌≤◌, List, [], ◌∷◌, length, AllPairs, Contains, refl, sym, ap, subst, slice_get, unwrap_or, arith}
+use Rattle.std.proofs.Common.{◌≡◌, ◌≢◌, ◌⊎◌, ◌==◌, inl, inr, ⊎_elim, ℕ, ◌≤◌, List, [], length, AllPairs, Contains, refl, sym, ap, subst, slice_get, unwrap_or, arith}
 use Rattle.std.proofs.lemmas.Bool.Decides.{Decides-eqb, Decides-like}
 use Rattle.std.proofs.lemmas.Option.{slice_get_past}
 use Rattle.round_trip.specs.Words.{Entity, TypeId}
 use Rattle.schema_laws.proofs.state_demand.writings.Decisions.{both_or_not, key_or_not, so_or_not}
-use Rattle.schema_laws.proofs.state_demand.lists.Lists.{any_or_none, head_stands}
+use Rattle.schema_laws.proofs.state_demand.lists.Lists.{any_or_none}
 
 -- two types are one, or they aren't
 type_or_not : (one two : TypeId) → (one ≡ two) ⊎ (one ≢ two)
@@ -28,11 +28,6 @@ stands_or_not entities entity = ⊎_elim
 -- items with different keys are different
 pub apart_by_key : {X Y : Type 0} (key : X → Y) (xs : List X) → AllPairs (λ a b. key a ≢ key b) xs → AllPairs (λ a b. a ≢ b) xs
 apart_by_key key xs apart i j d below within same = apart i j d below within (ap key same)
-
--- where nothing stands in a list, it is empty
-pub none_stands : {X : Type 0} (xs : List X) → ((x : X) → ¬ Contains xs x) → xs ≡ []
-none_stands [] none = refl
-none_stands (x ∷ xs) none = absurd (none x (head_stands x xs))
 
 -- past the lists of a state nothing stands
 pub past_none : {X : Type 0} (lists : List (List X)) (count i : ℕ) → length lists ≡ count → count ≤ i → unwrap_or (slice_get lists i) [] ≡ []

@@ -9,7 +9,8 @@ use Rattle.round_trip.specs.Words.{EntityModel, EntityType, TypeId, HasBase, IsA
 use Rattle.edm_types.specs.IsA.{same, base, chain}
 use Rattle.round_trip.specs.soundness.models.Models.{IsSoundModel}
 use Rattle.graphs.proofs.base_chains.Chains.{Ends}
-use Rattle.schema_laws.proofs.sound_types.BasePlaces.{base_ends, base_here, base_place, first_step}
+use Rattle.edm_types.proofs.Lookups.{first_step}
+use Rattle.schema_laws.proofs.sound_types.BasePlaces.{base_ends, base_here, base_place}
 use Rattle.schema_laws.specs.state_demand.Selecting.{DecidesTypes}
 use Rattle.schema_laws.specs.sound_demand.Deriving.{base_of, derives, is_under}
 

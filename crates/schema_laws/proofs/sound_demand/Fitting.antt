@@ -12,8 +12,8 @@ use Rattle.round_trip.specs.soundness.Lookups.{columns_of, set_key}
 use Rattle.round_trip.specs.soundness.mappings.Mappings.{HasLinkFragmentIds, HasPairIds, IsCondId, IsSoundFragment, IsSoundLinkFragment, IsSoundSchema}
 use Rattle.round_trip.specs.soundness.mappings.Owners.{IsJoined, IsPlaced}
 use Rattle.round_trip.specs.soundness.Stores.{IsColId}
+use Rattle.round_trip.proofs.Lookups.{assoc_of, key_columns_at}
 use Rattle.schema_laws.specs.state_demand.WellWritten.{FitsTable, HasAssocs, HasCol, HasTables, IsOnColumn, IsWellWritten, cols_of}
-use Rattle.schema_laws.proofs.state_demand.writings.Fitting.{key_is}
 use Rattle.schema_laws.proofs.state_demand.lists.Lists.{of_any}
 
 -- the columns of a table
@@ -26,9 +26,6 @@ module _ (schema : Schema) (sound : IsSoundSchema schema) where
 
   pub link_ids : (fragment : LinkFragment) → Contains schema.mapping.links fragment → HasLinkFragmentIds schema fragment
   link_ids fragment mapped = All-contains (HasLinkFragmentIds schema) schema.mapping.links fragment sound.mapping.link_ids mapped
-
-  pub assoc_of : (fragment : LinkFragment) → Contains schema.mapping.links fragment → (assoc : Assoc) × At schema.model.assocs fragment.assoc.index assoc
-  assoc_of fragment mapped = item_at schema.model.assocs fragment.assoc.index (link_ids fragment mapped).assoc
 
   pub sound_link : (fragment : LinkFragment) → Contains schema.mapping.links fragment → (assoc : Assoc) → At schema.model.assocs fragment.assoc.index assoc
       → IsSoundLinkFragment schema fragment assoc
@@ -45,7 +42,7 @@ module _ (schema : Schema) (sound : IsSoundSchema schema) where
   }
 
   pub has_assocs : HasAssocs schema
-  has_assocs = all_from_members (λ (fragment : LinkFragment). (assoc : Assoc) × At schema.model.assocs fragment.assoc.index assoc) schema.mapping.links assoc_of
+  has_assocs = all_from_members (λ (fragment : LinkFragment). (assoc : Assoc) × At schema.model.assocs fragment.assoc.index assoc) schema.mapping.links (assoc_of schema sound)
 
   module _ (t : TableId) (table : Table) (here : At schema.store.tables t.index table) where
     col_here : (col : ColId) → IsColId schema.store t col → HasCol table col
@@ -62,7 +59,7 @@ module _ (schema : Schema) (sound : IsSoundSchema schema) where
         col_here col (subst (IsCondId schema t) is inside))
 
     key_here : (cols : List ColId) → All (Contains cols) (key_columns schema.store t) → All (Contains cols) table.key
-    key_here cols all = subst (All (Contains cols)) (key_is schema.store t table here) all
+    key_here cols all = subst (All (Contains cols)) (key_columns_at schema.store t table here) all
 
   fragment_fits : (fragment : Fragment) → Contains schema.mapping.fragments fragment → (table : Table) → At schema.store.tables fragment.table.index table
       → FitsTable table (cols_of fragment.pairs) fragment.conds
@@ -102,7 +99,7 @@ module _ (schema : Schema) (sound : IsSoundSchema schema) where
       → FitsTable table (cols_of (fragment.first ++ fragment.second)) fragment.conds
   link_fits fragment mapped table here =
       let ids = link_ids fragment mapped in
-      let assoc = assoc_of fragment mapped in
+      let assoc = assoc_of schema sound fragment mapped in
       let is = sound_link fragment mapped assoc.0 assoc.1 in
       record {
         writes_key = key_here fragment.table table here (cols_of (fragment.first ++ fragment.second)) (placed_key fragment assoc.0 is.placed);

@@ -13,8 +13,9 @@ use Rattle.round_trip.specs.soundness.mappings.Fragments.{WritesToFitting}
 use Rattle.round_trip.specs.soundness.Kinds.{Corresponds, IsNoSmaller, IsSoundEnum, IsSoundKind, under_kind}
 use Rattle.round_trip.specs.soundness.Lookups.{column_kind, prop_kind}
 use Rattle.round_trip.specs.soundness.mappings.Mappings.{HasPairIds, IsSoundSchema}
+use Rattle.round_trip.proofs.Lookups.{assoc_of}
 use Rattle.schema_laws.specs.state_demand.WellWritten.{HoldsCells, HoldsConstant, HoldsPair, HoldsValues}
-use Rattle.schema_laws.proofs.sound_demand.Fitting.{assoc_of, columns_are, link_ids, sound_fragment, sound_link}
+use Rattle.schema_laws.proofs.sound_demand.Fitting.{columns_are, link_ids, sound_fragment, sound_link}
 
 -- what is within a bound is within one that is no smaller
 within_wider : (bound wide : Option ℕ) (count : ℕ) → IsNoSmaller bound wide → IsWithin bound count → IsWithin wide count

@@ -7,31 +7,23 @@ use Rattle.std.proofs.lemmas.List.Elements.{All-contains}
 use Rattle.emc_base.specs.Lists.{AreApart}
 use Rattle.emc_base.proofs.Lists.{item_at}
 use Rattle.emc_base.proofs.Mapped.{contains_at}
-use Rattle.round_trip.specs.Words.{EntityModel, EntityType, PropId, TypeId, HasBase, IsA, At, key_props}
-use Rattle.edm_types.specs.IsA.{same, base, chain}
+use Rattle.round_trip.specs.Words.{EntityModel, EntityType, PropId, TypeId, HasBase, At, key_props}
 use Rattle.round_trip.specs.soundness.models.Inheritance.{IsRootKey}
 use Rattle.round_trip.specs.soundness.models.ModelIds.{IsTypeId}
 use Rattle.round_trip.specs.soundness.models.Models.{IsSoundModel}
 use Rattle.graphs.proofs.base_chains.Chains.{Ends}
+use Rattle.edm_types.proofs.Lookups.{key_at}
+use Rattle.round_trip.proofs.Lookups.{inherited_key}
 use Rattle.schema_laws.proofs.sound_types.BasePlaces.{base_ends, base_here, base_place}
 use Rattle.schema_laws.specs.state_demand.Owners.{InheritsKeys}
 
 module _ (model : EntityModel) (sound : IsSoundModel model) where
-  -- the key of a type that stands in the model
-  key_at : (t : TypeId) (type : EntityType) → At model.types t.index type → key_props model t ≡ type.key
-  key_at t type here = ap (λ found. option_map_or (λ (one : EntityType). one.key) found []) here
-
   base_key : (t u : TypeId) → HasBase model t u → key_props model t ≡ key_props model u
   base_key t u (type, here, is) =
-      key_at t type here ∙ MatchOption-at_some (IsRootKey model t type.key) (λ above. type.key ≡ key_props model above) u is (sound.types t type here).key
-
-  same_key : (t u : TypeId) → IsA model t u → key_props model t ≡ key_props model u
-  same_key t u (same _) = refl
-  same_key t u (base _ _ has) = base_key t u has
-  same_key t u (chain _ v _ first second) = same_key t v first ∙ same_key v u second
+      key_at model t type here ∙ MatchOption-at_some (IsRootKey model t type.key) (λ above. type.key ≡ key_props model above) u is (sound.types t type here).key
 
   pub inherits_keys : InheritsKeys model
-  inherits_keys = record { same = same_key }
+  inherits_keys = record { same = inherited_key model sound }
 
   nil_apart : (props : List PropId) → props ≡ [] → AreApart props
   nil_apart props none = let nothing : AreApart {X = PropId} [] = λ i j d below within. absurd (omega arith) in subst AreApart (sym none) nothing
@@ -44,7 +36,7 @@ module _ (model : EntityModel) (sound : IsSoundModel model) where
       by_base : (type : EntityType) → At model.types t.index type → ((u : TypeId) → HasBase model t u → AreApart (key_props model u)) → (above : Option TypeId)
           → type.base ≡ above → AreApart (key_props model t)
       by_base type here up None none =
-          subst AreApart (sym (key_at t type here))
+          subst AreApart (sym (key_at model t type here))
           (MatchOption-at_none (IsRootKey model t type.key) (λ one. type.key ≡ key_props model one) none (sound.types t type here).key).once
       by_base type here up (Some u) is =
           let has : HasBase model t u = (type, here, is) in
@@ -76,7 +68,7 @@ module _ (model : EntityModel) (sound : IsSoundModel model) where
     where
       by : (above : Option TypeId) → type.base ≡ above → ((u : TypeId) → HasBase model t u → key_props model u ≢ []) → key_props model t ≢ []
       by None none up empty =
-          (MatchOption-at_none (IsRootKey model t type.key) (λ one. type.key ≡ key_props model one) none (sound.types t type here).key).some (sym (key_at t type here) ∙ empty)
+          (MatchOption-at_none (IsRootKey model t type.key) (λ one. type.key ≡ key_props model one) none (sound.types t type here).key).some (sym (key_at model t type here) ∙ empty)
       by (Some u) is up empty = let has : HasBase model t u = (type, here, is) in up u has (sym (base_key t u has) ∙ empty)
 
   -- a key has a property

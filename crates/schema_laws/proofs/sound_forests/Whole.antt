@@ -38,7 +38,8 @@ module _ (model : EntityModel) where
   at_type : (i : ℕ) (type : EntityType) → At model.types i type → base_place i ≡ option_map (λ (above : TypeId). above.index) type.base
   at_type i type here = ap (option_and_then (λ (type : EntityType). option_map (λ (above : TypeId). above.index) type.base)) here
 
-  has_base : (i j : ℕ) → base_place i ≡ Some j → HasBase model (type_numbered i) (type_numbered j)
+  -- and what has a place is a base type
+  pub has_base : (i j : ℕ) → base_place i ≡ Some j → HasBase model (type_numbered i) (type_numbered j)
   has_base i j is = by (slice_get model.types i) refl is
     where
       named : (found : Option TypeId) → option_map (λ (above : TypeId). above.index) found ≡ Some j → found ≡ Some (type_numbered j)
@@ -64,7 +65,7 @@ module _ (model : EntityModel) where
       subst P has.2 (All-contains (λ (type : EntityType). P type.base) model.types has.0 ids (contains_at model.types i has.0 has.1))
 
   -- what stands above a place is an ancestor of its type
-  derived : (i j : ℕ) → IsAncestor base_place i j → IsAbove model (type_numbered j) (type_numbered i)
+  pub derived : (i j : ℕ) → IsAncestor base_place i j → IsAbove model (type_numbered j) (type_numbered i)
   derived i j (direct _ _ is) = (type_numbered j, has_base i j is, same (type_numbered j))
   derived i j (further _ k _ is rest) =
       let up = derived k j rest in

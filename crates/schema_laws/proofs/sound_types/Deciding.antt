@@ -8,8 +8,9 @@ use Rattle.edm_types.specs.Forest.{type_numbered}
 use Rattle.edm_types.specs.IsA.{same, base, chain}
 use Rattle.round_trip.specs.soundness.models.Models.{IsSoundModel}
 use Rattle.graphs.proofs.base_chains.Chains.{Ends}
+use Rattle.edm_types.proofs.Lookups.{first_step}
 use Rattle.schema_laws.proofs.sound_forests.Whole.{base_place}
-use Rattle.schema_laws.proofs.sound_types.BasePlaces.{base_ends, base_here, based_here, first_step}
+use Rattle.schema_laws.proofs.sound_types.BasePlaces.{base_ends, base_here, based_here}
 
 module _ (model : EntityModel) (u : TypeId) where
   -- it is u or derived from it, or it isn't

@@ -1,16 +1,15 @@
 -- In a sound model a type has each property and each name once: what it inherits is declared above it, under other names, and no type stands
 -- above itself.
-use Rattle.std.proofs.Common.{◌≡◌, ◌≢◌, ◌==◌, ⊎_elim, inl, inr, ℕ, zero, suc, ◌+◌, ◌<◌, List, [], ◌∷◌, ◌++◌, length, map, filter, get_or, slice_get, All, AllPairs, Contains, Option, Some, None, Bool, refl, sym, ap, subst, ◌∙◌, arith}
+use Rattle.std.proofs.Common.{◌≡◌, ◌≢◌, ◌==◌, ⊎_elim, inl, inr, ℕ, zero, suc, ◌+◌, ◌<◌, List, [], ◌++◌, length, map, filter, get_or, slice_get, AllPairs, Contains, Option, Some, None, Bool, refl, sym, ap, subst, ◌∙◌, arith}
 use Rattle.std.specs.Bool.{⊤}
 use Rattle.std.specs.List.{enumerate_from}
 use Rattle.std.specs.Option.{option_map_or}
 use Rattle.std.proofs.lemmas.Bool.Decides.{Decides-eqb}
 use Rattle.std.proofs.lemmas.List.{get_or_append_left, get_or-map, length-append, length-map}
-use Rattle.std.proofs.lemmas.List.Elements.{All-append, All-contains, Contains-append_cases, Contains-append_left, Contains-get_or}
-use Rattle.std.proofs.lemmas.List.Kept.{AllPairs-cons}
+use Rattle.std.proofs.lemmas.List.Elements.{All-contains, Contains-append_cases, Contains-append_left, Contains-get_or}
 use Rattle.std.proofs.lemmas.Option.{MatchOption-at_some, slice_get_within}
 use Rattle.emc_base.specs.Lists.{At, AreApart, places_of}
-use Rattle.emc_base.proofs.Lists.{all_from_members, at_once, item_at}
+use Rattle.emc_base.proofs.Lists.{at_once, item_at}
 use Rattle.emc_base.proofs.Mapped.{contains_at, contains_filter, contains_map, map-filter_enumerated}
 use Rattle.emc_base.proofs.Numbered.{all_pairs_map, at_places, enumerated_at, filter_contains, map_contains, places_rise}
 use Rattle.round_trip.specs.Words.{EntityModel, EntityType, Prop, PropId, TypeId, props_of}
@@ -21,23 +20,10 @@ use Rattle.round_trip.specs.soundness.models.Models.{IsSoundModel}
 use Rattle.graphs.specs.base_chains.Chains.{IsAncestor, IsUpFrom, direct, further}
 use Rattle.graphs.proofs.base_chains.Chains.{Ends}
 use Rattle.emc_base.proofs.Members.{contains_nil}
+use Rattle.emc_base.proofs.facts.Pairs.{pairs_append, pairs_nil}
 use Rattle.schema_laws.proofs.sound_forests.Whole.{base_place}
 use Rattle.schema_laws.specs.sound_types.PropNames.{HaveOtherNames}
 use Rattle.schema_laws.proofs.sound_types.BasePlaces.{above as is_above, ancestor_within, base_ends, base_here, none_above_itself}
-
-module _ {X : Type 0} where
-  pairs_nil : (R : X → X → Type 0) → AllPairs R []
-  pairs_nil R i j d below within = absurd (omega arith)
-
-  -- two lists behind one another: what is so by pairs in each, and between the two
-  pairs_append : (R : X → X → Type 0) (xs ys : List X) → AllPairs R xs → AllPairs R ys → ((x y : X) → Contains xs x → Contains ys y → R x y) → AllPairs R (xs ++ ys)
-  pairs_append R [] ys first second between = second
-  pairs_append R (x ∷ xs) ys first second between =
-      let rest : AllPairs R xs = λ i j d below within. first (suc i) (suc j) d (omega arith) (omega arith) in
-      let head : All (R x) xs = λ k d within. first 0 (suc k) d (omega arith) (omega arith) in
-      let other : All (R x) ys = all_from_members (R x) ys (λ y has. between x y (0, omega arith, refl) has) in
-      AllPairs-cons R x (xs ++ ys) (All-append (R x) xs ys head other)
-      (pairs_append R xs ys rest second (λ y z upper. between y z (suc upper.0, (let within : upper.0 < length xs = upper.1 in omega arith), upper.2)))
 
 module _ (model : EntityModel) (sound : IsSoundModel model) where
   -- the property is declared by the type at this place or by one above it

@@ -7,7 +7,8 @@ use Rattle.std.proofs.lemmas.List.{get_or-replicate, length-replicate, length-ta
 use Rattle.std.proofs.lemmas.Option.{slice_get-get_or, slice_get_past, slice_get_within}
 use Rattle.emc_base.specs.Lists.{At}
 use Rattle.emc_base.proofs.Loops.{take_item}
-use Rattle.groupings.proofs.name_places.Positions.{position_passes, position_push}
+use Rattle.emc_base.proofs.facts.Found.{position_passes}
+use Rattle.groupings.proofs.name_places.Positions.{position_push}
 use Rattle.csdl_names.specs.declared.csdl_lists.raw.RawModel.{RawModel}
 use Rattle.csdl_names.specs.declared.csdl_lists.raw.RawSet.{RawSet}
 use Rattle.csdl_names.specs.csdl_lists.References.{names_in}

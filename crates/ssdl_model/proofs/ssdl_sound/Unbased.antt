@@ -4,6 +4,7 @@ use Rattle.std.specs.Option.{option_and_then, option_map_or, option_or, unwrap_o
 use Rattle.std.proofs.lemmas.List.Elements.{All-contains}
 use Rattle.emc_base.specs.Lists.{At}
 use Rattle.emc_base.proofs.Mapped.{contains_at}
+use Rattle.emc_base.proofs.facts.Found.{or_none}
 use Rattle.graphs.specs.base_chains.Chains.{chain_upto, root}
 use Rattle.csdl_names.specs.declared.csdl_lists.raw.RawModel.{RawModel}
 use Rattle.csdl_names.specs.declared.csdl_lists.raw.RawType.{RawType}
@@ -13,11 +14,6 @@ use Rattle.csdl_associations.specs.csdl_constraints.Sides.{key_names}
 use Rattle.csdl_meaning.specs.Meaning.{base_in}
 use Rattle.ssdl_model.specs.ssdl_lists.RawStore.{IsUnbased}
 use Rattle.ssdl_model.specs.ssdl_making.StoreMeaning.{key_of_type}
-
--- nothing else is looked for
-or_none : {X : Type 0} (found : Option X) → option_or found None ≡ found
-or_none None = refl
-or_none (Some x) = refl
 
 module _ (raw : RawModel) (unbased : IsUnbased raw) where
   -- no type names a base type

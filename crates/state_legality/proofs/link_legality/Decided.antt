@@ -6,18 +6,13 @@ use Rattle.std.proofs.lemmas.Bool.{both_ways, cases_eq}
 use Rattle.std.proofs.lemmas.Option.{slice_get-get_or}
 use Rattle.emc_base.specs.Lists.{At, AtMostOne}
 use Rattle.emc_base.specs.Order.{value_cmp}
+use Rattle.emc_base.proofs.facts.Keys.{tied_keys}
 use Rattle.round_trip.specs.Words.{Value, Link, Mult, HasCount}
 use Rattle.edm_types.specs.declared.model.Mult.TheVariants.{One, ZeroOrOne, Many}
-use Rattle.state_legality.proofs.link_legality.Holding.{tied_keys}
 
 -- it holds, or it doesn't
 abbrev pub Decided : Type 0 → Type 0
 Decided P = P ⊎ ¬ P
-
-pub both_decided : {P Q : Type 0} → Decided P → Decided Q → Decided (P × Q)
-both_decided (inl p) (inl q) = inl (p, q)
-both_decided (inl p) (inr not) = inr (λ pair. not pair.1)
-both_decided (inr not) other = inr (λ pair. not pair.0)
 
 -- two keys are equal or they aren't
 pub keys_decided : (one other : List Value) → Decided (one ≡ other)

@@ -1,17 +1,18 @@
 -- Links by the keys at their ends, and the first that stands twice.
-use Rattle.std.proofs.Common.{◌≡◌, ◌↔◌, ℕ, ◌<◌, List, [], ◌∷◌, ◌++◌, length, get_or, map, Option, Some, None, slice_get, IsTrue, refl, sym, ap, subst, ◌∙◌, arith}
+use Rattle.std.proofs.Common.{◌≡◌, ◌↔◌, ℕ, ◌<◌, List, [], ◌∷◌, ◌++◌, length, get_or, map, Option, Some, None, IsTrue, refl, sym, ap, subst, ◌∙◌, arith}
 use Rattle.std.specs.Borrow.{Bor}
 use Rattle.std.specs.Cmp.{Equal-is}
 use Rattle.std.specs.Cmp.Lexicographic.{slice_cmp}
 use Rattle.std.specs.declared.cmp.Ordering.{Ordering}
 use Rattle.std.specs.declared.cmp.Ordering.TheVariants.{Less, Equal, Greater}
-use Rattle.std.specs.Option.{option_map}
 use Rattle.std.specs.Ordering.{eq_by_cmp, is_eq, ordering_then}
 use Rattle.std.proofs.lemmas.List.{get_or-map, length-map}
-use Rattle.std.proofs.lemmas.Option.{same_Some, slice_get-map, slice_get_read, slice_get_within, none-some}
-use Rattle.emc_base.specs.Lists.{At}
+use Rattle.std.proofs.lemmas.Option.{slice_get_read, slice_get_within}
 use Rattle.emc_base.specs.Order.{value_cmp}
 use Rattle.emc_base.specs.OrderLaws.{key_cmp_apart}
+use Rattle.emc_base.proofs.facts.Images.{map_at}
+use Rattle.emc_base.proofs.Joined.{at_map}
+use Rattle.emc_base.proofs.facts.Keys.{tied_keys}
 use Rattle.groupings.specs.least_fault.Least.{IsLeast}
 use Rattle.round_trip.specs.Words.{AssocId, Assoc, Link, Place, Value, place_at}
 use Rattle.entity_state.specs.breach_order.Founds.{found_cmp}
@@ -20,19 +21,8 @@ use Rattle.entity_state.proofs.breach_order.FirstFound.{first_repeat_found}
 use Rattle.entity_state.specs.declared.breach_order.found.Found.{Found}
 use Rattle.state_legality.specs.link_legality.Once.{link_of}
 use Rattle.state_legality.specs.link_legality.Tells.{HasDouble}
-use Rattle.state_legality.proofs.link_legality.Holding.{tied_keys}
 
 module _ {X Y : Type 0} (f : X → Y) where
-  at_map : (xs : List X) (i : ℕ) (x : X) → At xs i x → At (map f xs) i (f x)
-  at_map xs i x here = slice_get-map f xs i ∙ ap (option_map f) here
-
-  at_of_map : (xs : List X) (i : ℕ) (y : Y) → At (map f xs) i y → (x : X) × At xs i x × (f x ≡ y)
-  at_of_map xs i y here = by (slice_get xs i) refl
-    where
-      by : (item : Option X) → slice_get xs i ≡ item → (x : X) × At xs i x × (f x ≡ y)
-      by None none = absurd (none-some y (sym (slice_get-map f xs i ∙ ap (option_map f) none) ∙ here))
-      by (Some x) is = (x, is, same_Some (f x) y (sym (slice_get-map f xs i ∙ ap (option_map f) is) ∙ here))
-
   -- items that are alike where their images are equal: the first repeat is that of the images
   pub repeat_of_images : (Like : X → X → Type 0) → ((x y : X) → Like x y ↔ (f x ≡ f y)) → (xs : List X) (first : Option ℕ)
       → IsFirstRepeat Like xs first → IsFirstRepeat (λ (one : Y) (other : Y). one ≡ other) (map f xs) first
@@ -58,13 +48,13 @@ module _ {X Y : Type 0} (f : X → Y) where
       before = first.0.before;
       item = f first.0.item;
       other = f first.0.other;
-      here = at_map xs place first.0.item first.0.here;
-      there = at_map xs first.0.earlier first.0.other first.0.there;
+      here = at_map f xs place first.0.item first.0.here;
+      there = at_map f xs first.0.earlier first.0.other first.0.there;
       like = (alike first.0.other first.0.item).0 first.0.like;
     },
     λ other repeat.
-        (let here = at_of_map xs other repeat.item repeat.here in
-        let there = at_of_map xs repeat.earlier repeat.other repeat.there in
+        (let here = map_at f xs other repeat.item repeat.here in
+        let there = map_at f xs repeat.earlier repeat.other repeat.there in
         first.1 other (record {
           earlier = repeat.earlier;
           before = repeat.before;

@@ -3,19 +3,15 @@ use Rattle.std.proofs.Common.{◌≡◌, ⊎_elim, inl, inr, ℕ, List, [], ◌�
 use Rattle.emc_base.specs.Lists.{At}
 use Rattle.groupings.specs.least_fault.Least.{Among, IsLeast}
 use Rattle.groupings.proofs.least_fault.Leasts.{least_same}
-use Rattle.round_trip.specs.Words.{AssocId, EntityModel, Assoc, Constraint, Link, State, Place, place_at, key_of, IsIndependent, links_in}
+use Rattle.round_trip.specs.Words.{AssocId, EntityModel, Assoc, Constraint, Link, State, place_at, key_of, IsIndependent, links_in}
 use Rattle.round_trip.specs.legality.Breaches.{BreaksEnd, BreaksOnce, BreaksCount, BreaksPrincipal}
 use Rattle.entity_state.specs.breach_order.Founds.{found_cmp}
 use Rattle.entity_state.specs.declared.breach_order.found.Found.{Found}
+use Rattle.entity_state.proofs.breach_order.Finds.{from_parts}
 use Rattle.state_legality.specs.declared.link_legality.side.Side.{Side}
 use Rattle.state_legality.specs.declared.link_legality.side.Side.TheVariants.{First, Second}
 use Rattle.state_legality.specs.link_legality.Principals.{IsLostAt}
 use Rattle.state_legality.specs.link_legality.Tells.{BreaksLinks, HasLooseLink, HasMiscounted, HasDouble, BreaksAtSide, BreaksIndependent, BreaksAssoc}
-
--- a breach by its parts
-from_parts : (found : Found) (rule : ℕ) (spot : List ℕ) (place : Place) → found.rule ≡ rule → found.spot ≡ spot → found.place ≡ place
-    → found ≡ record { rule = rule; spot = spot; place = place }
-from_parts found rule spot place is_rule is_spot is_place = λ i. record { rule = is_rule i; spot = is_spot i; place = is_place i }
 
 module _ (model : EntityModel) (state : State) where
   -- what breaks a rule at the association of this number

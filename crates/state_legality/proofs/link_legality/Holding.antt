@@ -1,24 +1,17 @@
 -- A set that grows with what the items of a list have.
 use Rattle.std.proofs.Common.{◌≡◌, ◌↔◌, ◌⊎◌, ⊎_elim, inl, inr, ℕ, ◌+◌, ◌<◌, ◌≤◌, List, length, Some, Bool, true, false, cond, IsTrue, refl, sym, ap, subst, ◌∙◌, arith}
 use Rattle.std.specs.BTreeSet.{BTreeSet, contains, Updates}
-use Rattle.std.specs.Cmp.{Equal-is, tied_itself}
 use Rattle.std.specs.Cmp.Lexicographic.{slice_cmp}
-use Rattle.std.specs.Ordering.{eq_by_cmp, is_eq}
+use Rattle.std.specs.Ordering.{eq_by_cmp}
 use Rattle.std.proofs.lemmas.Bool.{both_ways, cases_eq}
 use Rattle.std.proofs.lemmas.Option.{get_or_from_slice_get, slice_get-get_or, slice_get_within}
 use Rattle.emc_base.specs.Lists.{At}
 use Rattle.emc_base.specs.Order.{value_cmp}
-use Rattle.emc_base.specs.OrderLaws.{key_cmp_apart, key_cmp_total}
 use Rattle.emc_base.proofs.Lists.{at_once}
+use Rattle.emc_base.proofs.facts.Keys.{tied_keys}
+use Rattle.emc_base.proofs.facts.Tests.{by_new, by_old}
 use Rattle.round_trip.specs.Words.{Value}
 use Rattle.state_legality.specs.link_legality.Ends.{HoldsJust}
-
--- keys that their order ties are equal, and the other way
-pub tied_keys : (one other : List Value) → IsTrue (eq_by_cmp (slice_cmp value_cmp) one other) ↔ (one ≡ other)
-tied_keys one other = (
-  λ tied. key_cmp_apart one other ((Equal-is (slice_cmp value_cmp one other)).0 tied),
-  λ same. ap is_eq (ap (slice_cmp value_cmp one) (sym same) ∙ tied_itself key_cmp_total one),
-)
 
 -- a set has one list of values more
 pub updated : (held after : BTreeSet (List Value)) (added : List Value) → Updates (slice_cmp value_cmp) held after added true → (values : List Value)
@@ -26,22 +19,14 @@ pub updated : (held after : BTreeSet (List Value)) (added : List Value) → Upda
 updated held after added updates values = (
   λ has. by (eq_by_cmp (slice_cmp value_cmp) added values) (contains (slice_cmp value_cmp) held values) ((tied_keys added values).0) (sym (updates.0 values) ∙ has),
   λ either. updates.0 values ∙ ⊎_elim
-      (λ same. new (eq_by_cmp (slice_cmp value_cmp) added values) (contains (slice_cmp value_cmp) held values) ((tied_keys added values).1 same))
-      (λ had. old (eq_by_cmp (slice_cmp value_cmp) added values) (contains (slice_cmp value_cmp) held values) had)
+      (λ same. by_new (eq_by_cmp (slice_cmp value_cmp) added values) (contains (slice_cmp value_cmp) held values) ((tied_keys added values).1 same))
+      (λ had. by_old (eq_by_cmp (slice_cmp value_cmp) added values) (contains (slice_cmp value_cmp) held values) had)
       either,
 )
   where
     by : (tied had : Bool) → (tied ≡ true → added ≡ values) → cond tied true had ≡ true → (added ≡ values) ⊎ (had ≡ true)
     by true had same has = inl (same refl)
     by false had same has = inr has
-
-    new : (tied had : Bool) → tied ≡ true → cond tied true had ≡ true
-    new true had same = refl
-    new false had same = cc
-
-    old : (tied had : Bool) → had ≡ true → cond tied true had ≡ true
-    old true had is = refl
-    old false had is = is
 
 module _ {X : Type 0} (Has : X → List Value → Type 0) (items : List X) where
   -- one of the first so many items has the values

@@ -1,12 +1,13 @@
 -- In a sound model, a state in which no breach of links or principals is found keeps their rules.
 use Rattle.std.proofs.Common.{◌≡◌, ◌≢◌, ⊎_elim, inl, inr, ℕ, List, [], ◌∷◌, ◌++◌, All, AllPairs, Some, refl, subst}
+use Rattle.emc_base.proofs.facts.Tests.{both_decided}
 use Rattle.round_trip.specs.Words.{AssocId, EntityModel, Assoc, Constraint, End, Entity, Link, State, Value, Null, At, IsA, IsIndependent, place_at, HasEntityAt, HasCount, HasPrincipal, HavePrincipals, AreLegalLinks, entities_in, links_in, key_of, values_of, dependent_end, principal_end}
 use Rattle.entity_state.proofs.breach_order.Apart.{apart_all}
 use Rattle.entity_state.specs.declared.breach_order.found.Found.{Found}
 use Rattle.round_trip.specs.soundness.models.Models.{IsSoundModel}
 use Rattle.schema_laws.proofs.sound_types.Deciding.{derived_or_not}
 use Rattle.state_legality.specs.link_legality.Tells.{BreaksLinks, KeepsLinkRules}
-use Rattle.state_legality.proofs.link_legality.Decided.{Decided, all_at, any_decided, both_decided, keys_decided, must_count}
+use Rattle.state_legality.proofs.link_legality.Decided.{Decided, all_at, any_decided, keys_decided, must_count}
 use Rattle.state_legality.proofs.link_legality.Sound.{dependent_set}
 
 module _ (model : EntityModel) (state : State) (sound : IsSoundModel model) (none : (found : Found) → ¬ BreaksLinks model state found) where

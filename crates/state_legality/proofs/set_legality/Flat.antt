@@ -2,6 +2,8 @@
 use Rattle.std.proofs.Common.{◌≡◌, inl, inr, ℕ, List, [], ◌∷◌, Option, refl, sym, ap, subst, ◌∙◌}
 use Rattle.std.specs.Prelude.{codes}
 use Rattle.emc_base.specs.Lists.{At}
+use Rattle.emc_base.proofs.facts.Images.{map_at}
+use Rattle.emc_base.proofs.Joined.{at_map}
 use Rattle.groupings.specs.least_fault.Least.{Among, IsLeast}
 use Rattle.groupings.proofs.least_fault.Leasts.{least_same}
 use Rattle.round_trip.specs.Words.{Value, Null, place_at, EntityModel, EntitySet, Prop, PropId, Entity, State, entities_in, key_of, props_of}
@@ -9,7 +11,7 @@ use Rattle.round_trip.specs.legality.Breaches.{StandsAtProp, BreaksKey, BreaksTy
 use Rattle.round_trip.specs.soundness.models.Models.{IsSoundModel}
 use Rattle.entity_state.specs.breach_order.Founds.{found_cmp}
 use Rattle.entity_state.specs.declared.breach_order.found.Found.{Found}
-use Rattle.entity_state.proofs.breach_order.Finds.{at_map, at_of_map, from_parts}
+use Rattle.entity_state.proofs.breach_order.Finds.{from_parts}
 use Rattle.entity_state.specs.declared.entity_values.rule.StateRule.{StateRule}
 use Rattle.entity_state.specs.declared.entity_values.rule.StateRule.TheVariants as rule
 use Rattle.entity_state.specs.entity_values.Rules.{rule_number}
@@ -84,8 +86,8 @@ module _ (model : EntityModel) (sound : IsSoundModel model) (state : State) wher
   key_breaks : (found : Found) (s : ℕ) (set : EntitySet) → At model.sets s set → IsKeyBreach model s set (entities_of s) found → BreaksSets model state found
   key_breaks found s set is_set some =
       let repeat = some.repeat in
-      let entity = at_of_map (key_of model) (entities_of s) some.i repeat.item repeat.here in
-      let other = at_of_map (key_of model) (entities_of s) repeat.earlier repeat.other repeat.there in
+      let entity = map_at (key_of model) (entities_of s) some.i repeat.item repeat.here in
+      let other = map_at (key_of model) (entities_of s) repeat.earlier repeat.other repeat.there in
       inr (inr (inr (
         ap (λ (f : Found). f.rule) some.found_is,
         record {

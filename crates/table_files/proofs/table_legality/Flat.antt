@@ -1,6 +1,8 @@
 -- What the three walks find is just what breaks the rules.
 use Rattle.std.proofs.Common.{◌≡◌, ◌⊎◌, inl, inr, ℕ, List, [], ◌∷◌, map, Option, Result, IfOk, refl, sym, ap, subst, ◌∙◌}
 use Rattle.std.proofs.lemmas.Result.{IfOk-weaker}
+use Rattle.emc_base.proofs.facts.Images.{map_at}
+use Rattle.emc_base.proofs.Joined.{at_map}
 use Rattle.groupings.specs.least_fault.Least.{Among, IsEarlierOf, IsLeast}
 use Rattle.groupings.proofs.least_fault.Leasts.{least_of_searches, least_same}
 use Rattle.round_trip.specs.Words.{Value, Null, place_at, StoreModel, Table, Column, Row, Tables, rows_in, cell_of, row_key}
@@ -8,7 +10,7 @@ use Rattle.round_trip.specs.legality.TableBreaches.{StandsAtColumn, BreaksRowKey
 use Rattle.entity_state.specs.breach_order.Founds.{found_cmp}
 use Rattle.entity_state.specs.breach_order.FoundOrder.{found_cmp_total}
 use Rattle.entity_state.specs.breach_order.Repeats.{IsFoundRepeat}
-use Rattle.entity_state.proofs.breach_order.Finds.{at_map, at_of_map, from_parts}
+use Rattle.entity_state.proofs.breach_order.Finds.{from_parts}
 use Rattle.entity_state.specs.declared.breach_order.found.Found.{Found}
 use Rattle.table_files.specs.declared.table_legality.rule.TableRule.{TableRule}
 use Rattle.table_files.specs.declared.table_legality.rule.TableRule.TheVariants.{NullCell, CellDomain, RowKey, Reference}
@@ -86,8 +88,8 @@ module _ (store : StoreModel) (tables : Tables) where
   keys_break found some =
       let table : Table = some.item in
       let repeat = some.holds.repeat in
-      let row = at_of_map (row_key table) (rows_of some.i) some.holds.i repeat.item repeat.here in
-      let other = at_of_map (row_key table) (rows_of some.i) repeat.earlier repeat.other repeat.there in
+      let row = map_at (row_key table) (rows_of some.i) some.holds.i repeat.item repeat.here in
+      let other = map_at (row_key table) (rows_of some.i) repeat.earlier repeat.other repeat.there in
       inr (inr (inl (
         ap (λ (f : Found). f.rule) some.holds.found_is,
         record {

@@ -8,11 +8,12 @@ use Rattle.std.proofs.lemmas.Option.{get_or_from_slice_get, none-some, slice_get
 use Rattle.emc_base.specs.Lists.{At}
 use Rattle.emc_base.specs.Order.{value_cmp}
 use Rattle.emc_base.proofs.Lists.{at_once}
+use Rattle.emc_base.proofs.facts.Keys.{tied_keys}
+use Rattle.emc_base.proofs.facts.Tests.{by_new, by_old}
 use Rattle.groupings.specs.least_fault.Least.{Among, IsLeast}
 use Rattle.groupings.proofs.least_fault.Leasts.{least_same}
 use Rattle.round_trip.specs.Words.{Value, ColId, StoreModel, Table, ForeignKey, Row, Tables, rows_in, cells_of, FindsRow}
 use Rattle.entity_state.specs.breach_order.Founds.{found_cmp}
-use Rattle.entity_state.proofs.breach_order.SameValues.{tied_keys}
 use Rattle.entity_state.specs.declared.breach_order.found.Found.{Found}
 use Rattle.table_files.specs.table_legality.References.{HoldsCells, IsLost, IsLostByKey}
 
@@ -43,11 +44,11 @@ module _ (rows : List Row) (cols : List ColId) where
     λ some. updates.0 cells ∙ ⊎_elim
         (λ (last : some.place ≡ n).
         let same : some.row ≡ row = at_once rows n some.row row (subst (λ (k : ℕ). At rows k some.row) last some.here) here in
-        new (eq_by_cmp (slice_cmp value_cmp) added cells) (contains (slice_cmp value_cmp) held cells)
+        by_new (eq_by_cmp (slice_cmp value_cmp) added cells) (contains (slice_cmp value_cmp) held cells)
         ((tied_keys added cells).1 (is ∙ ap (λ (r : Row). cells_of r cols) (sym same) ∙ some.same)))
         (λ other.
         let below : some.place < n + 1 = some.before in
-        old (eq_by_cmp (slice_cmp value_cmp) added cells) (contains (slice_cmp value_cmp) held cells)
+        by_old (eq_by_cmp (slice_cmp value_cmp) added cells) (contains (slice_cmp value_cmp) held cells)
         ((so_far cells).1 (record { place = some.place; row = some.row; before = omega arith; here = some.here; same = some.same })))
         (cases_eq some.place n),
   )
@@ -57,14 +58,6 @@ module _ (rows : List Row) (cols : List ColId) where
       by cells false had same earlier has =
           let some = earlier has in
           record { place = some.place; row = some.row; before = (let below : some.place < n = some.before in omega arith); here = some.here; same = some.same }
-
-      new : (tied had : Bool) → tied ≡ true → cond tied true had ≡ true
-      new true had same = refl
-      new false had same = cc
-
-      old : (tied had : Bool) → had ≡ true → cond tied true had ≡ true
-      old true had is = refl
-      old false had is = is
 
   pub held_all : (held : BTreeSet (List Value)) (n : ℕ) → length rows ≤ n → HoldsTo held n → HoldsCells rows cols held
   held_all held n end all = λ cells. (

@@ -9,12 +9,13 @@ use Rattle.std.proofs.lemmas.Option.{slice_get-get_or, slice_get_within}
 use Rattle.emc_base.specs.Lists.{At}
 use Rattle.emc_base.specs.Order.{value_cmp}
 use Rattle.emc_base.proofs.Lists.{item_at}
+use Rattle.emc_base.proofs.facts.Keys.{tied_keys}
 use Rattle.groupings.specs.least_fault.Least.{IsLeast}
 use Rattle.round_trip.specs.Words.{Value, Null, place_at, StoreModel, Table, Column, ForeignKey, Row, ColId, TableId, InDomain, Tables, rows_in, cell_of, cells_of, row_key, AreTables, AreLegalTables, AreLegalRows, HasAllowedNullCells, HasCellsInDomain, Refers, FindsRow, KeepsForeignKey}
 use Rattle.round_trip.specs.legality.TableBreaches.{StandsAtColumn}
 use Rattle.entity_state.specs.breach_order.Founds.{found_cmp}
 use Rattle.entity_state.proofs.breach_order.Domains.{domain_decided}
-use Rattle.entity_state.proofs.breach_order.SameValues.{null_or, tied_keys}
+use Rattle.entity_state.proofs.breach_order.SameValues.{null_or}
 use Rattle.entity_state.proofs.breach_order.Turns.{all_at}
 use Rattle.table_files.specs.table_legality.Tells.{BreaksTables}
 

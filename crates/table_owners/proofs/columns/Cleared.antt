@@ -4,9 +4,9 @@ use Rattle.std.specs.Global.{Vec}
 use Rattle.std.proofs.lemmas.List.Elements.{Contains-append_left, Contains-push, Contains-push_cases}
 use Rattle.emc_base.specs.Lists.{At}
 use Rattle.emc_base.proofs.Loops.{take_item}
+use Rattle.emc_base.proofs.Members.{contains_nil}
 use Rattle.round_trip.specs.Words.{ColId, TableId}
 use Rattle.table_owners.specs.Clearing.{Clears, Each}
-use Rattle.table_owners.proofs.lists.Items.{none_there}
 
 module _ (P Q : TableId → ColId → Type 0) where
   -- the same columns in other words
@@ -45,7 +45,7 @@ module _ {X : Type 0} (On : X → TableId → ColId → Type 0) where
   clears_none free = record {
     size = refl;
     counts = λ t. refl;
-    taken = λ t col. (λ is. (is, λ named. none_there named.0 named.1), λ both. both.0);
+    taken = λ t col. (λ is. (is, λ named. contains_nil named.0 named.1), λ both. both.0);
   }
 
   -- one item more

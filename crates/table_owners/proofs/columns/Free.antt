@@ -8,11 +8,13 @@ use Rattle.std.proofs.lemmas.List.Elements.{All-contains, Contains-append_cases,
 use Rattle.std.proofs.lemmas.Option.{same_Some, slice_get_within}
 use Rattle.emc_base.specs.Lists.{At}
 use Rattle.emc_base.proofs.Lists.{all_from_members, item_at}
+use Rattle.emc_base.proofs.FoundItems.{member_of}
+use Rattle.emc_base.proofs.facts.Images.{map_at}
 use Rattle.edm_types.specs.declared.mapping.CondOn.TheVariants as on
 use Rattle.round_trip.specs.Words.{ColId, Cond, Fragment, IsFree, IsNamedBy, IsWritten, LinkFragment, Pair, Schema, Table, TableId}
 use Rattle.table_owners.specs.Clearing.{Clears, Each, IsCondOn, IsNamedByEntities, IsNamedByLinks, IsPairOn, IsStart, IsStartOf, taken_at}
 use Rattle.table_owners.specs.FreeColumns.{TellFree, TellsFree}
-use Rattle.table_owners.proofs.lists.Items.{at_map, member_some, some_member}
+use Rattle.table_owners.proofs.lists.Items.{member_some}
 
 module _ (t : TableId) (col : ColId) where
   -- a pair, or a condition, is on the column
@@ -24,10 +26,10 @@ module _ (t : TableId) (col : ColId) where
 
   -- some of these pairs, in other words
   pairs_on : (table : TableId) (pairs : List Pair) → table ≡ t → Any PairOn pairs → Each (IsPairOn table) pairs t col
-  pairs_on table pairs same some = let pair = some_member PairOn pairs some in (pair.0, pair.1, (same, pair.2))
+  pairs_on table pairs same some = let pair = member_of PairOn pairs some in (pair.0, pair.1, (same, pair.2))
 
   conds_on : (table : TableId) (conds : List Cond) → table ≡ t → Any IsOn conds → Each (IsCondOn table) conds t col
-  conds_on table conds same some = let cond = some_member IsOn conds some in (cond.0, cond.1, (same, cond.2))
+  conds_on table conds same some = let cond = member_of IsOn conds some in (cond.0, cond.1, (same, cond.2))
 
   on_pairs : (table : TableId) (pairs : List Pair) → Each (IsPairOn table) pairs t col → (table ≡ t) × Any PairOn pairs
   on_pairs table pairs named = (named.2.0, member_some PairOn pairs named.0 named.1 named.2.1)
@@ -52,7 +54,7 @@ module _ (t : TableId) (col : ColId) where
   linked_by : (fragment : LinkFragment) → (fragment.table ≡ t) × IsNamedBy (fragment.first ++ fragment.second) fragment.conds col → IsNamedByLinks fragment t col
   linked_by fragment (same, named) = elim named [
     | inl pairs ↦
-        let pair = some_member PairOn (fragment.first ++ fragment.second) pairs in
+        let pair = member_of PairOn (fragment.first ++ fragment.second) pairs in
         elim (Contains-append_cases fragment.first fragment.second pair.0 pair.1) [
           | inl first ↦ inl (pair.0, first, (same, pair.2))
           | inr second ↦ inr (inl (pair.0, second, (same, pair.2)))
@@ -139,7 +141,7 @@ module _ (schema : Schema) (start between free : List (Vec Bool)) (begins : IsSt
   tell_free = record {
     size = length-map free (λ (columns : Vec Bool). columns.items) ∙ links.size ∙ entities.size ∙ begins.size;
     each = λ t table columns here there.
-        (let last = at_map (λ (some : Vec Bool). some.items) free t.index columns there in
+        (let last = map_at (λ (some : Vec Bool). some.items) free t.index columns there in
         let inside : t.index < length schema.store.tables = slice_get_within schema.store.tables t.index table here in
         let all : length start ≡ length schema.store.tables = begins.size in
         let first = item_at start t.index (omega (arith, inside, all)) in

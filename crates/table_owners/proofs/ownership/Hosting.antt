@@ -6,22 +6,22 @@ use Rattle.std.proofs.lemmas.Option.{slice_get_within}
 use Rattle.emc_base.specs.Lists.{At, AreApart}
 use Rattle.emc_base.proofs.Lists.{at_once, item_at, same_place}
 use Rattle.emc_base.proofs.Mapped.{contains_at}
+use Rattle.emc_base.proofs.facts.Standing.{place_of_member}
 use Rattle.round_trip.specs.Words.{Assoc, AssocId, LinkFragId, LinkFragment, Schema}
 use Rattle.round_trip.specs.FailsAt.{IsHostedAt}
 use Rattle.round_trip.specs.soundness.mappings.Mappings.{IsSoundSchema}
 use Rattle.table_owners.specs.declared.places.LinkPlace.{LinkPlace}
 use Rattle.table_owners.specs.declared.places.LinkPlace.TheVariants as place
 use Rattle.table_owners.specs.Places.{AreHosted, AreToldHosted, IsMappedBy, StandApart, TellPlaces, TellsPlace}
-use Rattle.table_owners.proofs.lists.Items.{member_place}
 use Rattle.table_owners.proofs.ownership.OneEnd.{one_end}
 use Rattle.table_owners.proofs.ownership.Owning.{sound_links}
 
 -- items of one image are one, where no image stands twice
 one_image : {X Y : Type 0} (f : X → Y) (xs : List X) → AreApart (map f xs) → (x y : X) → Contains xs x → Contains xs y → f x ≡ f y → x ≡ y
 one_image {X} {Y} f xs apart x y has_x has_y same =
-    let place = same_place f xs has_x.0 has_y.0 x y images (member_place xs x has_x) (member_place xs y has_y) same in
+    let place = same_place f xs has_x.0 has_y.0 x y images (place_of_member xs x has_x) (place_of_member xs y has_y) same in
     let P : ℕ → Type 0 = λ k. At xs k x in
-    at_once xs has_y.0 x y (subst P place (member_place xs x has_x)) (member_place xs y has_y)
+    at_once xs has_y.0 x y (subst P place (place_of_member xs x has_x)) (place_of_member xs y has_y)
   where
     images : AllPairs (λ a b. f a ≢ f b) xs
     images i j d below within both =

@@ -4,12 +4,13 @@ use Rattle.std.specs.Option.{option_and_then}
 use Rattle.std.proofs.lemmas.List.{length-map}
 use Rattle.std.proofs.lemmas.List.Elements.{All-contains}
 use Rattle.emc_base.specs.Lists.{At}
-use Rattle.emc_base.proofs.Lists.{item_at}
 use Rattle.emc_base.proofs.Mapped.{contains_at}
+use Rattle.emc_base.proofs.facts.Images.{map_at}
 use Rattle.round_trip.specs.Words.{Assoc, AssocId, Fragment, IsWritten, LinkFragId, LinkFragment, Pair, Schema, SetId, TableId}
 use Rattle.round_trip.specs.FailsAt.{IsHostedAt}
-use Rattle.round_trip.specs.soundness.mappings.Mappings.{HasLinkFragmentIds, IsSoundLinkFragment, IsSoundSchema}
+use Rattle.round_trip.specs.soundness.mappings.Mappings.{IsSoundLinkFragment, IsSoundSchema}
 use Rattle.round_trip.specs.soundness.mappings.Owners as sound
+use Rattle.round_trip.proofs.Lookups.{assoc_of}
 use Rattle.table_owners.specs.declared.table_writers.writer.Owner.{Owner}
 use Rattle.table_owners.specs.declared.table_writers.writer.Owner.TheVariants as owner
 use Rattle.table_owners.specs.declared.sources.Source.{Source}
@@ -18,7 +19,7 @@ use Rattle.table_owners.specs.declared.sources.Standing.{Standing}
 use Rattle.table_owners.specs.declared.sources.Standing.TheVariants.{Apart, AtFirst, AtSecond}
 use Rattle.table_owners.specs.Owners.{TellOwners, TellsOwner}
 use Rattle.table_owners.specs.Sources.{AreSources, IsSource, Stands, owner_by, owner_from, owner_of_links, pairs_by}
-use Rattle.table_owners.proofs.lists.Items.{at_map, member_some}
+use Rattle.table_owners.proofs.lists.Items.{member_some}
 
 module _ (schema : Schema) where
   -- a table that somebody owns is written
@@ -31,11 +32,6 @@ module _ (schema : Schema) where
       inr (member_some (λ (other : LinkFragment). other.table ≡ t) schema.mapping.links fragment maps.is_fragment maps.to_table)
 
 module _ (schema : Schema) (sound_schema : IsSoundSchema schema) where
-  -- a fragment of links has its association
-  pub assoc_there : (fragment : LinkFragment) → Contains schema.mapping.links fragment → (assoc : Assoc) × At schema.model.assocs fragment.assoc.index assoc
-  assoc_there fragment has =
-      item_at schema.model.assocs fragment.assoc.index (All-contains (HasLinkFragmentIds schema) schema.mapping.links fragment sound_schema.mapping.link_ids has).assoc
-
   -- and is sound
   pub sound_links : (fragment : LinkFragment) (assoc : Assoc) → Contains schema.mapping.links fragment → At schema.model.assocs fragment.assoc.index assoc
       → IsSoundLinkFragment schema fragment assoc
@@ -105,7 +101,7 @@ module _ (schema : Schema) (sound_schema : IsSoundSchema schema) where
   )
   source_owns t (Links number standing) (fragment, here, same, stands) =
       let has = contains_at schema.mapping.links number.index fragment here in
-      let known = assoc_there fragment has in
+      let known = assoc_of schema sound_schema fragment has in
       links_own t number fragment known.0 here (record { is_fragment = has; is_assoc = known.1; to_table = same }) standing stands
 
   -- the owners are told
@@ -113,7 +109,7 @@ module _ (schema : Schema) (sound_schema : IsSoundSchema schema) where
   tell_owners sources are = record {
     size = length-map sources (owner_by schema.model schema.mapping) ∙ are.size;
     each = λ t told here.
-        (let source = at_map (owner_by schema.model schema.mapping) sources t.index told here in
+        (let source = map_at (owner_by schema.model schema.mapping) sources t.index told here in
         subst (TellsOwner schema t) source.2 (by t source.0 (are.each t source.0 source.1)));
   }
     where

@@ -8,38 +8,22 @@ use Rattle.emc_base.specs.Lists.{At}
 use Rattle.emc_base.proofs.Lists.{item_at}
 use Rattle.emc_base.proofs.Mapped.{contains_at, contains_map}
 use Rattle.emc_base.proofs.Numbered.{map_contains}
-use Rattle.edm_types.specs.IsA as is_a
-use Rattle.round_trip.specs.Words.{AssocId, ColId, End, EntityModel, EntitySet, EntityType, Fragment, IsA, IsWritten, Pair, PropId, Schema, SetId, Table, TableId, TypeId, key_columns, key_props}
+use Rattle.emc_base.proofs.FoundItems.{member_of}
+use Rattle.round_trip.specs.Words.{AssocId, ColId, End, EntityModel, Fragment, IsWritten, Pair, PropId, Schema, SetId, Table, TableId, key_columns, key_props}
 use Rattle.round_trip.specs.FailsAt.{IsHostedAt}
 use Rattle.round_trip.specs.soundness.models.Constraints.{IsSoundAssoc, IsSoundEnd}
 use Rattle.round_trip.specs.soundness.mappings.Fragments.{WritesEndKey}
-use Rattle.round_trip.specs.soundness.models.Inheritance.{IsRootKey}
 use Rattle.round_trip.specs.soundness.Lookups.{set_key}
 use Rattle.round_trip.specs.soundness.mappings.Mappings.{IsSoundFragment, IsSoundSchema}
 use Rattle.round_trip.specs.soundness.models.Models.{IsSoundModel}
 use Rattle.round_trip.specs.soundness.mappings.Owners as sound
+use Rattle.round_trip.proofs.Lookups.{end_set_key}
 use Rattle.table_owners.specs.declared.sources.Source.{Source}
 use Rattle.table_owners.specs.Made.{Made}
 use Rattle.table_owners.specs.Pairings.{IsPairedWith, TellPairings, TellsPairing}
 use Rattle.table_owners.specs.Sources.{AreSources, IsSource, pairs_at, pairs_by, prop_beside, props_beside}
 use Rattle.table_owners.proofs.lists.Found.{pair_found, zip_found}
-use Rattle.table_owners.proofs.lists.Items.{some_member}
 use Rattle.table_owners.proofs.ownership.Owning.{owned_written, sound_links, source_owns}
-
-module _ (model : EntityModel) (sound_model : IsSoundModel model) where
-  -- a type has the key of each type above it
-  inherited_key : (t u : TypeId) → IsA model t u → key_props model t ≡ key_props model u
-  inherited_key t u (is_a.same _) = refl
-  inherited_key t u (is_a.base _ _ has) =
-      let P : Option TypeId → Type 0 = λ base. MatchOption base (IsRootKey model t has.0.key) (λ base. has.0.key ≡ key_props model base) in
-      ap (λ (found : Option EntityType). option_map_or (λ type. type.key) found []) has.1 ∙ subst P has.2 (sound_model.types t has.0 has.1).key
-  inherited_key t u (is_a.chain _ between _ first second) = inherited_key t between first ∙ inherited_key between u second
-
-  -- the key of the type at an end is that of the set there
-  end_set_key : (end : End) → IsSoundEnd model end → key_props model end.ty ≡ set_key model end.set
-  end_set_key end good =
-      inherited_key end.ty good.under.0.element good.under.2
-      ∙ sym (ap (λ (found : Option EntitySet). option_map_or (λ entry. key_props model entry.element) found []) good.under.1)
 
 module _ (schema : Schema) (sound_schema : IsSoundSchema schema) where
   -- one of the pairs writes a property of the set's key to the column
@@ -53,7 +37,7 @@ module _ (schema : Schema) (sound_schema : IsSoundSchema schema) where
       let Writes : ColId → Type 0 = λ other. Any (λ (pair : Pair). (pair.col ≡ other) × Contains (set_key schema.model fragment.set) pair.prop) fragment.pairs in
       let writes : Writes col = All-contains Writes (key_columns schema.store fragment.table) col
       (All-contains (IsSoundFragment schema) schema.mapping.fragments fragment sound_schema.mapping.fragments has).key.cols in_key in
-      let pair = some_member (λ (pair : Pair). (pair.col ≡ col) × Contains (set_key schema.model fragment.set) pair.prop) fragment.pairs writes in
+      let pair = member_of (λ (pair : Pair). (pair.col ≡ col) × Contains (set_key schema.model fragment.set) pair.prop) fragment.pairs writes in
       (pair.0, pair.1, pair.2.0, pair.2.1)
 
   -- and so do the pairs of an end at which links are hosted

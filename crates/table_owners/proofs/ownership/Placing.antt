@@ -5,6 +5,8 @@ use Rattle.std.proofs.lemmas.List.{length-map}
 use Rattle.emc_base.specs.Lists.{At}
 use Rattle.emc_base.proofs.Lists.{all_from_members, at_once}
 use Rattle.emc_base.proofs.Mapped.{contains_at}
+use Rattle.emc_base.proofs.facts.Standing.{place_of_member}
+use Rattle.emc_base.proofs.facts.Images.{map_at}
 use Rattle.round_trip.specs.Words.{Assoc, AssocId, Constraint, LinkFragment, Schema}
 use Rattle.round_trip.specs.soundness.mappings.Mappings.{IsSoundSchema}
 use Rattle.table_owners.specs.declared.places.LinkPlace.{LinkPlace}
@@ -14,7 +16,6 @@ use Rattle.table_owners.specs.declared.sources.Standing.TheVariants.{Apart, AtFi
 use Rattle.table_owners.specs.Places.{IsLinkPlace, IsMappedBy, TellPlaces, TellsPlace, maps_to, place_by, place_without}
 use Rattle.table_owners.specs.Puts.{Puts}
 use Rattle.table_owners.specs.Sources.{Stands}
-use Rattle.table_owners.proofs.lists.Items.{at_map, member_place}
 use Rattle.table_owners.proofs.ownership.Owning.{joined_there, sound_links}
 
 module _ (schema : Schema) (sound : IsSoundSchema schema) where
@@ -56,11 +57,11 @@ module _ (schema : Schema) (sound : IsSoundSchema schema) where
           subst (TellsPlace schema a assoc) (sym put.5.2)
           (by_standing a assoc put.0 fragment known (record { independent = good.independent; is_fragment = put.3; of_assoc = same }) put.5.0 put.5.1)
       | inr kept ↦
-          let old = at_map place_without schema.model.assocs a.index place (subst (λ (list : List LinkPlace). At list a.index place) first kept.0) in
+          let old = map_at place_without schema.model.assocs a.index place (subst (λ (list : List LinkPlace). At list a.index place) first kept.0) in
           let is : place_without assoc ≡ place = ap place_without (at_once schema.model.assocs a.index assoc old.0 here old.1) ∙ old.2 in
           subst (TellsPlace schema a assoc) is
           (unmapped a assoc here (all_from_members (λ (fragment : LinkFragment). fragment.assoc ≢ a) schema.mapping.links (λ fragment has same.
-          (let at = member_place schema.mapping.links fragment has in
+          (let at = place_of_member schema.mapping.links fragment has in
           kept.1 has.0 fragment has.1 at (ap (λ (id : AssocId). id.index) same)))))
     ]
 

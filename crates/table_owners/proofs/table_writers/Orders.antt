@@ -1,13 +1,12 @@
 -- What `cmp` and `==` answer: they tell tables, owners, and tables with their owners apart.
-use Rattle.std.proofs.Common.{◌≡◌, ◌==◌, ℕ, Bool, true, refl, sym, ap, subst, ◌∙◌}
+use Rattle.std.proofs.Common.{◌≡◌, ◌==◌, ℕ, Bool, true, sym, ap, subst, ◌∙◌}
 use Rattle.std.specs.Bool.{Decides}
 use Rattle.std.specs.Cmp.{unsigned_ties}
 use Rattle.std.specs.Ordering.{nat_cmp, is_eq, ordering_then}
 use Rattle.std.specs.declared.cmp.Ordering.{Ordering}
-use Rattle.std.specs.declared.cmp.Ordering.TheVariants.{Less, Equal, Greater}
 use Rattle.std.proofs.lemmas.Bool.Decides.{Decides-at, Decides-eqb}
 use Rattle.std.proofs.lemmas.Cmp.{nat_cmp_total, tied_itself}
-use Rattle.std.proofs.lemmas.Map.Lookups.{exact_pairs, exact_unsigned}
+use Rattle.emc_base.proofs.facts.Orderings.{both_numbers}
 use Rattle.table_owners.specs.contracts.table_writers.ownership.OwnershipOrd.TheImpl as ownership_ord
 use Rattle.table_owners.specs.contracts.table_writers.writer.OwnerPartialEq.TheImpl as owner_partial_eq
 use Rattle.table_owners.specs.declared.table_writers.ownership.Ownership.{Ownership}
@@ -39,18 +38,6 @@ tells_owner (Assoc o) (Set p) = (λ is. absurd cc, λ same. absurd cc)
 -- the order of tables with their owners
 abbrev pub ownership_cmp : Ownership → Ownership → Ordering
 ownership_cmp = (ownership_ord.ghosts).cmp
-
--- an order that is equal, as a test
-equal : (order : Ordering) → is_eq order ≡ true → order ≡ Equal
-equal Less is = absurd cc
-equal Equal is = refl
-equal Greater is = absurd cc
-
--- the order of two numbers, one after the other, tells them apart
-both_numbers : (a b c d : ℕ) → is_eq (ordering_then (nat_cmp a c) (nat_cmp b d)) ≡ true → (a ≡ c) × (b ≡ d)
-both_numbers a b c d is =
-    let same : (a, b) ≡ (c, d) = exact_pairs nat_cmp nat_cmp exact_unsigned exact_unsigned (a, b) (c, d) (equal (ordering_then (nat_cmp a c) (nat_cmp b d)) is) in
-    (ap (λ (p : ℕ × ℕ). p.0) same, ap (λ (p : ℕ × ℕ). p.1) same)
 
 -- a table with its owner is equal to itself
 equal_itself : (one : Ownership) → is_eq (ownership_cmp one one) ≡ true

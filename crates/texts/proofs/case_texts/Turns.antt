@@ -4,8 +4,8 @@ use Rattle.std.specs.List.{enumerate_from}
 use Rattle.std.proofs.lemmas.List.{map-append}
 use Rattle.std.proofs.lemmas.List.Concat.{flat_map-append}
 use Rattle.emc_base.specs.Lists.{At}
-use Rattle.cells.proofs.Lists.{one_more_gives}
 use Rattle.serde_json.specs.Data.{Data, Members}
+use Rattle.emc_base.proofs.facts.Images.{one_more_gives}
 use Rattle.json_form.specs.Trees.{put_all}
 use Rattle.json_form.proofs.Members.{put_all-both}
 

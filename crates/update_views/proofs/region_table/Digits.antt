@@ -5,12 +5,13 @@ use Rattle.emc_base.specs.Lists.{At}
 use Rattle.round_trip.specs.Words.{Entity, Hosted}
 use Rattle.schema_laws.proofs.state_demand.lists.Lists.{head_stands, tail_stands}
 use Rattle.regions.specs.Lists.{choices}
+use Rattle.regions.proofs.region_laws.listing.Choices.{length_choices}
 use Rattle.region_partition.specs.region_lists.Counts.{capped}
 use Rattle.region_partition.proofs.region_lists.Counts.{capped_times}
 use Rattle.update_views.specs.declared.region_table.telling.Test.{Test}
 use Rattle.update_views.specs.region_table.Digits.{digit_of, size_of}
 use Rattle.update_views.specs.region_table.Numbers.{numbered}
-use Rattle.update_views.proofs.region_table.Standing.{at_choice, length_choices}
+use Rattle.update_views.proofs.region_table.Standing.{at_choice}
 
 -- a number behind one that is counted up to the bound
 pub capped_behind : (a b c : ℕ) → capped (capped a * b + c) ≡ capped (a * b + c)

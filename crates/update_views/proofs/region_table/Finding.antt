@@ -8,6 +8,7 @@ use Rattle.std.proofs.lemmas.Option.{same_Some, slice_get_within}
 use Rattle.emc_base.specs.Lists.{At}
 use Rattle.emc_base.proofs.Lists.{all_from_members}
 use Rattle.emc_base.proofs.Numbered.{enumerated_at, filter_contains, map_contains}
+use Rattle.emc_base.proofs.Joined.{at_map}
 use Rattle.round_trip.specs.Words.{SetId, TypeId, PropId, AssocId, EntityType, EntitySet, Entity, Hosted, props_of}
 use Rattle.round_trip.specs.soundness.mappings.Joined.{prop}
 use Rattle.condition_logic.specs.declared.atoms.AtomOf.{AtomOf}
@@ -28,7 +29,7 @@ use Rattle.update_views.specs.region_table.Made.{AreTypeTests, count_before, is_
 use Rattle.update_views.specs.region_table.Numbers.{numbered, place_by, place_in}
 use Rattle.update_views.proofs.region_table.Links.{Telling, link_found, link_size, link_there, tells_all}
 use Rattle.update_views.proofs.region_table.Digits.{Chosen, chosen, numbered_parts, some_number}
-use Rattle.update_views.proofs.region_table.Standing.{at_even, at_image}
+use Rattle.update_views.proofs.region_table.Standing.{at_even}
 use Rattle.update_views.proofs.region_table.Types.{among_all, at_numbered}
 use Rattle.update_views.proofs.region_table.Values.{Holding, value_found, value_there}
 
@@ -100,7 +101,7 @@ module _ (basis : Basis) (s : SetId) (order : InOrder (basis.hosts s)) (entity :
             (λ one. length-map (choices (map (flags_at basis own) (basis.hosts s))) (region_with basis s own one))
             (choices (map (atoms_at basis) (tested_props basis own))) first.place second.place first.choice
             (region_with basis s own first.choice second.choice) first.stands
-            (at_image (region_with basis s own first.choice) (choices (map (flags_at basis own) (basis.hosts s))) second.place second.choice second.stands);
+            (at_map (region_with basis s own first.choice) (choices (map (flags_at basis own) (basis.hosts s))) second.place second.choice second.stands);
         holds = record {
           typed = refl;
           atoms = seconds (λ told. Holding basis entity told.prop told) (Holding basis entity) (λ p told holds. holds) (tested_props basis own) first.choice first.good;

@@ -1,11 +1,10 @@
 -- Items at places of lists that are joined, and of lists of choices.
-use Rattle.std.proofs.Common.{◌≡◌, ◌+◌, ◌*◌, ℕ, zero, suc, List, [], ◌∷◌, ◌++◌, map, flat_map, length, option_map, refl, sym, ap, subst, ◌∙◌, suc-mul, zero-mul, zero-add, add_comm, arith}
+use Rattle.std.proofs.Common.{◌≡◌, ◌+◌, ◌*◌, ℕ, zero, suc, List, [], ◌∷◌, ◌++◌, map, flat_map, length, sym, ap, subst, ◌∙◌, suc-mul, zero-mul, zero-add, add_comm, arith}
 use Rattle.std.proofs.lemmas.List.{length-append, length-map}
 use Rattle.std.proofs.lemmas.List.Concat.{flat_map-append}
-use Rattle.std.proofs.lemmas.Option.{slice_get-map}
 use Rattle.emc_base.specs.Lists.{At}
+use Rattle.emc_base.proofs.Joined.{at_map}
 use Rattle.regions.specs.Lists.{choices}
-use Rattle.regions.specs.region_laws.Counting.{product_of}
 
 module _ {X : Type 0} where
   -- with a list behind it, and with one before it
@@ -20,10 +19,6 @@ module _ {X : Type 0} where
       let size : suc (length xs + j) ≡ length (x ∷ xs) + j = omega arith in
       let P : ℕ → Type 0 = λ k. At (x ∷ (xs ++ ys)) k y in
       subst P size (at_behind xs ys j y here)
-
--- the image of an item
-pub at_image : {X Y : Type 0} (f : X → Y) (xs : List X) (i : ℕ) (x : X) → At xs i x → At (map f xs) i (f x)
-at_image f xs i x here = slice_get-map f xs i ∙ ap (option_map f) here
 
 module _ {X Y : Type 0} (f : X → List Y) where
   -- what stands in the list of an item, behind the lists of those before
@@ -60,18 +55,9 @@ module _ {X Y : Type 0} (f : X → List Y) where
         length-append (f x) (flat_map f xs) ∙ both ∙ add_comm n (length xs * n) ∙ sym (suc-mul (length xs) n)
 
 module _ {X : Type 0} (xs : List X) (rest : List (List X)) where
-  -- the number of choices, with one list more
-  pub length_choices : length (choices (xs ∷ rest)) ≡ length xs * length (choices rest)
-  length_choices = length_even (λ x. map (λ others. x ∷ others) (choices rest)) (length (choices rest)) (λ x. length-map (choices rest) (λ others. x ∷ others)) xs
-
   -- a choice by the places of its first item and of the others
   pub at_choice : (i j : ℕ) (x : X) (choice : List X) → At xs i x → At (choices rest) j choice
       → At (choices (xs ∷ rest)) (i * length (choices rest) + j) (x ∷ choice)
   at_choice i j x choice at_i at_j =
       at_even (λ one. map (λ others. one ∷ others) (choices rest)) (length (choices rest)) (λ one. length-map (choices rest) (λ others. one ∷ others)) xs i j x
-      (x ∷ choice) at_i (at_image (λ (others : List X). x ∷ others) (choices rest) j choice at_j)
-
--- the number of choices, by the lengths of the lists
-pub choices_counted : {K X : Type 0} (f : K → List X) (ks : List K) → length (choices (map f ks)) ≡ product_of (map (λ k. length (f k)) ks)
-choices_counted f [] = refl
-choices_counted f (k ∷ ks) = length_choices (f k) (map f ks) ∙ ap (λ n. length (f k) * n) (choices_counted f ks)
+      (x ∷ choice) at_i (at_map (λ (others : List X). x ∷ others) (choices rest) j choice at_j)

@@ -1,5 +1,5 @@
 -- The tests that are kept by the model's types, and where the regions of a type stand among those of the set.
-use Rattle.std.proofs.Common.{◌≡◌, ◌+◌, ◌*◌, ◌≤◌, ℕ, List, [], ◌∷◌, ◌++◌, append_assoc, map, filter, flat_map, take, drop, length, slice_get, true, Option, Some, None, option_map, inl, inr, refl, sym, ap, subst, ◌∙◌, take-append-drop, arith}
+use Rattle.std.proofs.Common.{◌≡◌, ◌+◌, ◌≤◌, ℕ, List, [], ◌∷◌, ◌++◌, append_assoc, map, filter, flat_map, take, drop, length, slice_get, true, Option, Some, None, option_map, inl, inr, refl, sym, ap, subst, ◌∙◌, take-append-drop, arith}
 use Rattle.std.specs.List.{enumerate_from}
 use Rattle.std.proofs.lemmas.List.{length-map, map-append}
 use Rattle.std.proofs.lemmas.List.Elements.{filter-append}
@@ -7,16 +7,13 @@ use Rattle.std.proofs.lemmas.List.FromFn.{length-enumerate_from}
 use Rattle.std.proofs.lemmas.Option.{slice_get_cases, slice_get_past}
 use Rattle.emc_base.specs.Lists.{At}
 use Rattle.emc_base.proofs.Numbered.{filter_kept, numbered_at}
+use Rattle.emc_base.proofs.Joined.{at_map}
 use Rattle.round_trip.specs.Words.{SetId, TypeId, EntityType, EntitySet}
-use Rattle.condition_logic.specs.declared.atoms.AtomOf.{AtomOf}
 use Rattle.regions.specs.declared.region.Region.{Region}
 use Rattle.regions.specs.Basis.{Basis}
-use Rattle.regions.specs.Lists.{choices}
-use Rattle.regions.specs.Regions.{atoms_at, flags_at, model_of, regions_by, regions_with, tested_props, types_of}
-use Rattle.regions.specs.region_laws.Counting.{count_by}
-use Rattle.regions.proofs.region_laws.listing.Listed.{region_with}
+use Rattle.regions.specs.Regions.{model_of, regions_by, types_of}
 use Rattle.update_views.specs.region_table.Made.{is_type_of, types_before}
-use Rattle.update_views.proofs.region_table.Standing.{at_image, at_joined, choices_counted, length_even}
+use Rattle.update_views.proofs.region_table.Standing.{at_joined}
 
 -- by numbered items, at a place
 module _ {X Y : Type 0} (f : ℕ × X → Y) (xs : List X) (i : ℕ) where
@@ -30,19 +27,9 @@ module _ {X Y : Type 0} (f : ℕ × X → Y) (xs : List X) (i : ℕ) where
             | inl found ↦ let none = sym is ∙ found.2 in cc
             | inr past ↦ let end : length xs ≤ i = past.0 in omega (arith, size, end)
           ])
-      by (Some x) is = at_image f (enumerate_from 0 xs) i (i, x) (numbered_at xs i x is)
+      by (Some x) is = at_map f (enumerate_from 0 xs) i (i, x) (numbered_at xs i x is)
 
 module _ (basis : Basis) (s : SetId) where
-  -- the number of regions of a type
-  pub regions_counted : (t : TypeId) → length (regions_by basis s t) ≡ count_by basis s t
-  regions_counted t =
-      let atoms : List (List AtomOf) = choices (map (atoms_at basis) (tested_props basis t)) in
-      let flags = choices (map (flags_at basis t) (basis.hosts s)) in
-      let product = length_even (regions_with basis s t) (length flags) (λ one. length-map flags (region_with basis s t one)) atoms in
-      let one = choices_counted (atoms_at basis) (tested_props basis t) in
-      let two = choices_counted (flags_at basis t) (basis.hosts s) in
-      product ∙ (λ k. one k * two k)
-
   module _ (set : EntitySet) (i : ℕ) (declared : EntityType) (here : At (model_of basis).types i declared) (listed : is_type_of basis set (i, declared) ≡ true) where
     -- the types of the set, those before apart
     abbrev entries : List (ℕ × EntityType)

@@ -1,13 +1,12 @@
 -- The digits of tested properties: the first atom in which the entity's value lies.
-use Rattle.std.proofs.Common.{◌≡◌, ⊎_elim, ◌==◌, ◌+◌, ◌<◌, ℕ, List, [], ◌∷◌, length, map, get_or, slice_get, position, Contains, cond, Bool, true, false, true≢false, not, if◌then◌else◌, Option, Some, None, unwrap_or, Decides, refl, sym, ap, subst, ◌∙◌, one-add, arith}
+use Rattle.std.proofs.Common.{◌≡◌, ⊎_elim, ◌==◌, ◌+◌, ◌<◌, ℕ, List, [], ◌∷◌, length, map, slice_get, position, Contains, cond, Bool, true, false, true≢false, not, if◌then◌else◌, Option, Some, None, unwrap_or, Decides, refl, sym, ap, subst, ◌∙◌, one-add, arith}
 use Rattle.std.specs.List.{list_any, position_or_len}
 use Rattle.std.specs.Option.{option_map_or}
 use Rattle.std.proofs.lemmas.Bool.Decides.{Decides-and, Decides-eqb, Decides-like, Decides-ltb, Decides-not}
-use Rattle.std.proofs.lemmas.List.Quantifiers.{position-Some}
-use Rattle.std.proofs.lemmas.Option.{slice_get-get_or}
 use Rattle.emc_base.specs.Lists.{At}
 use Rattle.emc_base.proofs.Mapped.{contains_at}
 use Rattle.emc_base.proofs.Numbered.{map_contains}
+use Rattle.emc_base.proofs.facts.Found.{position_passes}
 use Rattle.round_trip.specs.Words.{PropId, Value, Null, Prop, Entity, Hosted, props_of, value_beside, value_of}
 use Rattle.round_trip.specs.soundness.mappings.Joined.{prop}
 use Rattle.condition_logic.specs.declared.atoms.Atom.{Atom}
@@ -37,11 +36,6 @@ module _ (constants : List Value) (value : Value) where
       (Decides-not (same_value value Null) (Decides-value value Null)) (Decides-not (list_any (same_value value) constants) among)
 
 module _ {X : Type 0} (p : X → Bool) where
-  -- at a position that is told stands an item that passes
-  pub at_position : (xs : List X) (i : ℕ) → position p xs ≡ Some i → (x : X) × At xs i x × (p x ≡ true)
-  at_position [] i is = cc
-  at_position (x ∷ xs) i is = let all = position-Some p (x ∷ xs) i x is in (get_or (x ∷ xs) i x, slice_get-get_or (x ∷ xs) i x all.0, all.1)
-
   within : (xs : List X) (x : X) → Contains xs x → p x ≡ true → position_or_len p xs < length xs
   within [] x has passes = absurd (none_in_nil x has)
   within (y ∷ ys) x has passes = by (p y) refl (λ later. within ys x later passes)
@@ -124,7 +118,7 @@ module _ (basis : Basis) (entity : Entity) where
     pub value_found : (digit : ℕ) → digit_of (value_test basis (props_of (model_of basis) entity.ty) p) entity links ≡ Some digit
         → (told : AtomOf) × At (atoms_at basis p) digit told × Holding p told
     value_found digit is =
-        let found = at_position (λ (told : AtomOf). lies_in (basis.constants (prop p)) told.atom test_value) (atoms_at basis p) digit is in
+        let found = position_passes (λ (told : AtomOf). lies_in (basis.constants (prop p)) told.atom test_value) (atoms_at basis p) digit is in
         let listed = contains_at (atoms_at basis p) digit found.0 found.1 in
         let lies : Lies found.0 = (Decides-lies (basis.constants (prop p)) test_value found.0.atom).0 found.2 in
         (found.0, found.1, subst (λ (P : Type 0). P) (lies_as found.0 listed) lies)

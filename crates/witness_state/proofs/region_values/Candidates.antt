@@ -1,10 +1,10 @@
 -- Which candidate stands at which place.
-use Rattle.std.proofs.Common.{◌≡◌, ◌≢◌, ◌+◌, ◌<◌, ℕ, ℤ, zero, suc, List, length, map, Option, Some, option_map, refl, sym, ap, subst, ◌∙◌, zero-add, arith}
+use Rattle.std.proofs.Common.{◌≡◌, ◌≢◌, ◌+◌, ◌<◌, ℕ, ℤ, zero, suc, List, length, map, Option, Some, refl, sym, ap, subst, ◌∙◌, zero-add, arith}
 use Rattle.std.proofs.lemmas.List.{length-map}
-use Rattle.std.proofs.lemmas.Option.{slice_get-map}
 use Rattle.emc_base.specs.Lists.{At}
 use Rattle.emc_base.specs.declared.value.EnumKind.{EnumKind}
 use Rattle.emc_base.specs.declared.value.Kind.TheVariants as kind
+use Rattle.emc_base.proofs.Joined.{at_map}
 use Rattle.round_trip.specs.Words.{Whole, Kind}
 use Rattle.region_states.specs.defaults.Candidates.{candidates, letter, number, numbers_from}
 use Rattle.region_states.proofs.defaults.Lists.{numbers_length}
@@ -15,9 +15,6 @@ number_at first (suc more) zero within = ap Some (sym (zero-add first))
 number_at first (suc more) (suc i) within =
     let next : i + suc first ≡ suc i + first = omega arith in
     number_at (suc first) more i (omega arith) ∙ ap Some next
-
-at_map : {X Y : Type 0} (f : X → Y) (xs : List X) (i : ℕ) (x : X) → At xs i x → At (map f xs) i (f x)
-at_map f xs i x here = slice_get-map f xs i ∙ ap (option_map f) here
 
 -- the text of a character
 pub letter_at : (i : ℕ) → i < length (map letter (numbers_from 97 100)) → At (map letter (numbers_from 97 100)) i (letter (i + 97))

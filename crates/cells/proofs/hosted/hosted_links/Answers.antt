@@ -4,11 +4,11 @@ use Rattle.std.specs.Option.{unwrap_or}
 use Rattle.std.proofs.lemmas.Option.{slice_get-get_or}
 use Rattle.emc_base.specs.Lists.{At}
 use Rattle.emc_base.proofs.Loops.{take-enumerated}
+use Rattle.emc_base.proofs.facts.Images.{one_more_gives}
 use Rattle.round_trip.specs.Words.{Assoc, Hosted, Link}
 use Rattle.table_owners.specs.declared.places.LinkPlace.{LinkPlace}
 use Rattle.table_owners.specs.declared.places.LinkPlace.TheVariants as place
 use Rattle.cells.specs.HostedLinks.{hosted_at, hosted_by}
-use Rattle.cells.proofs.Lists.{one_more_gives}
 use Rattle.cells.proofs.hosted.hosted_links.Goals as goal
 
 pub loop-index-preserved : goal.loop-index-preserved

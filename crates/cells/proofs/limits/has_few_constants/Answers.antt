@@ -1,12 +1,13 @@
 use Rattle.std.proofs.Common.{◌≡◌, ◌≤◌, List, length, sym, subst, ◌∙◌, arith}
 use Rattle.std.proofs.lemmas.Bool.{le-leb, leb-true}
 use Rattle.std.proofs.lemmas.Option.{same_Some}
+use Rattle.emc_base.proofs.facts.Found.{some_found}
 use Rattle.round_trip.specs.Words.{Value}
 use Rattle.round_trip.specs.soundness.mappings.Joined.{prop}
 use Rattle.member_groups.specs.MemberGroups.{ListsJust, constants_in}
 use Rattle.member_groups.specs.Tested.{IsConstant}
 use Rattle.cells.specs.Parts.{schema_in}
-use Rattle.cells.proofs.Few.{few_by_list, list_is_short, some_found}
+use Rattle.cells.proofs.Few.{few_by_list, list_is_short}
 use Rattle.cells.proofs.limits.has_few_constants.Goals as goal
 
 pub group_of_prop-group-requires : goal.group_of_prop-group-requires

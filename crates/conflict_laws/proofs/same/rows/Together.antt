@@ -1,9 +1,9 @@
 -- Entities of one key in two states with the same links: regions with the same flags hold them, with the same partners.
-use Rattle.std.proofs.Common.{◌≡◌, ◌∷◌, [], ◌++◌, List, flat_map, Bool, Contains, refl, sym, ap, subst, ◌∙◌}
+use Rattle.std.proofs.Common.{◌≡◌, ◌∷◌, [], List, Bool, Contains, sym, ap, subst, ◌∙◌}
 use Rattle.std.specs.Option.{option_map_or}
 use Rattle.emc_base.proofs.Lists.{only_member, only_stands}
+use Rattle.emc_base.proofs.facts.Images.{flat_map_agree}
 use Rattle.round_trip.specs.Words.{SetId, AssocId, PropId, Assoc, Entity, EntitySet, Hosted, IsLegal, Link, State, TypeId, Value, At, entities_in, key_of, links_in}
-use Rattle.schema_laws.proofs.state_demand.lists.Lists.{head_stands, tail_stands}
 use Rattle.regions.specs.declared.region.Region.{Region}
 use Rattle.regions.specs.Basis.{Basis, Host, IsHostedLink, host_end, partner_end}
 use Rattle.regions.specs.Regions.{flagged}
@@ -16,14 +16,6 @@ use Rattle.regions.proofs.region_laws.entities.Regions.{region_among, region_hol
 use Rattle.region_states.specs.focus.Held.{IsHeldAt, IsOfRegion}
 use Rattle.region_states.proofs.focus.Flags.{held_at}
 use Rattle.conflict_laws.proofs.same.states.HostedAt.{at_host, host_at}
-
--- functions that agree at each member give one list
-flat_map_agree : {X Y : Type 0} (f g : X → List Y) (xs : List X) → ((x : X) → Contains xs x → f x ≡ g x) → flat_map f xs ≡ flat_map g xs
-flat_map_agree f g [] each = refl
-flat_map_agree f g (x ∷ xs) each =
-    let head : f x ≡ g x = each x (head_stands x xs) in
-    let rest : flat_map f xs ≡ flat_map g xs = flat_map_agree f g xs (λ y has. each y (tail_stands x xs y has)) in
-    λ k. head k ++ rest k
 
 -- each link of an association that is hosted at the set stands in the second state too
 abbrev pub HasLinksToo : Basis → SetId → State → State → Type 0

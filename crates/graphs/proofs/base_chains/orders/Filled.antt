@@ -7,8 +7,8 @@ use Rattle.std.proofs.lemmas.List.{get_or_default, same_lists}
 use Rattle.std.proofs.lemmas.List.Elements.{All-contains}
 use Rattle.std.proofs.lemmas.List.FromFn.{get_or-map-range_with_len, length-map-range_with_len}
 use Rattle.emc_base.specs.Lists.{At}
-use Rattle.emc_base.proofs.Lists.{at_once}
 use Rattle.emc_base.proofs.Mapped.{contains_at}
+use Rattle.emc_base.proofs.facts.Behind.{at_earlier}
 use Rattle.graphs.specs.base_chains.Chains.{IsAncestor}
 use Rattle.graphs.specs.base_chains.Walks.{IsBasesFirst}
 use Rattle.graphs.proofs.base_chains.orders.Orders.{above_before, earlier_place, place_of_member}
@@ -45,10 +45,7 @@ module _ (Good : ℕ → ℕ → Type 0) (count : ℕ) where
             subst (Good i) (sym (get_or-set_same values i value 0 within)) good
 
         before : (m x : ℕ) → m < n + 1 → At order m x → x ≢ i → m < n
-        before m x below at other = ⊎_elim
-            (λ (last : m ≡ n). let P : ℕ → Type 0 = λ k. At order k x in absurd (other (at_once order n x i (subst P last at) here)))
-            (λ (earlier : m ≢ n). omega arith)
-            (cases_eq m n)
+        before = at_earlier order n i here
 
     -- after the last place
     pub filled_all : length order ≤ n → (i : ℕ) → i < count → Good i (slice_index values i)

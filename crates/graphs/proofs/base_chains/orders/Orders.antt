@@ -1,18 +1,14 @@
 -- An order in which each type follows its base: no type stands above itself, and chains end.
-use Rattle.std.proofs.Common.{◌≡◌, ℕ, ◌<◌, ◌≤◌, min, List, length, get_or, take, Contains, Option, Some, sym, ◌∙◌, arith}
+use Rattle.std.proofs.Common.{◌≡◌, ℕ, ◌<◌, ◌≤◌, min, List, length, take, Contains, Option, sym, ◌∙◌, arith}
 use Rattle.std.proofs.lemmas.List.{get_or-take, length-take}
 use Rattle.std.proofs.lemmas.List.Elements.{All-contains}
-use Rattle.std.proofs.lemmas.Option.{slice_get-get_or}
 use Rattle.emc_base.specs.Lists.{At}
 use Rattle.emc_base.proofs.Lists.{same_place}
 use Rattle.emc_base.proofs.Mapped.{contains_at}
 use Rattle.graphs.specs.base_chains.Chains.{IsAncestor, direct, further, StaysWithin, base_at}
 use Rattle.graphs.specs.base_chains.Walks.{IsBasesFirst}
 use Rattle.graphs.proofs.base_chains.Chains.{Ends, closed_ancestors, ends, few_apart, has_base}
-
--- a member stands at a place
-pub place_of_member : {X : Type 0} (xs : List X) (x : X) → (has : Contains xs x) → At xs has.0 x
-place_of_member xs x has = slice_get-get_or xs has.0 x has.1 ∙ (let same : get_or xs has.0 x ≡ x = has.2 in λ i. Some (same i))
+pub use Rattle.emc_base.proofs.facts.Standing.{place_of_member}
 
 -- a member of the first so many stands at an earlier place
 pub earlier_place : {X : Type 0} (xs : List X) (k : ℕ) (x : X) → Contains (take k xs) x → (m : ℕ) × (m < k) × At xs m x

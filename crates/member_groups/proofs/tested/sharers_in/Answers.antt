@@ -1,9 +1,10 @@
 use Rattle.std.proofs.Common.{◌≡◌, ◌≤◌, ℕ, List, Contains, length, sym, subst, ◌∙◌, arith}
+use Rattle.emc_base.proofs.Members.{contains_nil}
 use Rattle.member_groups.specs.declared.mapping_asks.member.MemberId.{MemberId}
 use Rattle.member_groups.specs.declared.mapping_asks.member.MemberId.TheVariants.{Prop}
 use Rattle.member_groups.specs.mapping_asks.Adding.{Adds, EachBelow, Tells}
 use Rattle.member_groups.specs.Causes.{IsSharer}
-use Rattle.member_groups.proofs.mapping_asks.Adding.{adds_as, adds_below, adds_last, adds_nothing, no_member, tells_added}
+use Rattle.member_groups.proofs.mapping_asks.Adding.{adds_as, adds_below, adds_last, adds_nothing, tells_added}
 use Rattle.member_groups.proofs.group_numbers.Joint.{no_joint}
 use Rattle.member_groups.proofs.Sharing.{one_stands}
 use Rattle.member_groups.proofs.tested.sharers_in.Goals as goal
@@ -37,4 +38,4 @@ returns c =
     let all : c.loop-place.place ≡ length c.args.model.now.props = omega (arith, end, inside, count) in
     subst Told all
     (tells_added (EachBelow (IsSharer c.args.numbered.now) c.loop-place.place) (Contains c.new-sharers.result.items) (Contains sharers)
-    (subst none (sym c.new-sharers.ensures.items) no_member) c.loop-place.invariant)
+    (subst none (sym c.new-sharers.ensures.items) contains_nil) c.loop-place.invariant)

@@ -1,5 +1,5 @@
 -- What V30 and V39 give of a fragment, where they are kept: no column is written twice, and what is written to the primary key is of the set's key.
-use Rattle.std.proofs.Common.{◌≡◌, inl, inr, ℕ, List, [], ◌∷◌, map, codes, Contains, Option, Some, MatchOption, refl, sym, subst}
+use Rattle.std.proofs.Common.{◌≡◌, inl, inr, ℕ, List, [], ◌∷◌, map, codes, Contains, refl, subst}
 use Rattle.std.proofs.lemmas.List.Elements.{All-contains}
 use Rattle.emc_base.specs.Lists.{At}
 use Rattle.emc_base.proofs.Mapped.{contains_map}
@@ -16,6 +16,7 @@ use Rattle.schema_names.specs.SchemaNames.{set_named, table_named}
 use Rattle.table_owners.specs.key_matching.Matchings.{Matches}
 use Rattle.layouts.proofs.rule_places.FaultPlaces.{fault_at, in_list}
 use Rattle.emc_base.proofs.Stable.{stable}
+use Rattle.emc_base.proofs.facts.Found.{where_found}
 use Rattle.msl_rules.specs.declared.msl_lists.raw.RawMapping.{RawMapping}
 use Rattle.msl_rules.specs.declared.msl_lists.raw.RawPair.{RawPair}
 use Rattle.msl_rules.specs.Found.{prop_of_picks}
@@ -26,10 +27,6 @@ use Rattle.msl_fragments.proofs.sound_owners.Among.{props_tell}
 use Rattle.msl_fragments.proofs.sound_owners.ColumnNames.{TellsByColumn, columns_once}
 use Rattle.msl_fragments.proofs.sound_owners.Fragments.{IsFragmentOf}
 use Rattle.msl_rules.specs.OwnerRules.{is_among_props}
-
--- what holds of what is found
-pub where_some : {X : Type 0} (P : X → Type 0) (found : Option X) (x : X) → found ≡ Some x → P x → MatchOption found ⊥ P
-where_some {X} P found x is holds = let Q : Option X → Type 0 = λ o. MatchOption o ⊥ P in subst Q (sym is) holds
 
 -- pairs write the properties of a key to the columns of a primary key
 pub record WritesOwnKey (key : List PropId) (cols : List ColId) (pairs : List Pair) : Type 0 where
@@ -60,10 +57,10 @@ module _ (model : EntityModel) (store : StoreModel) (raw : RawMapping) (keeps : 
         rest = in_sets;
         reached = refl;
         holds = in_list (IsSetFault schema) (codes "EntitySetMapping") raw.sets of.here.i site.set fault.rule in_set of.here.set
-            (where_some (λ s. InSet s (fault_at fault.rule in_set)) (set_named model site.set.name) s of.meant.is_set
+            (where_found (λ s. InSet s (fault_at fault.rule in_set)) (set_named model site.set.name) s of.meant.is_set
             (in_list (IsTypesFault schema s) (codes "EntityTypeMapping") site.set.types of.here.j site.types fault.rule in_types of.here.types
             (in_list (IsFragmentFault schema site.types s) (codes "MappingFragment") site.types.fragments of.here.k site.fragment fault.rule fault.place of.here.fragment
-            (where_some (λ t. BreaksFragmentRules schema site.types site.fragment s t fault) (table_named store site.fragment.table) of.meant.t of.meant.is_table broken))));
+            (where_found (λ t. BreaksFragmentRules schema site.types site.fragment s t fault) (table_named store site.fragment.table) of.meant.t of.meant.is_table broken))));
       }))))))
     where
       InSet : ℕ → Fault → Type 0

@@ -17,6 +17,7 @@ use Rattle.schema_names.specs.SchemaNames.{association_set_named, prop_named, ta
 use Rattle.layouts.proofs.rule_places.FaultPlaces.{fault_at, in_list}
 use Rattle.groupings.proofs.name_places.Finds.{found_named}
 use Rattle.emc_base.proofs.Stable.{stable}
+use Rattle.emc_base.proofs.facts.Found.{where_found}
 use Rattle.msl_rules.specs.declared.msl_lists.raw.RawEndMapping.{RawEndMapping}
 use Rattle.msl_rules.specs.declared.msl_lists.raw.RawMapping.{RawMapping}
 use Rattle.msl_rules.specs.Found.{end_pairs, pairs_in, role_end}
@@ -27,7 +28,6 @@ use Rattle.msl_rules.specs.OwnerRules.{is_among_props}
 use Rattle.msl_fragments.proofs.sound_owners.Among.{props_tell}
 use Rattle.msl_fragments.proofs.sound_owners.ColumnNames.{TellsByColumn, columns_once}
 use Rattle.msl_fragments.proofs.sound_owners.Fragments.{IsLinkOf}
-use Rattle.msl_fragments.proofs.sound_owners.kept.KeptFragments.{where_some}
 
 -- pairs write properties of a key, none to the column of another
 pub record WritesOnlyKey (key : List PropId) (pairs : List Pair) : Type 0 where
@@ -52,8 +52,8 @@ module _ (model : EntityModel) (store : StoreModel) (raw : RawMapping) (keeps : 
         rest = in_links;
         reached = refl;
         holds = in_list (IsLinkFault schema) (codes "AssociationSetMapping") raw.links of.here.i link fault.rule fault.place of.here.link
-            (inl (where_some (λ a. (assoc : Assoc) × At model.assocs a assoc × BreaksLinkRules schema link a assoc fault) (association_set_named model link.name) of.meant.a of.meant.is_set
-            (assoc_there, of.meant.is_assoc, inl (where_some (λ t. BreaksTableRules schema link of.meant.a assoc_there t fault) (table_named store link.table) table_there of.meant.is_table broken))));
+            (inl (where_found (λ a. (assoc : Assoc) × At model.assocs a assoc × BreaksLinkRules schema link a assoc fault) (association_set_named model link.name) of.meant.a of.meant.is_set
+            (assoc_there, of.meant.is_assoc, inl (where_found (λ t. BreaksTableRules schema link of.meant.a assoc_there t fault) (table_named store link.table) table_there of.meant.is_table broken))));
       })))))))
 
   module _ (e : ℕ) (end : RawEndMapping) (here : At of.site.link.ends e end) (known : End) (is : role_end assoc_there end.role ≡ Some known) where
@@ -64,7 +64,7 @@ module _ (model : EntityModel) (store : StoreModel) (raw : RawMapping) (keeps : 
         let ends = of.site.link.ends in
         none_of_link (fault_at fault.rule (Member (codes "EndProperty") ∷ Item e ∷ fault.place))
         (inl (in_list (IsEndFault schema ends assoc_there table_there) (codes "EndProperty") ends e end fault.rule fault.place here
-        (where_some (λ known. BreaksEndRules schema ends table_there e end known fault) (role_end assoc_there end.role) known is broken)))
+        (where_found (λ known. BreaksEndRules schema ends table_there e end known fault) (role_end assoc_there end.role) known is broken)))
 
     -- what the end writes
     abbrev written : List Pair

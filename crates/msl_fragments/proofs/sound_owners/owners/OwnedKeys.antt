@@ -6,6 +6,7 @@ use Rattle.round_trip.specs.Words.{Assoc, End, EntityModel, LinkFragment, Pair, 
 use Rattle.round_trip.specs.soundness.models.Constraints.{IsSoundEnd}
 use Rattle.round_trip.specs.soundness.Lookups.{set_key}
 use Rattle.round_trip.specs.soundness.mappings.Owners.{Owns, SetHosts, SetWrites}
+use Rattle.round_trip.proofs.Lookups.{end_set_key}
 use Rattle.msl_rules.specs.declared.msl_lists.raw.RawMapping.{RawMapping}
 use Rattle.msl_rules.specs.Found.{end_pairs, role_end}
 use Rattle.msl_rules.specs.KeepsMapping.{KeepsMappingRules}
@@ -14,7 +15,7 @@ use Rattle.msl_fragments.proofs.sound_owners.ColumnNames.{TellsByColumn}
 use Rattle.msl_fragments.proofs.sound_owners.Fragments.{IsLinkOf, fragment_of, link_of}
 use Rattle.msl_fragments.proofs.sound_owners.kept.KeptFragments.{WritesOwnKey, fragment_key}
 use Rattle.msl_fragments.proofs.sound_owners.kept.KeptLinks.{end_key}
-use Rattle.msl_fragments.proofs.sound_owners.SetKeys.{end_set_key, first_role, second_role, sound_assoc}
+use Rattle.msl_fragments.proofs.sound_owners.SetKeys.{first_role, second_role, sound_assoc}
 
 module _ (model : EntityModel) (store : StoreModel) (raw : RawMapping) (keeps : KeepsMappingRules model store raw) where
   -- the key of the set is written to the primary key of the table

@@ -1,6 +1,7 @@
 use Rattle.std.proofs.Common.{◌≡◌, ◌+◌, ◌++◌, ◌∷◌, [], List, length, append_assoc, append-nil, ap, arith, refl, sym, subst, ◌∙◌}
 use Rattle.std.specs.List.{AllZip}
 use Rattle.std.specs.Vec.Iter.{into_iter_items, into_iter_len}
+use Rattle.emc_base.proofs.facts.Zipped.{zip_push}
 use Rattle.cells.specs.Cells.{is_free_in}
 use Rattle.case_laws.specs.declared.candidates.placed.PlacedRow.{PlacedRow}
 use Rattle.region_states.specs.region_basis.BasisOf.{basis_of}
@@ -9,7 +10,6 @@ use Rattle.query_views.specs.Answers.{LendsSet}
 use Rattle.query_views.specs.declared.lending.LentEntity.{LentEntity}
 use Rattle.query_views.proofs.Lent.{IsLentBy, all_lent, handed_on, lack_set}
 use Rattle.query_views.proofs.Viewed.{no_items}
-use Rattle.query_views.proofs.Zips.{zip_push}
 use Rattle.query_views.proofs.lending.lent_set.Goals as goal
 
 pub loop-group-init : goal.loop-group-init

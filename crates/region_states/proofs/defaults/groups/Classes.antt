@@ -1,62 +1,26 @@
 -- Kinds of properties that are joined, and of dependent ones.
-use Rattle.std.proofs.Common.{◌≡◌, ◌⊎◌, ⊎_elim, inl, inr, ◌↔◌, [], map, option_map, slice_get, Option, Some, None, Contains, refl, sym, ap, subst, ◌∙◌}
-use Rattle.std.specs.Bool.{⊤}
+use Rattle.std.proofs.Common.{◌≡◌, ◌⊎◌, ⊎_elim, inr, [], map, option_map, slice_get, Option, Some, None, Contains, refl, sym, ap, subst, ◌∙◌}
 use Rattle.std.specs.Option.{option_map_or}
 use Rattle.std.proofs.lemmas.List.Elements.{All-contains}
 use Rattle.std.proofs.lemmas.Option.{MatchOption-at_some}
 use Rattle.emc_base.specs.declared.value.Under.{Under}
 use Rattle.emc_base.specs.declared.value.Kind.TheVariants as kind
 use Rattle.emc_base.specs.declared.value.Under.TheVariants as under
-use Rattle.emc_base.proofs.Lists.{at_once, item_at}
+use Rattle.emc_base.proofs.Lists.{at_once}
 use Rattle.emc_base.proofs.Mapped.{contains_at, contains_map}
 use Rattle.emc_base.proofs.Numbered.{map_contains}
-use Rattle.round_trip.specs.Words.{TableId, ColId, PropId, TypeId, Kind, EntityModel, EntityType, Prop, Column, Assoc, Constraint, Fragment, Pair, Schema, At, key_props, principal_end}
+use Rattle.round_trip.specs.Words.{TableId, ColId, PropId, TypeId, Kind, EntityModel, EntityType, Prop, Assoc, Constraint, Schema, At, key_props, principal_end}
 use Rattle.round_trip.specs.soundness.models.Constraints.{HasIndependentMults, HasMatchedLists, IsSoundAssoc, IsSoundConstraint}
-use Rattle.round_trip.specs.soundness.mappings.Fragments.{WritesToFitting}
 use Rattle.round_trip.specs.soundness.models.Inheritance.{IsKeyProp}
-use Rattle.round_trip.specs.soundness.mappings.Joined.{IsDependent, Joined, Member, WritesNoBarredEnum, prop, col}
-use Rattle.round_trip.specs.soundness.mappings.Joined as joined
-use Rattle.round_trip.specs.soundness.Kinds.{Corresponds, IsBinary, IsEnum, IsKeyKind, IsSoundKind, under_kind, without_bound}
-use Rattle.round_trip.specs.soundness.Lookups.{column_kind, columns_of, prop_kind}
-use Rattle.round_trip.specs.soundness.mappings.Mappings.{HasPairIds, IsSoundSchema}
+use Rattle.round_trip.specs.soundness.mappings.Joined.{IsDependent, Joined, WritesNoBarredEnum, prop, col}
+use Rattle.round_trip.specs.soundness.Kinds.{IsBinary, IsEnum, IsKeyKind, IsSoundKind, under_kind, without_bound}
+use Rattle.round_trip.specs.soundness.Lookups.{column_kind, prop_kind}
+use Rattle.round_trip.specs.soundness.mappings.Mappings.{IsSoundSchema}
 use Rattle.round_trip.specs.soundness.models.Models.{IsSoundModel}
+use Rattle.round_trip.proofs.Classes.{HasClass, IsPaired, class_of, joined_class, joined_paired, key_unbound}
+use Rattle.round_trip.proofs.Lookups.{column_kind_at, prop_kind_at}
 use Rattle.schema_laws.proofs.state_demand.lists.Lists.{none_in_nil}
 use Rattle.schema_laws.proofs.sound_demand.Fitting.{sound_fragment}
-
--- a kind, bounds aside; an enumeration as the kind below it
-unfoldable pub class_of : Kind → Kind
-class_of (kind.Enum enumeration) = under_kind enumeration.under
-class_of other = without_bound other
-
-under_alone : (u : Under) → without_bound (under_kind u) ≡ under_kind u
-under_alone under.Byte = refl
-under_alone under.Int16 = refl
-under_alone under.Int32 = refl
-under_alone under.Int64 = refl
-
-same_class : (property column : Kind) → Corresponds property column → class_of property ≡ without_bound column
-unfolding class_of
-same_class (kind.Text bound) (kind.Text wide) corresponds = refl
-same_class (kind.Text bound) _ corresponds = cc
-same_class (kind.Binary bound) (kind.Binary wide) corresponds = refl
-same_class (kind.Binary bound) _ corresponds = cc
-same_class (kind.Enum enumeration) column corresponds = sym (ap without_bound corresponds ∙ under_alone enumeration.under)
-same_class kind.Boolean column corresponds = ap without_bound corresponds
-same_class kind.Byte column corresponds = ap without_bound corresponds
-same_class kind.Int16 column corresponds = ap without_bound corresponds
-same_class kind.Int32 column corresponds = ap without_bound corresponds
-same_class kind.Int64 column corresponds = ap without_bound corresponds
-
--- a kind of keys, whatever its bound
-key_unbound : (k : Kind) → IsKeyKind k → IsKeyKind (without_bound k)
-key_unbound kind.Boolean key = absurd key
-key_unbound kind.Byte key = absurd key
-key_unbound kind.Int16 key = key
-key_unbound kind.Int32 key = key
-key_unbound kind.Int64 key = key
-key_unbound (kind.Text bound) key = key
-key_unbound (kind.Binary bound) key = absurd key
-key_unbound (kind.Enum enumeration) key = absurd key
 
 key_bound : (k : Kind) → IsKeyKind (without_bound k) → IsKeyKind k
 key_bound kind.Boolean key = absurd key
@@ -132,53 +96,20 @@ key_prop model sound t p has = by (slice_get model.types t.index) refl has
     by (Some type) here there = All-contains (IsKeyProp model) type.key p (sound.types t type here).key_props there
 
 module _ (schema : Schema) where
-  -- the class of a property or a column
-  pub HasClass : Member → Kind → Type 0
-  HasClass (prop p) k = (declared : Prop) × At schema.model.props p.index declared × (class_of declared.kind ≡ k)
-  HasClass (col t c) k = (column : Column) × At (columns_of schema.store t) c.index column × (without_bound column.kind ≡ k)
-
-  -- an entity fragment writes it
-  IsPaired : Member → Type 0
-  IsPaired (prop p) = (fragment : Fragment) × (pair : Pair) × Contains schema.mapping.fragments fragment × Contains fragment.pairs pair × (pair.prop ≡ p)
-  IsPaired (col t c) = ⊤
-
-  -- what is joined is one, or both are written
-  joined_paired : (one other : Member) → Joined schema one other → (one ≡ other) ⊎ (IsPaired one × IsPaired other)
-  unfolding IsPaired
-  joined_paired one other (joined.pair fragment pair mapped among free_prop free_col) = inr ((fragment, pair, mapped, among, refl), tt)
-  joined_paired one other (joined.same _ free) = inl refl
-  joined_paired one other (joined.back _ _ rest) = ⊎_elim (λ same. inl (sym same)) (λ both. inr (both.1, both.0)) (joined_paired other one rest)
-  joined_paired one other (joined.chain _ next _ first rest) = ⊎_elim
-      (λ (same : one ≡ next). ⊎_elim
-      (λ (after : next ≡ other). inl (same ∙ after))
-      (λ (both : IsPaired next × IsPaired other). inr (subst IsPaired (sym same) both.0, both.1))
-      (joined_paired next other rest))
-      (λ (before : IsPaired one × IsPaired next). ⊎_elim
-      (λ (after : next ≡ other). inr (before.0, subst IsPaired after before.1))
-      (λ (both : IsPaired next × IsPaired other). inr (before.0, both.1))
-      (joined_paired next other rest))
-      (joined_paired one next first)
-
-  kinds_at : (p : PropId) (declared : Prop) → At schema.model.props p.index declared → prop_kind schema.model p ≡ Some declared.kind
-  kinds_at p declared here = ap (option_map (λ (one : Prop). one.kind)) here
-
-  column_kind_at : (t : TableId) (c : ColId) (column : Column) → At (columns_of schema.store t) c.index column → column_kind schema.store t c ≡ Some column.kind
-  column_kind_at t c column here = ap (option_map (λ (one : Column). one.kind)) here
-
   -- a property of the class of byte lists is one, and so is a column
-  pub binary_prop : (p : PropId) → HasClass (prop p) (kind.Binary None) → (k : Kind) × (prop_kind schema.model p ≡ Some k) × IsBinary k
+  pub binary_prop : (p : PropId) → HasClass schema (prop p) (kind.Binary None) → (k : Kind) × (prop_kind schema.model p ≡ Some k) × IsBinary k
   unfolding HasClass
-  binary_prop p has = (has.0.kind, kinds_at p has.0 has.1, (class_binary has.0.kind has.2).0)
+  binary_prop p has = (has.0.kind, prop_kind_at schema.model p has.0 has.1, (class_binary has.0.kind has.2).0)
 
-  pub binary_column : (t : TableId) (c : ColId) → HasClass (col t c) (kind.Binary None) → (k : Kind) × (column_kind schema.store t c ≡ Some k) × IsBinary k
+  pub binary_column : (t : TableId) (c : ColId) → HasClass schema (col t c) (kind.Binary None) → (k : Kind) × (column_kind schema.store t c ≡ Some k) × IsBinary k
   unfolding HasClass
-  binary_column t c has = (has.0.kind, column_kind_at t c has.0 has.1, column_binary has.0.kind has.2)
+  binary_column t c has = (has.0.kind, column_kind_at schema.store t c has.0 has.1, column_binary has.0.kind has.2)
 
-  pub class_at : (p : PropId) (declared : Prop) → At schema.model.props p.index declared → HasClass (prop p) (class_of declared.kind)
+  pub class_at : (p : PropId) (declared : Prop) → At schema.model.props p.index declared → HasClass schema (prop p) (class_of declared.kind)
   unfolding HasClass
   class_at p declared here = (declared, here, refl)
 
-  pub at_class : (p : PropId) (k : Kind) (declared : Prop) → At schema.model.props p.index declared → HasClass (prop p) k → class_of declared.kind ≡ k
+  pub at_class : (p : PropId) (k : Kind) (declared : Prop) → At schema.model.props p.index declared → HasClass schema (prop p) k → class_of declared.kind ≡ k
   unfolding HasClass
   at_class p k declared here has = ap (λ (d : Prop). class_of d.kind) (at_once schema.model.props p.index declared has.0 here has.1) ∙ has.2
 
@@ -187,35 +118,6 @@ module _ (schema : Schema) where
     sound_kind p declared here =
         let Sound : Prop → Type 0 = λ one. IsSoundKind one.kind in
         All-contains Sound schema.model.props declared sound.model.kinds (contains_at schema.model.props p.index declared here)
-
-    -- a pair's property and column are of one class
-    pair_class : (t : TableId) (pair : Pair) → HasPairIds schema t pair → WritesToFitting schema t pair
-        → (k : Kind) → HasClass (prop pair.prop) k ↔ HasClass (col t pair.col) k
-    unfolding HasClass
-    pair_class t pair ids fits k =
-        let declared = item_at schema.model.props pair.prop.index ids.0 in
-        let column = item_at (columns_of schema.store t) pair.col.index ids.1 in
-        let same : class_of declared.0.kind ≡ without_bound column.0.kind = same_class declared.0.kind column.0.kind
-        (fits declared.0.kind column.0.kind (kinds_at pair.prop declared.0 declared.1) (column_kind_at t pair.col column.0 column.1)) in (
-          λ has. (column.0, column.1, sym same ∙ ap (λ (d : Prop). class_of d.kind) (at_once schema.model.props pair.prop.index declared.0 has.0 declared.1 has.1) ∙ has.2),
-          λ has. (
-            declared.0,
-            declared.1,
-            same
-                ∙ ap (λ (c : Column). without_bound c.kind) (at_once (columns_of schema.store t) pair.col.index column.0 has.0 column.1 has.1) ∙ has.2,
-          ),
-        )
-
-    -- and so is all that is joined
-    pub joined_class : (one other : Member) → Joined schema one other → (k : Kind) → HasClass one k ↔ HasClass other k
-    joined_class one other (joined.pair fragment pair mapped among free_prop free_col) k =
-        let is = sound_fragment schema sound fragment mapped in
-        pair_class fragment.table pair (All-contains (HasPairIds schema fragment.table) fragment.pairs pair is.ids.pairs among)
-        (All-contains (WritesToFitting schema fragment.table) fragment.pairs pair is.kinds among) k
-    joined_class one other (joined.same _ free) k = (λ has. has, λ has. has)
-    joined_class one other (joined.back _ _ rest) k = let both = joined_class other one rest k in (both.1, both.0)
-    joined_class one other (joined.chain _ next _ first rest) k =
-        let before = joined_class one next first k in let after = joined_class next other rest k in (λ has. after.0 (before.0 has), λ has. before.1 (after.1 has))
 
     -- a dependent property is a whole number or a text, as a key is
     pub dependent_kind : (p : PropId) → IsDependent schema.model p → (declared : Prop) × At schema.model.props p.index declared × IsKeyKind declared.kind
@@ -232,7 +134,7 @@ module _ (schema : Schema) where
         let is_key : Contains (key_props schema.model (principal_end assoc constraint).ty) q.0 =
         All-contains (Contains (key_props schema.model (principal_end assoc constraint).ty)) constraint.principal q.0 lists.principal.only q.1 in
         let key : IsKeyProp schema.model q.0 = key_prop schema.model sound.model (principal_end assoc constraint).ty q.0 is_key in
-        let kind_is : Some (without_bound key.declared.kind) ≡ told p = sym (ap (option_map without_bound) (kinds_at q.0 key.declared key.is_declared)) ∙ q.2 in
+        let kind_is : Some (without_bound key.declared.kind) ≡ told p = sym (ap (option_map without_bound) (prop_kind_at schema.model q.0 key.declared key.is_declared)) ∙ q.2 in
         at_place (slice_get schema.model.props p.index) refl (key_unbound key.declared.kind key.kind) kind_is
       where
         at_place : (found : Option Prop) → slice_get schema.model.props p.index ≡ found → {k : Kind} → IsKeyKind k
@@ -253,10 +155,10 @@ module _ (schema : Schema) where
     unfolding IsPaired
     joined_no_enum p q by joins declared here enumeration = ⊎_elim
         (λ (same : prop p ≡ prop q). let is : p ≡ q = cc in (key_class declared.kind (dependent_is q (subst (IsDependent schema.model) is by) declared here)).1 enumeration)
-        (λ (both : IsPaired (prop p) × IsPaired (prop q)). written both.1)
-        (joined_paired (prop p) (prop q) joins)
+        (λ (both : IsPaired schema (prop p) × IsPaired schema (prop q)). written both.1)
+        (joined_paired schema (prop p) (prop q) joins)
       where
-        written : IsPaired (prop q) → ⊥
+        written : IsPaired schema (prop q) → ⊥
         written (fragment, pair, mapped, among, same) =
             let barred : WritesNoBarredEnum schema pair = All-contains (WritesNoBarredEnum schema) fragment.pairs pair (sound_fragment schema sound fragment mapped).enums among in
             let Here : PropId → Type 0 = λ one. At schema.model.props one.index declared in
@@ -268,6 +170,6 @@ module _ (schema : Schema) where
         → At schema.model.props q.index declared → IsKeyKind declared.kind
     joined_key_kind p q by joins declared here =
         let found = dependent_kind p by in
-        let class = (joined_class (prop p) (prop q) joins (class_of found.0.kind)).0 (class_at p found.0 found.1) in
+        let class = (joined_class schema sound (prop p) (prop q) joins (class_of found.0.kind)).0 (class_at p found.0 found.1) in
         let is : class_of declared.kind ≡ class_of found.0.kind = at_class q (class_of found.0.kind) declared here class in
         class_key declared.kind (joined_no_enum p q by joins declared here) (subst IsKeyKind (sym is) (key_class found.0.kind found.2).0)

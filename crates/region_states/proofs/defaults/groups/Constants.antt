@@ -5,27 +5,25 @@ use Rattle.std.proofs.lemmas.List.Elements.{All-contains}
 use Rattle.std.proofs.lemmas.Option.{slice_get_within}
 use Rattle.emc_base.proofs.Lists.{all_from_members}
 use Rattle.emc_base.specs.declared.value.Kind.TheVariants as kind
+use Rattle.emc_base.proofs.facts.Standing.{none_stands}
 use Rattle.round_trip.specs.Words.{TableId, PropId, Value, Whole, Kind, Prop, Cond, CondOn, Schema, At}
 use Rattle.edm_types.specs.declared.mapping.CondOn.TheVariants as on
 use Rattle.round_trip.specs.soundness.mappings.Conditions.{ComparesInDomain, kind_of}
 use Rattle.round_trip.specs.soundness.mappings.Joined.{ComparesNoBarred, IsBarred, IsDependent, IsNoKey, Joined, Member, col, member_of, prop}
 use Rattle.round_trip.specs.soundness.mappings.Joined as joined
 use Rattle.round_trip.specs.soundness.Kinds.{IsBinary, IsEnum, IsSoundKind}
+use Rattle.round_trip.proofs.Lookups.{assoc_of}
+use Rattle.round_trip.proofs.Classes.{HasClass, class_of, joined_class}
 use Rattle.member_groups.specs.Tested.{HasCondition, IsComparedWith, IsConstant, IsTested, MakesTested}
-use Rattle.schema_laws.proofs.state_demand.lists.Lists.{head_stands}
-use Rattle.schema_laws.proofs.sound_demand.Fitting.{assoc_of, sound_fragment, sound_link}
+use Rattle.schema_laws.proofs.sound_demand.Fitting.{sound_fragment, sound_link}
 use Rattle.cells.specs.Limits.{IsWithinLimits, most_constants}
 use Rattle.regions.specs.region_laws.IsBasis.{IsBasis}
 use Rattle.regions.proofs.region_laws.values.Told.{constants_once}
 use Rattle.regions.specs.Basis.{Basis}
 use Rattle.region_states.specs.defaults.Candidates.{AreTwoFree, candidates, first_free, next_free, numbers_from, letter, number}
 use Rattle.region_states.proofs.defaults.Candidates.{IsPlainKind, many, two_free, two_of_all}
-use Rattle.region_states.proofs.defaults.groups.Classes.{HasClass, at_class, binary_class, binary_column, binary_prop, class_at, class_binary, class_of, joined_class, joined_no_enum, sound_kind}
+use Rattle.region_states.proofs.defaults.groups.Classes.{at_class, binary_class, binary_column, binary_prop, class_at, class_binary, joined_no_enum, sound_kind}
 use Rattle.region_states.proofs.defaults.Lists.{numbers_length}
-
-none_stands : {X : Type 0} (xs : List X) → ((x : X) → Contains xs x → ⊥) → xs ≡ []
-none_stands [] none = refl
-none_stands (x ∷ xs) none = absurd (none x (head_stands x xs))
 
 class_of_binary : (k : Kind) → IsBinary k → class_of k ≡ kind.Binary None
 class_of_binary kind.Boolean is = absurd is

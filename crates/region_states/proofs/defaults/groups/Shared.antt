@@ -5,16 +5,18 @@ use Rattle.std.proofs.lemmas.Bool.Decides.{not_from_Decides}
 use Rattle.std.proofs.lemmas.Option.{slice_get_within}
 use Rattle.emc_base.proofs.Lists.{at_once}
 use Rattle.emc_base.specs.declared.value.Kind.TheVariants as kind
-use Rattle.round_trip.specs.Words.{PropId, Value, Null, Kind, Prop, Schema, At}
-use Rattle.round_trip.specs.soundness.mappings.Joined.{Joined, Member, prop}
+use Rattle.round_trip.specs.Words.{PropId, Value, Null, Kind, Prop, At}
+use Rattle.round_trip.specs.soundness.mappings.Joined.{Joined, prop}
 use Rattle.round_trip.specs.soundness.mappings.Joined as joined
 use Rattle.round_trip.specs.soundness.Kinds.{IsEnum}
-use Rattle.member_groups.specs.Tested.{AreInOneGroup, IsConstant}
+use Rattle.round_trip.proofs.Classes.{class_of, joined_class}
+use Rattle.member_groups.specs.Tested.{AreInOneGroup}
+use Rattle.member_groups.proofs.Constants.{joined_constant}
 use Rattle.schema_laws.specs.state_demand.Selecting.{same_value}
 use Rattle.regions.specs.region_laws.IsBasis.{IsBasis}
 use Rattle.regions.specs.Basis.{Basis}
 use Rattle.region_states.specs.defaults.Candidates.{candidates, first_free, free_values, is_free, next_free}
-use Rattle.region_states.proofs.defaults.groups.Classes.{at_class, class_at, class_of, joined_class}
+use Rattle.region_states.proofs.defaults.groups.Classes.{at_class, class_at}
 use Rattle.region_states.proofs.defaults.Lists.{Decides-constant}
 
 -- tests of facts that follow from one another are one
@@ -56,12 +58,6 @@ unbound_same kind.Int64 constants no_enum = refl
 unbound_same (kind.Text bound) constants no_enum = refl
 unbound_same (kind.Binary bound) constants no_enum = refl
 unbound_same (kind.Enum enumeration) constants no_enum = absurd (no_enum tt)
-
--- what is joined has the same constants
-joined_constant : (schema : Schema) (one other : Member) → Joined schema other one → (v : Value) → IsConstant schema one v → IsConstant schema other v
-joined_constant schema one other joins v (inl (third, to, compared)) = inl (third, joined.chain other one third joins to, compared)
-joined_constant schema one other joins v (inr ((third, to, makes), (r, enumeration, n, to_r, of_enum, among, is))) =
-    inr ((third, joined.chain other one third joins to, makes), (r, enumeration, n, joined.chain other one (prop r) joins to_r, of_enum, among, is))
 
 module _ (basis : Basis) (is : IsBasis basis) (p q : PropId) (declared other : Prop) (here : At basis.schema.model.props p.index declared)
     (there : At basis.schema.model.props q.index other) where

@@ -12,6 +12,7 @@ use Rattle.edm_types.specs.IsA.{base}
 use Rattle.round_trip.specs.soundness.models.Inheritance.{IsRootKey}
 use Rattle.round_trip.specs.soundness.models.Models.{IsSoundModel}
 use Rattle.graphs.proofs.base_chains.Chains.{Ends}
+use Rattle.edm_types.proofs.Lookups.{key_at}
 use Rattle.schema_laws.proofs.sound_types.BasePlaces.{base_ends, base_here, base_place}
 use Rattle.schema_laws.proofs.state_demand.lists.Lists.{member_cases, none_in_nil}
 use Rattle.schema_laws.proofs.sound_demand.Keys.{inherits_keys}
@@ -37,9 +38,6 @@ abbrev AreFew : List PropId → Type 0
 AreFew key = length key ≤ 4
 
 module _ (model : EntityModel) (sound : IsSoundModel model) where
-  key_at : (t : TypeId) (type : EntityType) → At model.types t.index type → key_props model t ≡ type.key
-  key_at t type here = ap (λ found. option_map_or (λ (one : EntityType). one.key) found []) here
-
   abbrev HasFew : TypeId → Type 0
   HasFew t = length (key_props model t) ≤ 4
 
@@ -55,7 +53,7 @@ module _ (model : EntityModel) (sound : IsSoundModel model) where
     where
       by_base : (type : EntityType) → At model.types t.index type → ((u : TypeId) → HasBase model t u → HasFew u) → (above : Option TypeId) → type.base ≡ above → HasFew t
       by_base type here up None none =
-          subst AreFew (sym (key_at t type here))
+          subst AreFew (sym (key_at model t type here))
           (MatchOption-at_none (IsRootKey model t type.key) (λ one. type.key ≡ key_props model one) none (sound.types t type here).key).few
       by_base type here up (Some u) is =
           let has : HasBase model t u = (type, here, is) in

@@ -6,6 +6,7 @@ use Rattle.std.proofs.lemmas.Bool.{and_parts}
 use Rattle.std.proofs.lemmas.List.Elements.{Contains-append_left, Contains-append_right}
 use Rattle.emc_base.proofs.Lists.{at_once}
 use Rattle.emc_base.proofs.Numbered.{enumerated_at, filter_contains, map_contains}
+use Rattle.emc_base.proofs.facts.Tests.{not_true}
 use Rattle.round_trip.specs.Words.{SetId, TypeId, PropId, AssocId, EntitySet, EntityType, Prop, Assoc, Mult, At, IsA, IsConcrete}
 use Rattle.edm_types.specs.declared.model.Mult.TheVariants.{One, ZeroOrOne, Many}
 use Rattle.round_trip.specs.soundness.mappings.Joined.{prop}
@@ -53,13 +54,9 @@ module _ (basis : Basis) (is : IsBasis basis) (s : SetId) (region : Region) (amo
       let same : by.set ≡ set = at_once (model_of basis).sets s.index by.set set by.is_set here in
       let P : TypeId → Type 0 = λ t. IsConcrete (model_of basis) t × IsA (model_of basis) t by.set.element in
       let told : P (as_type found.0) =
-      ((type, enumerated_at (model_of basis).types found.0 kept.0, concrete type.is_abstract parts.0), (is.types.tells (as_type found.0) by.set.element).0 parts.1) in
+      ((type, enumerated_at (model_of basis).types found.0 kept.0, not_true type.is_abstract parts.0), (is.types.tells (as_type found.0) by.set.element).0 parts.1) in
       let both = subst P is_type told in
       (both.0, subst (λ (one : EntitySet). IsA (model_of basis) region.ty one.element) same both.1)
-    where
-      concrete : (b : Bool) → not b ≡ true → b ≡ false
-      concrete true told = sym told
-      concrete false told = refl
 
   -- it has an atom of each tested property, in their order
   pub atoms_fit : AllZip (IsAtomOf basis) (tested_props basis region.ty) region.atoms

@@ -1,5 +1,5 @@
 -- Lists of choices, lists beside one another, and lists without repeats.
-use Rattle.std.proofs.Common.{◌≡◌, ◌≢◌, ⊎_elim, suc, List, [], ◌∷◌, ◌++◌, map, flat_map, All, AllPairs, Contains, sym, ap, subst, ◌∙◌, arith}
+use Rattle.std.proofs.Common.{◌≡◌, ◌≢◌, ⊎_elim, List, [], ◌∷◌, ◌++◌, map, flat_map, All, Contains, sym, ap, subst, ◌∙◌}
 use Rattle.std.specs.List.{AllZip}
 use Rattle.std.proofs.lemmas.List.Elements.{All-append, All-contains, All-head, All-nil, All-tail}
 use Rattle.std.proofs.lemmas.List.Kept.{AllPairs-cons}
@@ -9,17 +9,10 @@ use Rattle.emc_base.proofs.Mapped.{contains_map}
 use Rattle.emc_base.proofs.Numbered.{map_contains}
 use Rattle.regions.specs.Lists.{choices}
 use Rattle.schema_laws.proofs.state_demand.lists.Lists.{contains_flat_map, head_stands, member_cases, member_of_flat_map, none_in_nil, tail_stands}
+pub use Rattle.emc_base.proofs.facts.Pairs.{pairs_nil}
+pub use Rattle.emc_base.proofs.Joined.{pairs_head, pairs_tail}
 
 module _ {X : Type 0} where
-  pub pairs_nil : (R : X → X → Type 0) → AllPairs R []
-  pairs_nil R i j d below within = absurd (omega arith)
-
-  pub pairs_head : (R : X → X → Type 0) (x : X) (xs : List X) → AllPairs R (x ∷ xs) → All (R x) xs
-  pairs_head R x xs pairs k d within = pairs 0 (suc k) d (omega arith) (omega arith)
-
-  pub pairs_tail : (R : X → X → Type 0) (x : X) (xs : List X) → AllPairs R (x ∷ xs) → AllPairs R xs
-  pairs_tail R x xs pairs i j d below within = pairs (suc i) (suc j) d (omega arith) (omega arith)
-
   -- two lists behind one another, without a common member
   pub apart_append : (xs ys : List X) → AreApart xs → AreApart ys → ((x : X) → Contains xs x → Contains ys x → ⊥) → AreApart (xs ++ ys)
   apart_append [] ys first second between = second

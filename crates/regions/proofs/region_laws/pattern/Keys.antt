@@ -6,9 +6,9 @@ use Rattle.emc_base.proofs.Numbered.{map_contains}
 use Rattle.round_trip.specs.Words.{SetId, TableId, ColId, AssocId, Assoc, Fragment, LinkFragment, Pair, Table, At, key_columns}
 use Rattle.round_trip.specs.FailsAt.{IsHostedAt}
 use Rattle.round_trip.specs.soundness.mappings.Owners.{Owns}
+use Rattle.round_trip.proofs.Lookups.{key_columns_at}
 use Rattle.schema_laws.specs.state_demand.Owners.{IsHostAt, IsHosted, IsOfOwner, IsOwned}
 use Rattle.schema_laws.specs.state_demand.WellWritten.{FitsTable, cols_of}
-use Rattle.schema_laws.proofs.state_demand.writings.Fitting.{key_is}
 use Rattle.schema_laws.proofs.state_demand.lists.Lists.{head_stands, none_in_nil, same_by_key, tail_stands}
 use Rattle.schema_laws.proofs.state_demand.owners.Owners.{pairs_from_map}
 use Rattle.schema_laws.proofs.state_demand.lists.Permutations.{head_apart}
@@ -195,7 +195,7 @@ module _ (basis : Basis) (is : IsBasis basis) where
         All-contains P basis.schema.mapping.links fragment (well_written basis.schema is.sound).links mapped table (subst Here (sym to) here) in
         map_contains (λ (one : Pair). one.col) (fragment.first ++ fragment.second) col
         (All-contains (Contains (cols_of (fragment.first ++ fragment.second))) table.key col fits.writes_key
-        (subst (λ cols. Contains cols col) (key_is basis.schema.store t table here) key))
+        (subst (λ cols. Contains cols col) (key_columns_at basis.schema.store t table here) key))
 
     module _ (fragment : LinkFragment) (mapped : Contains basis.schema.mapping.links fragment) (of_assoc : fragment.assoc ≡ a) (to : fragment.table ≡ t)
         (is_writing : Contains (link_writings basis a) (link_fragment_writing false false fragment)) (pair : Pair) (at_col : pair.col ≡ col) where

@@ -1,21 +1,23 @@
 -- Rows and cells at the key of an entity, or of a link, are those of its pattern.
-use Rattle.std.proofs.Common.{◌≡◌, ◌≢◌, ◌↔◌, ◌⊎◌, ⊎_elim, inl, inr, List, [], ◌∷◌, ◌++◌, map, All, Contains, Bool, true, false, IsTrue, refl, sym, ap, subst, ◌∙◌}
+use Rattle.std.proofs.Common.{◌≡◌, ◌≢◌, ◌↔◌, ◌⊎◌, ⊎_elim, inl, inr, List, ◌++◌, map, All, Contains, Bool, true, false, IsTrue, refl, sym, ap, subst, ◌∙◌}
 use Rattle.std.proofs.lemmas.List.{map-append}
-use Rattle.std.proofs.lemmas.List.Elements.{All-contains, Contains-append_right}
+use Rattle.std.proofs.lemmas.List.Elements.{All-contains}
 use Rattle.emc_base.specs.Lists.{AreApart}
 use Rattle.emc_base.proofs.Lists.{item_at}
 use Rattle.emc_base.proofs.Mapped.{contains_at, contains_map}
 use Rattle.emc_base.proofs.Numbered.{map_contains}
+use Rattle.emc_base.proofs.facts.Standing.{some_item}
+use Rattle.emc_base.proofs.facts.Pairs.{apart_between}
 use Rattle.round_trip.specs.Words.{SetId, TableId, ColId, AssocId, PropId, Value, Assoc, Table, LinkFragment, Pair, Entity, Hosted, Link, State, Writing, WritesRow, DemandsRow, DemandsCell, At, IsLegal, key_columns, key_of, links_in, written_key}
 use Rattle.round_trip.specs.FailsAt.{IsHostedAt}
 use Rattle.round_trip.specs.soundness.mappings.Owners.{IsPlaced}
 use Rattle.round_trip.specs.soundness.Stores.{IsSoundTable}
+use Rattle.round_trip.proofs.Lookups.{key_columns_at}
 use Rattle.schema_laws.specs.state_demand.Owners.{IsHostAt, IsHosted, IsJoinedTo, IsLinkOf, IsOwned, IsWritingOf, StandsAt}
 use Rattle.schema_laws.specs.state_demand.WellWritten.{cols_of}
 use Rattle.schema_laws.specs.state_demand.Writings.{link_writing}
-use Rattle.schema_laws.proofs.state_demand.writings.Fitting.{key_is}
 use Rattle.schema_laws.proofs.state_demand.writings.Given.{given_cell, gives_cell}
-use Rattle.schema_laws.proofs.state_demand.lists.Lists.{head_stands, member_cases, none_in_nil, same_by_key}
+use Rattle.schema_laws.proofs.state_demand.lists.Lists.{same_by_key}
 use Rattle.schema_laws.proofs.state_demand.owners.Owners.{pairs_from_map}
 use Rattle.schema_laws.specs.sound_demand.Local.{IsLocalToLinks}
 use Rattle.schema_laws.proofs.sound_demand.Fitting.{link_ids, sound_link}
@@ -31,21 +33,7 @@ use Rattle.regions.specs.region_laws.Concrete.{AreConcrete, HasSymbol, IsWriting
 use Rattle.regions.specs.region_laws.IsBasis.{IsBasis, IsHostOf}
 use Rattle.regions.specs.region_laws.Partners.{HasPartners}
 use Rattle.regions.proofs.region_laws.writings.Cells.{cells_concrete, rows_concrete}
-use Rattle.regions.proofs.region_laws.lists.Choices.{pairs_head, pairs_tail}
 use Rattle.regions.proofs.region_laws.writings.Patterns.{link_pattern, pairs_at, pairs_beyond, region_pattern}
-
--- nothing stands in both parts of a list without repeats
-apart_between : {X : Type 0} (xs ys : List X) (x : X) → AreApart (xs ++ ys) → Contains xs x → Contains ys x → ⊥
-apart_between [] ys x apart first second = none_in_nil x first
-apart_between (z ∷ zs) ys x apart first second = ⊎_elim
-    (λ (here : x ≡ z). All-contains (λ y. z ≢ y) (zs ++ ys) x (pairs_head (λ one two. one ≢ two) z (zs ++ ys) apart) (Contains-append_right zs ys x second) (sym here))
-    (λ (later : Contains zs x). apart_between zs ys x (pairs_tail (λ one two. one ≢ two) z (zs ++ ys) apart) later second)
-    (member_cases z zs x first)
-
--- a list that isn't empty has a member
-some_member : {X : Type 0} (xs : List X) → xs ≢ [] → (x : X) × Contains xs x
-some_member [] some = absurd (some refl)
-some_member (x ∷ xs) some = (x, head_stands x xs)
 
 -- the columns of the two ends of a link are different
 ends_apart : (fragment : LinkFragment) → AreApart (cols_of (fragment.first ++ fragment.second)) → (b : Bool) (one two : Pair) → Contains (pairs_at b fragment) one
@@ -88,7 +76,7 @@ module _ (basis : Basis) (is : IsBasis basis) (t : TableId) (s : SetId) (pairing
         let there : At basis.schema.store.tables t.index table = subst At_table to found.1 in
         let sound : IsSoundTable table = All-contains IsSoundTable basis.schema.store.tables table is.sound.store.tables
         (contains_at basis.schema.store.tables t.index table there) in
-        some_member (key_columns basis.schema.store t) (λ none. sound.key.some (sym (key_is basis.schema.store t table there) ∙ none))
+        some_item (key_columns basis.schema.store t) (λ none. sound.key.some (sym (key_columns_at basis.schema.store t table there) ∙ none))
 
     -- the pairing isn't written at the end whose columns aren't the primary key
     never_both : (b : Bool) → All (Contains (pairs_at b fragment)) pairing → IsHostedAt basis.schema fragment.table (pairs_beyond b fragment) → ⊥

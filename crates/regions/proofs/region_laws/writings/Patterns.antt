@@ -10,13 +10,14 @@ use Rattle.emc_base.proofs.Mapped.{contains_filter, contains_map}
 use Rattle.emc_base.proofs.Numbered.{filter_contains, map_contains}
 use Rattle.round_trip.specs.Words.{SetId, TypeId, PropId, AssocId, Value, Assoc, Fragment, LinkFragment, Pair, Entity, Hosted, Link, Mult, State, Writing, Selects, At, IsA, entities_in, key_of, key_props, links_in, value_beside, value_of}
 use Rattle.round_trip.specs.soundness.mappings.Fragments.{WritesEndKey}
+use Rattle.round_trip.proofs.Lookups.{assoc_of}
 use Rattle.schema_laws.specs.state_demand.MadeTables.{given_cells}
 use Rattle.schema_laws.specs.state_demand.Selecting.{same_key}
 use Rattle.schema_laws.specs.state_demand.Writings.{entity_writing, link_writing}
 use Rattle.schema_laws.proofs.state_demand.lists.Lists.{Decides-any, any_of, contains_flat_map, head_stands, member_cases, member_of_flat_map, none_in_nil, of_any, tail_stands}
 use Rattle.schema_laws.proofs.state_demand.owners.Owners.{beside_map}
 use Rattle.schema_laws.proofs.state_demand.writings.Selecting.{Decides-key}
-use Rattle.schema_laws.proofs.sound_demand.Fitting.{assoc_of, sound_link}
+use Rattle.schema_laws.proofs.sound_demand.Fitting.{sound_link}
 use Rattle.schema_laws.proofs.sound_demand.Keys.{inherits_keys}
 use Rattle.regions.specs.declared.region.Region.{Region}
 use Rattle.regions.specs.Basis.{Basis, Host, host_end, host_key, partner_end, partner_key}

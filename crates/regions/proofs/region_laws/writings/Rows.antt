@@ -1,12 +1,13 @@
 -- The rows of a pattern: those of the written tables, in the order of tables.
-use Rattle.std.proofs.Common.{◌≡◌, ⊎_elim, ℕ, zero, suc, ◌<◌, List, [], ◌∷◌, ◌++◌, map, flat_map, AllPairs, Contains, Some, Bool, true, false, true≢false, IsTrue, if◌then◌else◌, refl, sym, ap, arith}
+use Rattle.std.proofs.Common.{◌≡◌, ⊎_elim, ℕ, ◌<◌, List, [], ◌∷◌, flat_map, AllPairs, Contains, Bool, true, false, true≢false, IsTrue, if◌then◌else◌, refl, sym, ap, arith}
 use Rattle.std.specs.List.{enumerate_from}
-use Rattle.std.proofs.lemmas.List.Elements.{All-append, All-contains, All-nil}
+use Rattle.std.proofs.lemmas.List.Elements.{All-contains, All-nil}
 use Rattle.std.proofs.lemmas.List.Kept.{AllPairs-cons}
 use Rattle.emc_base.specs.Lists.{At}
-use Rattle.emc_base.proofs.Lists.{all_from_members}
 use Rattle.emc_base.proofs.Mapped.{contains_enumerated}
 use Rattle.emc_base.proofs.Numbered.{enumerated_at, numbered_at}
+use Rattle.emc_base.proofs.Joined.{at_map}
+use Rattle.emc_base.proofs.facts.Pairs.{pairs_append}
 use Rattle.round_trip.specs.Words.{TableId, ColId, Table, Column, StoreModel}
 use Rattle.schema_laws.proofs.state_demand.lists.Lists.{contains_flat_map, head_stands, member_cases, member_of_flat_map, none_in_nil, tail_stands}
 use Rattle.regions.specs.declared.pattern.PatternRow.{PatternRow}
@@ -14,19 +15,6 @@ use Rattle.regions.specs.Symbols.{SymbolWriting}
 use Rattle.regions.specs.Patterns.{cell_symbols, is_written, pattern_by, pattern_row, rows_at}
 use Rattle.regions.proofs.region_laws.listing.Apart.{numbers_rise}
 use Rattle.regions.proofs.region_laws.lists.Choices.{pairs_head, pairs_nil, pairs_tail}
-
--- an image stands where the item does
-at_map : {X Y : Type 0} (f : X → Y) (xs : List X) (i : ℕ) (x : X) → At xs i x → At (map f xs) i (f x)
-at_map f [] i x here = cc
-at_map f (y ∷ ys) zero x here = let is : y ≡ x = cc in ap (λ z. Some (f z)) is
-at_map f (y ∷ ys) (suc i) x here = at_map f ys i x here
-
--- what is so by pairs in each list, and between them
-pairs_append : {X : Type 0} (R : X → X → Type 0) (xs ys : List X) → AllPairs R xs → AllPairs R ys → ((x y : X) → Contains xs x → Contains ys y → R x y) → AllPairs R (xs ++ ys)
-pairs_append R [] ys first second between = second
-pairs_append R (x ∷ xs) ys first second between = AllPairs-cons R x (xs ++ ys)
-    (All-append (R x) xs ys (pairs_head R x xs first) (all_from_members (R x) ys (λ y has. between x y (head_stands x xs) has)))
-    (pairs_append R xs ys (pairs_tail R x xs first) second (λ z y has other. between z y (tail_stands x xs z has) other))
 
 pairs_flat_map : {X Y : Type 0} (S : X → X → Type 0) (R : Y → Y → Type 0) (f : X → List Y) (xs : List X) → ((x : X) → AllPairs R (f x))
     → ((x z : X) (y w : Y) → Contains xs x → Contains xs z → S x z → Contains (f x) y → Contains (f z) w → R y w) → AllPairs S xs → AllPairs R (flat_map f xs)

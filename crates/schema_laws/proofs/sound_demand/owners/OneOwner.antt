@@ -1,38 +1,25 @@
 -- A table that is written has one owner: one set with one pairing, or one joined association, and not both.
 use Rattle.round_trip.specs.soundness.Lookups.{set_key}
 use Rattle.std.proofs.Common.{◌≡◌, ◌≢◌, ◌⊎◌, inl, inr, ⊎_elim, List, [], ◌∷◌, ◌++◌, length, All, Any, Contains, refl, sym, ap, subst, ◌∙◌, arith, ℕ, ◌<◌, get_or}
-use Rattle.std.proofs.lemmas.List.{map-append}
 use Rattle.std.proofs.lemmas.List.Elements.{All-contains, All-head, All-tail, Contains-append_left, Contains-append_right, Contains-get_or}
 use Rattle.emc_base.specs.Lists.{AreApart, HoldsEachOnce}
 use Rattle.emc_base.proofs.Lists.{item_at, all_from_members, at_once}
 use Rattle.emc_base.proofs.Mapped.{contains_at, contains_map}
 use Rattle.emc_base.proofs.Numbered.{map_contains, all_pairs_map}
+use Rattle.emc_base.proofs.facts.Standing.{some_item}
 use Rattle.round_trip.specs.Words.{SetId, TableId, ColId, Assoc, End, Table, Fragment, LinkFragment, Pair, Schema, At, IsWritten, key_columns, key_props, PropId}
 use Rattle.round_trip.specs.soundness.mappings.Mappings.{IsSoundSchema}
 use Rattle.round_trip.specs.soundness.models.ModelIds.{HasEndIds}
 use Rattle.round_trip.specs.soundness.Stores.{IsSoundTable}
-use Rattle.schema_laws.specs.state_demand.Owners.{IsHostAt, IsHosted, IsJoinedTo, IsOfOwner, IsOwned, props_in}
+use Rattle.round_trip.proofs.Lookups.{assoc_of, key_columns_at}
+use Rattle.schema_laws.specs.state_demand.Owners.{IsHostAt, IsJoinedTo, IsOwned, props_in}
 use Rattle.schema_laws.specs.state_demand.WellWritten.{cols_of}
-use Rattle.schema_laws.proofs.state_demand.writings.Fitting.{key_is}
-use Rattle.schema_laws.proofs.state_demand.lists.Lists.{head_stands, member_cases, none_in_nil, of_any, same_by_key}
+use Rattle.schema_laws.proofs.state_demand.lists.Lists.{of_any, same_by_key}
 use Rattle.schema_laws.proofs.state_demand.owners.Owners.{pairs_from_map}
-use Rattle.schema_laws.proofs.state_demand.lists.Permutations.{head_apart, rest_apart}
-use Rattle.schema_laws.proofs.sound_demand.Fitting.{assoc_of, link_ids, sound_fragment, sound_link}
+use Rattle.schema_laws.proofs.sound_demand.Fitting.{link_ids, sound_fragment, sound_link}
 use Rattle.schema_laws.proofs.sound_demand.Keys.{keys_some}
 use Rattle.schema_laws.proofs.sound_demand.owners.Pairing.{first_once, second_once, key_of_set}
-
-module _ {X : Type 0} where
-  some_member : (xs : List X) → xs ≢ [] → (x : X) × Contains xs x
-  some_member [] some = absurd (some refl)
-  some_member (x ∷ xs) some = (x, head_stands x xs)
-
-  -- nothing stands in both parts of a list without repeats
-  apart_between : (xs ys : List X) (x : X) → AreApart (xs ++ ys) → Contains xs x → Contains ys x → ⊥
-  apart_between [] ys x apart first second = none_in_nil x first
-  apart_between (z ∷ zs) ys x apart first second = ⊎_elim
-      (λ (here : x ≡ z). head_apart z (zs ++ ys) x apart (Contains-append_right zs ys x second) (sym here))
-      (λ (later : Contains zs x). apart_between zs ys x (rest_apart z (zs ++ ys) apart) later second)
-      (member_cases z zs x first)
+use Rattle.schema_laws.proofs.state_demand.owners.Owning.{ends_apart, hosted_at, of_owner}
 
 -- a pairing from some pairs, by its columns, is one
 same_pairing : (pairs one two : List Pair) → AreApart (cols_of pairs) → All (Contains pairs) one → All (Contains pairs) two → cols_of one ≡ cols_of two → one ≡ two
@@ -48,33 +35,14 @@ same_pairing pairs (p ∷ ps) (q ∷ qs) apart ones twos same =
     let tail : ps ≡ qs = same_pairing pairs ps qs apart (All-tail (Contains pairs) p ps ones) (All-tail (Contains pairs) q qs twos) tails in
     λ k. head k ∷ tail k
 
--- the columns of the two ends of a link are different
-ends_apart : (first second : List Pair) → AreApart (cols_of (first ++ second)) → (one two : Pair) → Contains first one → Contains second two → one.col ≡ two.col → ⊥
-ends_apart first second apart one two has_one has_two same =
-    let column : Pair → ColId = λ pair. pair.col in
-    let split = subst AreApart (map-append column first second) apart in
-    apart_between (cols_of first) (cols_of second) two.col split (subst (Contains (cols_of first)) same (contains_map column first one has_one))
-    (contains_map column second two has_two)
-
 module _ (schema : Schema) (sound : IsSoundSchema schema) (t : TableId) where
   -- a primary key has a column
   key_some : (table : Table) → At schema.store.tables t.index table → (col : ColId) × Contains (key_columns schema.store t) col
   key_some table here =
       let is : IsSoundTable table = All-contains IsSoundTable schema.store.tables table sound.store.tables (contains_at schema.store.tables t.index table here) in
-      some_member (key_columns schema.store t) (λ none. is.key.some (sym (key_is schema.store t table here) ∙ none))
+      some_item (key_columns schema.store t) (λ none. is.key.some (sym (key_columns_at schema.store t table here) ∙ none))
 
   module _ (owner : SetId) (pairing : List Pair) (owned : IsOwned schema t owner pairing) where
-    of_owner : (fragment : Fragment) → Contains schema.mapping.fragments fragment → fragment.table ≡ t → IsOfOwner owner pairing fragment
-    of_owner fragment mapped to =
-        let P : Fragment → Type 0 = λ f. f.table ≡ t → IsOfOwner owner pairing f in
-        All-contains P schema.mapping.fragments fragment owned.fragments mapped to
-
-    pub hosted_at : (fragment : LinkFragment) (assoc : Assoc) → Contains schema.mapping.links fragment → At schema.model.assocs fragment.assoc.index assoc → fragment.table ≡ t
-        → IsHosted owner pairing assoc fragment
-    hosted_at fragment assoc mapped here to =
-        let P : LinkFragment → Type 0 = λ f. f.table ≡ t → (a : Assoc) → At schema.model.assocs f.assoc.index a → IsHosted owner pairing a f in
-        All-contains P schema.mapping.links fragment owned.links mapped to assoc here
-
     -- each column of the primary key is paired
     pair_of : (col : ColId) → Contains (key_columns schema.store t) col → (pair : Pair) × Contains pairing pair × (pair.col ≡ col)
     pair_of col has = map_contains (λ (pair : Pair). pair.col) pairing col (subst (λ cols. Contains cols col) (sym owned.cols) has)
@@ -82,8 +50,8 @@ module _ (schema : Schema) (sound : IsSoundSchema schema) (t : TableId) where
   module _ (owner other : SetId) (pairing others : List Pair) (owned : IsOwned schema t owner pairing) (too : IsOwned schema t other others) where
     by_fragment : (fragment : Fragment) → Contains schema.mapping.fragments fragment → fragment.table ≡ t → (owner ≡ other) × (pairing ≡ others)
     by_fragment fragment mapped to =
-        let first = of_owner owner pairing owned fragment mapped to in
-        let second = of_owner other others too fragment mapped to in
+        let first = of_owner schema t owner pairing owned fragment mapped to in
+        let second = of_owner schema t other others too fragment mapped to in
         (sym first.of_set ∙ second.of_set, same_pairing fragment.pairs pairing others first.once first.writes second.writes (owned.cols ∙ sym too.cols))
 
     -- the two can't be hosted at different ends
@@ -113,10 +81,10 @@ module _ (schema : Schema) (sound : IsSoundSchema schema) (t : TableId) where
 
     by_link : (fragment : LinkFragment) → Contains schema.mapping.links fragment → fragment.table ≡ t → (assoc : Assoc) → At schema.model.assocs fragment.assoc.index assoc
         → (owner ≡ other) × (pairing ≡ others)
-    by_link fragment mapped to assoc here = by (hosted_at owner pairing owned fragment assoc mapped here to).host (hosted_at other others too fragment assoc mapped here to).host
+    by_link fragment mapped to assoc here = by (hosted_at schema t owner pairing owned fragment assoc mapped here to).host (hosted_at schema t other others too fragment assoc mapped here to).host
       where
         once : AreApart (cols_of (fragment.first ++ fragment.second))
-        once = (hosted_at owner pairing owned fragment assoc mapped here to).once
+        once = (hosted_at schema t owner pairing owned fragment assoc mapped here to).once
 
         by : IsHostAt owner pairing assoc.first fragment.first ⊎ IsHostAt owner pairing assoc.second fragment.second
             → IsHostAt other others assoc.first fragment.first ⊎ IsHostAt other others assoc.second fragment.second → (owner ≡ other) × (pairing ≡ others)
@@ -143,13 +111,13 @@ module _ (schema : Schema) (sound : IsSoundSchema schema) (t : TableId) where
   end_pair : (end : End) → HasEndIds schema.model end → (pairs : List Pair) → HoldsEachOnce (key_props schema.model end.ty) (props_in pairs) → (pair : Pair) × Contains pairs pair
   end_pair end ids pairs holds =
       let type = item_at schema.model.types end.ty.index ids.1 in
-      let prop = some_member (key_props schema.model end.ty) (keys_some schema.model sound.model end.ty type.0 type.1) in
+      let prop = some_item (key_props schema.model end.ty) (keys_some schema.model sound.model end.ty type.0 type.1) in
       let found = map_contains (λ (pair : Pair). pair.prop) pairs prop.0 (All-contains (Contains (props_in pairs)) (key_props schema.model end.ty) prop.0 holds.all prop.1) in
       (found.0, found.1)
 
   -- no set owns the table of a joined association
   pub owned_or_joined : (owner : SetId) (pairing : List Pair) (fragment : LinkFragment) (assoc : Assoc) → IsOwned schema t owner pairing → IsJoinedTo schema t fragment assoc → ⊥
-  owned_or_joined owner pairing fragment assoc owned joined = by (hosted_at owner pairing owned fragment assoc joined.is_fragment joined.is_assoc joined.to_table).host
+  owned_or_joined owner pairing fragment assoc owned joined = by (hosted_at schema t owner pairing owned fragment assoc joined.is_fragment joined.is_assoc joined.to_table).host
     where
       ids : HasEndIds schema.model assoc.first × HasEndIds schema.model assoc.second
       ids = All-contains (λ (one : Assoc). HasEndIds schema.model one.first × HasEndIds schema.model one.second) schema.model.assocs assoc sound.model.ids.ends
@@ -188,7 +156,7 @@ module _ (schema : Schema) (sound : IsSoundSchema schema) (t : TableId) where
     once_by_fragment fragment mapped to =
         let is = sound_fragment schema sound fragment mapped in
         let P : TableId → Type 0 = λ u. (table : Table) × At schema.store.tables u.index table in
-        (fragment.pairs, (of_owner owner pairing owned fragment mapped to).writes, is.once.props, subst P to (item_at schema.store.tables fragment.table.index is.ids.table))
+        (fragment.pairs, (of_owner schema t owner pairing owned fragment mapped to).writes, is.once.props, subst P to (item_at schema.store.tables fragment.table.index is.ids.table))
 
     once_by_link : (fragment : LinkFragment) → Contains schema.mapping.links fragment → fragment.table ≡ t → WrittenOnce
     once_by_link fragment mapped to =
@@ -199,7 +167,7 @@ module _ (schema : Schema) (sound : IsSoundSchema schema) (t : TableId) where
         ⊎_elim
         (λ (host : IsHostAt owner pairing assoc.0.first fragment.first). (fragment.first, host.writes, is.once.first, table))
         (λ (host : IsHostAt owner pairing assoc.0.second fragment.second). (fragment.second, host.writes, is.once.second, table))
-        (hosted_at owner pairing owned fragment assoc.0 mapped assoc.1 to).host
+        (hosted_at schema t owner pairing owned fragment assoc.0 mapped assoc.1 to).host
 
     written_once : WrittenOnce
     written_once = ⊎_elim
@@ -216,7 +184,7 @@ module _ (schema : Schema) (sound : IsSoundSchema schema) (t : TableId) where
     cols_once =
         let table : Table = written_once.3.0 in
         let is : IsSoundTable table = All-contains IsSoundTable schema.store.tables table sound.store.tables (contains_at schema.store.tables t.index table written_once.3.1) in
-        subst AreApart (sym (owned.cols ∙ key_is schema.store t table written_once.3.1)) is.key.once
+        subst AreApart (sym (owned.cols ∙ key_columns_at schema.store t table written_once.3.1)) is.key.once
 
     props_once : AreApart (props_in pairing)
     props_once =

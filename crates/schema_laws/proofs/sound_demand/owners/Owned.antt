@@ -11,12 +11,13 @@ use Rattle.round_trip.specs.soundness.Lookups.{set_key}
 use Rattle.round_trip.specs.soundness.mappings.Mappings.{IsSoundSchema}
 use Rattle.round_trip.specs.soundness.mappings.Owners.{IsJoined, IsOwner, IsPlaced, LinkMaps, Owner, Owns}
 use Rattle.round_trip.specs.soundness.mappings.Owners as sound_owner
+use Rattle.round_trip.proofs.Lookups.{assoc_of}
 use Rattle.schema_laws.specs.state_demand.Owners.{HasOwner, IsHosted, IsJoinedTo, IsOfOwner, IsOwned, props_in}
 use Rattle.schema_laws.specs.state_demand.WellWritten.{cols_of}
 use Rattle.schema_laws.proofs.state_demand.writings.Decisions.{so_or_not}
 use Rattle.schema_laws.proofs.state_demand.lists.Lists.{any_or_none, of_any, same_by_key}
 use Rattle.schema_laws.proofs.state_demand.owners.Owners.{pairs_from_map}
-use Rattle.schema_laws.proofs.sound_demand.Fitting.{assoc_of, sound_fragment, sound_link}
+use Rattle.schema_laws.proofs.sound_demand.Fitting.{sound_fragment, sound_link}
 use Rattle.schema_laws.proofs.sound_demand.Keys.{keys_apart}
 use Rattle.schema_laws.proofs.sound_demand.owners.Pairing.{ChosenFor, PairsKey, choose, key_of_set, pairs_key, sound_assoc}
 

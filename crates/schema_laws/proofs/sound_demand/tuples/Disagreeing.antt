@@ -10,18 +10,18 @@ use Rattle.schema_laws.specs.state_demand.ByRows.{IsLinkedAt, IsSelectedAt}
 use Rattle.schema_laws.specs.state_demand.Owners.{IsHostAt, IsHosted, IsLinkOf, IsOfOwner, StandsAt}
 use Rattle.schema_laws.specs.state_demand.WellWritten.{cols_of}
 use Rattle.schema_laws.specs.state_demand.Writings.{link_writing}
-use Rattle.schema_laws.proofs.state_demand.owners.Owners.{link_key, of_owner_at}
+use Rattle.schema_laws.proofs.state_demand.owners.Owners.{link_key}
 use Rattle.schema_laws.specs.sound_demand.Disagreeing.{DisagreesAtEntity, DisagreesAtHost, FailsAtEntities, HasHostKey, HasHostedTupleOnly, HasLinkTupleOnly, HasTupleOnly, HidesLink, IsOneOnly, StandsAtHosts, StandsAtLinks, TuplesAreOfEntities, TuplesAreOfHosts, TuplesAreOfLinks, keys_in_row}
 use Rattle.schema_laws.specs.sound_demand.Fragments.{IsStoredIn, IsHostedFragment, IsJoinedFragment, IsOwnedFragment}
 use Rattle.schema_laws.specs.sound_demand.ReadBack.{HasLinkOf}
 use Rattle.schema_laws.proofs.sound_demand.Fitting.{sound_fragment, sound_link, well_written}
 use Rattle.schema_laws.proofs.sound_demand.Keys.{inherits_keys}
-use Rattle.schema_laws.proofs.sound_demand.owners.OneOwner.{hosted_at}
 use Rattle.schema_laws.proofs.sound_demand.tuples.OneRow.{at_linked, at_selected, row_written}
 use Rattle.schema_laws.proofs.sound_demand.owners.Pairing.{end_key, key_of_set, sound_assoc}
 use Rattle.schema_laws.proofs.sound_demand.ReadBack.{rows_of, rows_of_links}
 use Rattle.schema_laws.proofs.sound_demand.tuples.TupleKeys.{first_in_row, first_key_in, key_in_row, keys_in, second_in_row, second_key_in}
 use Rattle.schema_laws.proofs.sound_demand.tuples.Tuples.{at_entity, at_host, joined_tuple, linked, same_link_tuple}
+use Rattle.schema_laws.proofs.state_demand.owners.Owning.{hosted_at, of_owner as of_owner_at}
 
 -- what is told by another fact
 one_only_by : (One Same Other : Type 0) → One ↔ Same → IsOneOnly One Other → IsOneOnly Same Other
@@ -57,7 +57,7 @@ module _ (schema : Schema) (sound : IsSoundSchema schema) (state : State) (table
     selected row entity stands = at_entity schema sound state legal tables are fragment is.mapped table is.is_table owner pairing is.owned row entity stands
 
     of_owner : IsOfOwner owner pairing fragment
-    of_owner = of_owner_at schema (inherits_keys schema.model sound.model) fragment.table owner pairing is.owned state legal fragment is.mapped refl
+    of_owner = of_owner_at schema fragment.table owner pairing is.owned fragment is.mapped refl
 
     element : element_of schema.model fragment.set ≡ is.owned.set.element
     element = ap (element_of schema.model) of_owner.of_set ∙ ap (λ found. option_map_or (λ (entry : EntitySet). entry.element) found (record { index = 0 })) is.owned.is_set
@@ -118,7 +118,7 @@ module _ (schema : Schema) (sound : IsSoundSchema schema) (state : State) (table
         at_host schema sound state legal tables are fragment is.to.mapped table is.to.is_table assoc is.to.is_assoc owner pairing is.owned row entity stands
 
     hosted : IsHosted owner pairing assoc fragment
-    hosted = hosted_at schema sound fragment.table owner pairing is.owned fragment assoc is.to.mapped is.to.is_assoc refl
+    hosted = hosted_at schema fragment.table owner pairing is.owned fragment assoc is.to.mapped is.to.is_assoc refl
 
     -- the key of the type at an end that is the owner's
     at_end : (end : End) → IsSoundEnd schema.model end → end.set ≡ owner → key_props schema.model end.ty ≡ key_props schema.model is.owned.set.element

@@ -12,9 +12,9 @@ use Rattle.emc_base.proofs.Numbered.{map_contains}
 use Rattle.round_trip.specs.Words.{SetId, TypeId, PropId, TableId, ColId, Value, Assoc, Entity, IsLegal, Link, LinkFragment, Pair, Row, Schema, State, Table, At, cell_of, cells_of, end_cells, key_of, key_props, link_cells, links_in, row_key, value_beside, value_of}
 use Rattle.round_trip.specs.FailsAt.{key_in_tuple, keys_in_tuple}
 use Rattle.round_trip.specs.soundness.mappings.Mappings.{IsSoundLinkFragment, IsSoundSchema}
+use Rattle.round_trip.proofs.Lookups.{key_columns_at}
 use Rattle.schema_laws.specs.state_demand.Owners.{IsOwned, StandsAt, props_in}
 use Rattle.schema_laws.specs.state_demand.WellWritten.{cols_of}
-use Rattle.schema_laws.proofs.state_demand.writings.Fitting.{key_is}
 use Rattle.schema_laws.proofs.state_demand.owners.Joined.{same_values}
 use Rattle.schema_laws.proofs.state_demand.lists.Lists.{member_cases, none_in_nil}
 use Rattle.schema_laws.proofs.state_demand.owners.Owners.{beside_map, element_key, link_is}
@@ -83,7 +83,7 @@ module _ (schema : Schema) (sound : IsSoundSchema schema) (state : State) (legal
     -- a key column holds the value of the entity that stands at the row
     key_cell : (pair : Pair) → Contains pairing pair → cell_of row pair.col ≡ value_of schema.model entity pair.prop
     key_cell pair has =
-        let columns : row_key table row ≡ cells_of row (cols_of pairing) = ap (map (cell_of row)) (sym (owned.cols ∙ key_is schema.store t table here)) in
+        let columns : row_key table row ≡ cells_of row (cols_of pairing) = ap (map (cell_of row)) (sym (owned.cols ∙ key_columns_at schema.store t table here)) in
         sym (agree_by_map (λ (one : Pair). value_of schema.model entity one.prop) (λ (one : Pair). cell_of row one.col) pairing
         (stands.at_key ∙ columns ∙ map-map (cell_of row) (λ (one : Pair). one.col) pairing) pair has)
 

@@ -8,11 +8,12 @@ use Rattle.schema_laws.specs.state_demand.Owners.{IsJoinedTo, IsLinkOf, IsOwned,
 use Rattle.schema_laws.specs.state_demand.WellWritten.{cols_of}
 use Rattle.schema_laws.specs.state_demand.Writings.{entity_writing, link_writing}
 use Rattle.schema_laws.proofs.state_demand.tables.ByRows.{entity_tuple, fragment_by_rows, link_fragment_by_rows, link_tuple}
-use Rattle.schema_laws.proofs.state_demand.owners.Owners.{entity_key, host_of, link_key, of_owner_at, one}
+use Rattle.schema_laws.proofs.state_demand.owners.Owners.{entity_key, host_of, link_key, one}
 use Rattle.schema_laws.specs.sound_demand.ReadBack.{AgreesAtEntities, AgreesAtHosts, HasLinkOf, IsRowOfLink, ShowsEveryRow}
 use Rattle.schema_laws.proofs.sound_demand.Fitting.{well_written}
 use Rattle.schema_laws.proofs.sound_demand.Keys.{inherits_keys}
 use Rattle.schema_laws.proofs.sound_demand.ReadBack.{rows_of, rows_of_links}
+use Rattle.schema_laws.proofs.state_demand.owners.Owning.{of_owner}
 
 module _ (schema : Schema) (sound : IsSoundSchema schema) (state : State) (legal : IsLegal schema.model state) (tables : Tables) (are : TablesAre schema state tables) where
   -- a fragment of the set that owns the table
@@ -21,12 +22,12 @@ module _ (schema : Schema) (sound : IsSoundSchema schema) (state : State) (legal
     -- the fragment's set is the owner
     pub in_owner : (entity : Entity) → Contains (entities_in state fragment.set) entity → Contains (entities_in state owner) entity
     in_owner entity has =
-        let of_set = (of_owner_at schema (inherits_keys schema.model sound.model) fragment.table owner pairing owned state legal fragment mapped refl).of_set in
+        let of_set = (of_owner schema fragment.table owner pairing owned fragment mapped refl).of_set in
         subst (λ (s : SetId). Contains (entities_in state s) entity) of_set has
 
     pub in_set : (entity : Entity) → Contains (entities_in state owner) entity → Contains (entities_in state fragment.set) entity
     in_set entity has =
-        let of_set = (of_owner_at schema (inherits_keys schema.model sound.model) fragment.table owner pairing owned state legal fragment mapped refl).of_set in
+        let of_set = (of_owner schema fragment.table owner pairing owned fragment mapped refl).of_set in
         subst (λ (s : SetId). Contains (entities_in state s) entity) (sym of_set) has
 
     -- an entity writes to the row at which it stands

@@ -5,15 +5,12 @@ use Rattle.std.proofs.lemmas.List.Edits.{get_or-remove_below, get_or-remove_abov
 use Rattle.std.proofs.lemmas.List.Quantifiers.{all_pairs_remove}
 use Rattle.std.proofs.lemmas.List.Sorted.{IsPermutation-refl, IsPermutation-sym, IsPermutation-cons, IsPermutation-trans, IsPermutation-remove, Contains-permutation}
 use Rattle.schema_laws.proofs.state_demand.lists.Lists.{head_stands, member_cases, none_in_nil, tail_stands}
+pub use Rattle.emc_base.proofs.Members.{apart_tail as rest_apart}
 
 module _ {X : Type 0} where
   -- the head is none of the rest
   pub head_apart : (x : X) (xs : List X) (y : X) → AllPairs (λ a b. a ≢ b) (x ∷ xs) → Contains xs y → x ≢ y
   head_apart x xs y apart has same = apart 0 (suc has.0) y (omega arith) (omega arith) (same ∙ sym has.2)
-
-  -- the rest has no repeats either
-  pub rest_apart : (x : X) (xs : List X) → AllPairs (λ a b. a ≢ b) (x ∷ xs) → AllPairs (λ a b. a ≢ b) xs
-  rest_apart x xs apart i j d below within = apart (suc i) (suc j) d (omega arith) (omega arith)
 
   -- what is removed from a list without repeats is gone
   removed_gone : (xs : List X) (i : ℕ) (x : X) → i < length xs → get_or xs i x ≡ x → AllPairs (λ a b. a ≢ b) xs → Contains (remove xs i) x → ⊥

@@ -9,12 +9,13 @@ use Rattle.emc_base.specs.Lists.{AreApart}
 use Rattle.emc_base.proofs.Mapped.{contains_map}
 use Rattle.emc_base.proofs.Numbered.{map_contains}
 use Rattle.round_trip.specs.Words.{SetId, PropId, TableId, ColId, Value, EntityModel, Assoc, End, Fragment, LinkFragment, Pair, Schema, Entity, Link, State, At, IsA, key_props, value_beside, value_of, key_of, entities_in, links_in, IsLink, IsLegal, IsLegalSet, AreLegalLinks, HasFittingType, HasEntityAt, Writing, LinkWrites, entity_cells, end_cells, link_cells, written_to, key_columns, written_key, WritesRow, Writes}
-use Rattle.schema_laws.specs.state_demand.Owners.{InheritsKeys, IsHostAt, IsHosted, IsLinkOf, IsOfOwner, IsOwned, IsWritingOf, StandsAt, paired_key, props_in}
+use Rattle.schema_laws.specs.state_demand.Owners.{InheritsKeys, IsHostAt, IsLinkOf, IsOfOwner, IsOwned, IsWritingOf, StandsAt, paired_key, props_in}
 use Rattle.schema_laws.specs.state_demand.WellWritten.{cols_of}
 use Rattle.schema_laws.specs.state_demand.Writings.{entity_writing, link_writing}
 use Rattle.schema_laws.proofs.state_demand.writings.Fitting.{cell_cols, entity_cols, link_cols, written_stands}
 use Rattle.schema_laws.proofs.state_demand.lists.Lists.{member_cases, none_in_nil, of_any, same_by_key}
 use Rattle.schema_laws.proofs.state_demand.lists.Places.{agree_by_map, map_agree}
+use Rattle.schema_laws.proofs.state_demand.owners.Owning.{hosted_at, of_owner as of_owner_at}
 
 -- what is so by pairs of images is so by pairs of the members
 pub pairs_from_map : {X Y : Type 0} (R : Y → Y → Type 0) (f : X → Y) (xs : List X) → AllPairs R (map f xs) → AllPairs (λ a b. R (f a) (f b)) xs
@@ -153,29 +154,18 @@ module _ (schema : Schema) (inherits : InheritsKeys schema.model) (t : TableId) 
   key_over : (writing other : Writing) → writing ≡ other → other.table ≡ t → written_key schema.store writing ≡ map (written_to other.cells) (key_columns schema.store t)
   key_over writing other is to = ap (written_key schema.store) is ∙ ap (λ u. map (written_to other.cells) (key_columns schema.store u)) to
 
-  pub of_owner_at : (fragment : Fragment) → Contains schema.mapping.fragments fragment → fragment.table ≡ t → IsOfOwner owner pairing fragment
-  of_owner_at fragment mapped to =
-      let P : Fragment → Type 0 = λ f. f.table ≡ t → IsOfOwner owner pairing f in
-      All-contains P schema.mapping.fragments fragment owned.fragments mapped to
-
-  hosted_at : (fragment : LinkFragment) (assoc : Assoc) → Contains schema.mapping.links fragment → At schema.model.assocs fragment.assoc.index assoc → fragment.table ≡ t
-      → IsHosted owner pairing assoc fragment
-  hosted_at fragment assoc mapped here to =
-      let P : LinkFragment → Type 0 = λ f. f.table ≡ t → (a : Assoc) → At schema.model.assocs f.assoc.index a → IsHosted owner pairing a f in
-      All-contains P schema.mapping.links fragment owned.links mapped to assoc here
-
   -- an entity stands at the row that it writes
   pub entity_key : (fragment : Fragment) → Contains schema.mapping.fragments fragment → fragment.table ≡ t → (x : Entity)
       → written_key schema.store (entity_writing schema.model fragment x) ≡ paired_key schema.model pairing x
   entity_key fragment mapped to x =
-      key_over (entity_writing schema.model fragment x) (entity_writing schema.model fragment x) refl to ∙ entity_row fragment (of_owner_at fragment mapped to) x
+      key_over (entity_writing schema.model fragment x) (entity_writing schema.model fragment x) refl to ∙ entity_row fragment (of_owner_at schema t owner pairing owned fragment mapped to) x
 
   -- and so does the entity at which a link is hosted
   pub link_key : (fragment : LinkFragment) (assoc : Assoc) (link : Link) → LinkWrites schema state fragment assoc link → fragment.table ≡ t → (x : Entity)
       → Contains (entities_in state owner) x
       → IsLinkOf schema owner pairing assoc fragment link x → written_key schema.store (link_writing schema.model fragment assoc link) ≡ paired_key schema.model pairing x
   link_key fragment assoc link writes to x has of_x =
-      let hosted = hosted_at fragment assoc writes.mapped writes.is_assoc to in
+      let hosted = hosted_at schema t owner pairing owned fragment assoc writes.mapped writes.is_assoc to in
       let ends = ends_are schema.model state legal fragment assoc writes.is_assoc link writes.stands in
       key_over (link_writing schema.model fragment assoc link) (link_writing schema.model fragment assoc link) refl to
       ∙ ⊎_elim
@@ -189,7 +179,7 @@ module _ (schema : Schema) (inherits : InheritsKeys schema.model) (t : TableId) 
   pub host_of : (fragment : LinkFragment) (assoc : Assoc) (link : Link) → LinkWrites schema state fragment assoc link → fragment.table ≡ t
       → (x : Entity) × Contains (entities_in state owner) x × IsLinkOf schema owner pairing assoc fragment link x
   host_of fragment assoc link writes to =
-      let hosted = hosted_at fragment assoc writes.mapped writes.is_assoc to in
+      let hosted = hosted_at schema t owner pairing owned fragment assoc writes.mapped writes.is_assoc to in
       let ends = ends_are schema.model state legal fragment assoc writes.is_assoc link writes.stands in
       ⊎_elim
       (λ (host : IsHostAt owner pairing assoc.first fragment.first). let found = host_at assoc.first link.first host.of_set ends.0 in (found.0, found.1, inl (host, found.3)))
@@ -206,7 +196,7 @@ module _ (schema : Schema) (inherits : InheritsKeys schema.model) (t : TableId) 
       by : Writes schema state writing → Local key writing
       by (inl (fragment, x, writes, is)) =
           let to : fragment.table ≡ t = sym (ap (λ (w : Writing). w.table) is) ∙ to_row.to_table in
-          let of_set = (of_owner_at fragment writes.mapped to).of_set in
+          let of_set = (of_owner_at schema t owner pairing owned fragment writes.mapped to).of_set in
           let stands : Contains (entities_in state owner) x = subst (λ (s : SetId). Contains (entities_in state s) x) of_set writes.stands in
           let at_key = sym (entity_key fragment writes.mapped to x) ∙ sym (ap (written_key schema.store) is) ∙ to_row.to_key in
           (x, record { stands = stands; at_key = at_key }, inl (fragment, of_set, writes, is))

@@ -2,8 +2,9 @@
 use Rattle.std.proofs.Common.{◌≡◌, ◌≢◌, inl, inr, ⊎_elim, ℕ, suc, ◌<◌, ◌≤◌, List, [], ◌∷◌, length, slice_get, unwrap_or, All, AllPairs, Contains, IsPermutation, refl, sym, ap, subst, ◌∙◌, arith}
 use Rattle.std.proofs.lemmas.List.Elements.{All-contains}
 use Rattle.std.proofs.lemmas.List.Sorted.{IsPermutation-refl}
-use Rattle.std.proofs.lemmas.Option.{slice_get_cases, slice_get_past}
+use Rattle.std.proofs.lemmas.Option.{slice_get_cases}
 use Rattle.emc_base.proofs.Lists.{item_at}
+use Rattle.edm_types.proofs.Lookups.{rows_beyond}
 use Rattle.round_trip.specs.Words.{TableId, ColId, Value, Null, Table, Column, Schema, Row, State, At, Tables, rows_in, cell_of, row_key, AreSameTables, DemandsRow, DemandsCell, HasDemandedCells, AreDemandedRows, TablesAre}
 use Rattle.schema_laws.proofs.state_demand.lists.Lists.{of_any}
 use Rattle.schema_laws.proofs.state_demand.lists.Permutations.{same_members_permute}
@@ -63,18 +64,14 @@ module _ (schema : Schema) (state : State) (t : TableId) (table : Table) where
   rows_permute ones twos full_ones full_twos first second = same_members_permute ones twos (apart_rows ones first) (apart_rows twos second)
       (moves ones twos full_ones full_twos first second) (moves twos ones full_twos full_ones second first)
 
--- no rows stand where there is no table
-no_rows : (tables : Tables) (t : TableId) → length tables ≤ t.index → rows_in tables t ≡ []
-no_rows tables t past = ap (λ found. unwrap_or found []) (slice_get_past tables t.index past)
-
 pub same_tables : (schema : Schema) (state : State) (one two : Tables) → TablesAre schema state one → TablesAre schema state two → AreSameTables one two
 same_tables schema state one two first second t = elim (slice_get_cases schema.store.tables t.index).1 [
   | inl found ↦ rows_permute schema state t found.0 (rows_in one t) (rows_in two t) (first.shape.rows t found.0 found.2) (second.shape.rows t found.0 found.2)
       (first.rows t found.0 found.2) (second.rows t found.0 found.2)
   | inr past ↦
       let end : length schema.store.tables ≤ t.index = past.0 in
-      let ones = no_rows one t (subst (λ n. n ≤ t.index) (sym first.shape.each) end) in
-      let twos = no_rows two t (subst (λ n. n ≤ t.index) (sym second.shape.each) end) in
+      let ones = rows_beyond one t (subst (λ n. n ≤ t.index) (sym first.shape.each) end) in
+      let twos = rows_beyond two t (subst (λ n. n ≤ t.index) (sym second.shape.each) end) in
       let P : List Row → Type 0 = λ rows. IsPermutation rows (rows_in two t) in
       subst P (sym ones) (let Q : List Row → Type 0 = λ rows. IsPermutation [] rows in subst Q (sym twos) (IsPermutation-refl []))
 ]

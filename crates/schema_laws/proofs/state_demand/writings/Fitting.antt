@@ -1,12 +1,12 @@
 -- What is written to a column, and that a writing fits its table.
 use Rattle.std.proofs.Common.{◌≡◌, ⊎_elim, List, [], ◌∷◌, ◌++◌, map, ◌==◌, Contains, sym, ap, ap₂, subst, ◌∙◌}
-use Rattle.std.specs.Option.{option_map_or}
 use Rattle.std.proofs.lemmas.Bool.{cond_both}
 use Rattle.std.proofs.lemmas.Bool.Decides.{Decides-eqb, not_from_Decides}
 use Rattle.std.proofs.lemmas.List.{map-append}
 use Rattle.std.proofs.lemmas.List.Elements.{All-contains}
 use Rattle.std.proofs.lemmas.Simd.{map-map}
-use Rattle.round_trip.specs.Words.{TypeId, TableId, ColId, Value, EntityModel, StoreModel, Assoc, Table, Fragment, LinkFragment, Pair, Schema, Entity, Link, State, At, key_props, value_beside, value_of, Writing, Writes, EntityWrites, LinkWrites, entity_cells, end_cells, link_cells, written_to, key_columns, written_key}
+use Rattle.round_trip.specs.Words.{TypeId, TableId, ColId, Value, EntityModel, Assoc, Table, Fragment, LinkFragment, Pair, Schema, Entity, Link, State, At, key_props, value_beside, value_of, Writing, Writes, EntityWrites, LinkWrites, entity_cells, end_cells, link_cells, written_to, key_columns, written_key}
+use Rattle.round_trip.proofs.Lookups.{key_columns_at}
 use Rattle.schema_laws.specs.state_demand.WellWritten.{FitsTable, IsWellWritten, cols_of}
 use Rattle.schema_laws.specs.state_demand.Writings.{entity_writing, link_writing}
 use Rattle.schema_laws.proofs.state_demand.lists.Lists.{head_stands, member_cases, none_in_nil, tail_stands}
@@ -45,15 +45,11 @@ link_cols model assoc fragment link =
     ∙ ap₂ (λ xs ys. xs ++ ys) (end_cols model assoc.first.ty fragment.first link.first) (end_cols model assoc.second.ty fragment.second link.second)
     ∙ sym (map-append (λ (pair : Pair). pair.col) fragment.first fragment.second)
 
--- the columns of a table's key
-pub key_is : (store : StoreModel) (t : TableId) (table : Table) → At store.tables t.index table → key_columns store t ≡ table.key
-key_is store t table here = ap (λ found. option_map_or (λ (entry : Table). entry.key) found []) here
-
 -- the key that a writing writes, over its table
 pub key_written : (schema : Schema) (t : TableId) (table : Table) → At schema.store.tables t.index table → (writing : Writing) → writing.table ≡ t
     → written_key schema.store writing ≡ map (written_to writing.cells) table.key
 key_written schema t table here writing to =
-    ap (λ u. map (written_to writing.cells) (key_columns schema.store u)) to ∙ ap (map (written_to writing.cells)) (key_is schema.store t table here)
+    ap (λ u. map (written_to writing.cells) (key_columns schema.store u)) to ∙ ap (map (written_to writing.cells)) (key_columns_at schema.store t table here)
 
 -- a writing fits its table
 module _ (schema : Schema) (fits : IsWellWritten schema) (state : State) where

@@ -2,10 +2,11 @@ use Rattle.std.proofs.Common.{◌≡◌, List, ◌++◌, ◌∷◌, [], refl, sy
 use Rattle.std.proofs.lemmas.List.{take_all}
 use Rattle.std.proofs.lemmas.Option.{slice_get_read}
 use Rattle.emc_base.proofs.Loops.{take_item}
+use Rattle.emc_base.proofs.facts.Zipped.{zip_push}
 use Rattle.round_trip.specs.Words.{Column, Table}
 use Rattle.schema_names.specs.declared.columns.TableColumns.{TableColumns}
 use Rattle.schema_names.specs.Columns.{IsOfColumns}
-use Rattle.schema_names.proofs.NearPlaces.{HaveColumns, columns_known, zip_push}
+use Rattle.schema_names.proofs.NearPlaces.{HaveColumns, columns_known}
 use Rattle.schema_names.proofs.columns.columns_of.Goals as goal
 
 pub loop-table-preserved : goal.loop-table-preserved

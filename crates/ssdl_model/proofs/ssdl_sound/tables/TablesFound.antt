@@ -3,10 +3,10 @@ use Rattle.std.proofs.Common.{◌≡◌, ◌==◌, ℕ, [], ◌∷◌, true, fal
 use Rattle.std.specs.Option.{MatchOption, option_map_or}
 use Rattle.std.proofs.lemmas.Bool.Decides.{Decides-eqb}
 use Rattle.emc_base.specs.Lists.{At}
+use Rattle.emc_base.proofs.facts.Found.{position_passes}
 use Rattle.json_form.specs.declared.pointer.Step.TheVariants.{Item, Member}
 use Rattle.layouts.specs.declared.fault.Fault.{Fault}
 use Rattle.layouts.specs.declared.rule.Rule.TheVariants.{Resolves}
-use Rattle.groupings.proofs.name_places.Positions.{position_passes}
 use Rattle.csdl_names.specs.declared.csdl_lists.raw.RawAssociation.{RawAssociation}
 use Rattle.csdl_names.specs.declared.csdl_lists.raw.RawEnd.{RawEnd}
 use Rattle.csdl_names.specs.declared.csdl_lists.raw.RawModel.{RawModel}

@@ -2,9 +2,10 @@ use Rattle.std.proofs.Common.{◌≡◌, ◌-◌, ◌<◌, get_or, length, sym, 
 use Rattle.std.specs.Ordering.{is_lt}
 use Rattle.std.proofs.lemmas.Bool.{both_ways}
 use Rattle.std.proofs.lemmas.List.{get_or_default}
+use Rattle.emc_base.proofs.facts.Orderings.{is_less}
 use Rattle.table_files.specs.Entries.{entry_cmp}
 use Rattle.table_files.specs.declared.sort_entry.SortEntry.{SortEntry}
-use Rattle.table_files.proofs.TellsApart.{is_less, rises_more}
+use Rattle.table_files.proofs.TellsApart.{rises_more}
 use Rattle.table_files.proofs.told_apart.rise.Goals as goal
 
 pub returns-then-not-is_lt : goal.returns-then-not-is_lt

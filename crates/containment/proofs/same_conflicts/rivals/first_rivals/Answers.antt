@@ -2,7 +2,7 @@ use Rattle.std.proofs.Common.{◌≡◌, ◌<◌, ℕ, All, AllPairs, Contains, 
 use Rattle.std.specs.BTreeMap.{values}
 use Rattle.std.specs.Global.{Vec}
 use Rattle.region_states.specs.region_basis.BasisOf.{basis_of}
-use Rattle.containment.proofs.same_conflicts.Bases.{basis_is}
+use Rattle.region_states.proofs.region_basis.Bases.{basis_is}
 use Rattle.containment.specs.same_conflicts.Rivals.{AreTwoOf, DifferAt}
 use Rattle.containment.proofs.same_conflicts.Grouping.{places_below}
 use Rattle.containment.proofs.same_conflicts.Left.{left_all, left_head, left_none, left_rest}

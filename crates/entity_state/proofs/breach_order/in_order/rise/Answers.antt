@@ -1,7 +1,8 @@
 use Rattle.std.proofs.Common.{◌-◌, ◌<◌, get_or, length, sym, ap, ◌∙◌, arith}
 use Rattle.std.specs.Borrow.{Bor}
 use Rattle.std.proofs.lemmas.List.{get_or_default}
-use Rattle.entity_state.proofs.breach_order.Rising.{is_less, rises_more}
+use Rattle.emc_base.proofs.facts.Orderings.{is_less}
+use Rattle.entity_state.proofs.breach_order.Rising.{rises_more}
 use Rattle.entity_state.proofs.breach_order.in_order.rise.Goals as goal
 
 pub loop-i-preserved : goal.loop-i-preserved

@@ -6,9 +6,10 @@ use Rattle.emc_base.proofs.Lists.{all_from_members}
 use Rattle.emc_base.proofs.Mapped.{contains_at}
 use Rattle.cells.specs.Cells.{is_free_in}
 use Rattle.round_trip.specs.Words.{ColId, TableId, Table, Row, rows_in}
+use Rattle.round_trip.proofs.Lookups.{key_columns_at}
 use Rattle.table_files.specs.InOrder.{lent_rows}
 use Rattle.keyed_rows.proofs.row_differences.AllTables.{none_in_table, table_told}
-use Rattle.keyed_rows.proofs.row_differences.NoDifference.{columns_of_key, same_but_free}
+use Rattle.keyed_rows.proofs.row_differences.NoDifference.{same_but_free}
 use Rattle.table_files.proofs.Rising.{rising_apart}
 use Rattle.keyed_rows.proofs.row_differences.Reordered.{told_there}
 use Rattle.keyed_rows.proofs.row_differences.differences.first_difference.Goals as goal
@@ -17,13 +18,13 @@ pub of-requires-clause-names : goal.of-requires-clause-names
 of-requires-clause-names c =
     let id : TableId = record { index = c.loop-index.index } in
     let key : List ColId = c.at-table.result.now.key in
-    subst (All (Contains key)) (sym (columns_of_key c.args.store.now id c.at-table.result.now c.at-table.ensures)) (all_from_members (Contains key) key (λ col has. has))
+    subst (All (Contains key)) (sym (key_columns_at c.args.store.now id c.at-table.result.now c.at-table.ensures)) (all_from_members (Contains key) key (λ col has. has))
 
 pub of-requires-in-loop-index-clause-names : goal.of-requires-in-loop-index-clause-names
 of-requires-in-loop-index-clause-names c =
     let id : TableId = record { index = c.loop-index.index } in
     let key : List ColId = c.at-table.result.now.key in
-    subst (All (Contains key)) (sym (columns_of_key c.args.store.now id c.at-table.result.now c.at-table.ensures)) (all_from_members (Contains key) key (λ col has. has))
+    subst (All (Contains key)) (sym (key_columns_at c.args.store.now id c.at-table.result.now c.at-table.ensures)) (all_from_members (Contains key) key (λ col has. has))
 
 pub of-requires-clause-apart : goal.of-requires-clause-apart
 of-requires-clause-apart c = c.requires.keys (record { index = c.loop-index.index })

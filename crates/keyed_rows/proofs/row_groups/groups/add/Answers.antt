@@ -1,6 +1,6 @@
 use Rattle.std.proofs.Common.{◌≡◌, ◌∙◌, ◌-◌, ◌++◌, ◌∷◌, [], map, set, ap, sym, arith, is_eq}
 use Rattle.std.proofs.lemmas.List.{nil_from_length, set-get_or}
-use Rattle.groupings.proofs.item_groups.Keyed.{is_equal}
+use Rattle.emc_base.proofs.facts.Orderings.{is_equal}
 use Rattle.keyed_rows.specs.row_groups.KeyGroups.{started}
 use Rattle.keyed_rows.specs.row_groups.Shown.{shown_group}
 use Rattle.keyed_rows.proofs.row_groups.Regrouped.{last_apart, none_last, one_joined, one_started}

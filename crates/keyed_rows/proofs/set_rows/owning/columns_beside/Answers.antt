@@ -1,9 +1,9 @@
 use Rattle.std.proofs.Common.{◌+◌, List, [], ◌∷◌, ◌++◌, take, get_or, sym, subst}
 use Rattle.std.specs.List.{AllZip}
 use Rattle.std.proofs.lemmas.List.{take_more}
+use Rattle.emc_base.proofs.facts.Zipped.{zip_push}
 use Rattle.edm_types.specs.Types.{PropId, ColId}
 use Rattle.keyed_rows.specs.set_rows.Owning.{IsBeside}
-use Rattle.keyed_rows.proofs.set_rows.Zips.{zip_push}
 use Rattle.keyed_rows.proofs.set_rows.owning.columns_beside.Goals as goal
 
 pub loop-prop-preserved : goal.loop-prop-preserved

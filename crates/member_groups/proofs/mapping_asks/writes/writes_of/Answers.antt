@@ -1,11 +1,12 @@
 use Rattle.std.proofs.Common.{ℕ, List, Contains, refl, sym, subst}
 use Rattle.std.proofs.lemmas.List.{take_all}
 use Rattle.std.proofs.lemmas.Option.{slice_get_read}
+use Rattle.emc_base.proofs.Members.{contains_nil}
 use Rattle.round_trip.specs.Words.{Fragment, Pair}
 use Rattle.member_groups.specs.declared.mapping_asks.member.MemberId.{MemberId}
 use Rattle.member_groups.specs.mapping_asks.Adding.{Adds, Each, Tells}
 use Rattle.member_groups.specs.mapping_asks.Writes.{IsWriteBy, WritesBy}
-use Rattle.member_groups.proofs.mapping_asks.Adding.{adds_next, no_member, tells_added}
+use Rattle.member_groups.proofs.mapping_asks.Adding.{adds_next, tells_added}
 use Rattle.member_groups.proofs.mapping_asks.writes.writes_of.Goals as goal
 
 pub loop-fragment-preserved : goal.loop-fragment-preserved
@@ -24,4 +25,4 @@ returns c =
     let none : List (ℕ × MemberId) → Type 0 = λ empty. (write : ℕ × MemberId) → ¬ Contains empty write in
     let Told : List Fragment → Type 0 = λ fragments. Tells (Contains writes) (Each WritesBy fragments) in
     subst Told (take_all c.loop-fragment.fragment-index c.args.fragments.now c.loop-fragment-test.false)
-    (tells_added (Each WritesBy _) (Contains c.new-writes.result.items) (Contains writes) (subst none (sym c.new-writes.ensures.items) no_member) c.loop-fragment.invariant)
+    (tells_added (Each WritesBy _) (Contains c.new-writes.result.items) (Contains writes) (subst none (sym c.new-writes.ensures.items) contains_nil) c.loop-fragment.invariant)

@@ -3,12 +3,13 @@ use Rattle.std.proofs.lemmas.Bool.{both_ways}
 use Rattle.std.proofs.lemmas.List.{length-map}
 use Rattle.std.proofs.lemmas.Option.{slice_get-map, slice_get_read}
 use Rattle.emc_base.proofs.Lists.{at_once}
+use Rattle.emc_base.proofs.facts.Zipped.{zip_long}
 use Rattle.region_states.specs.region_basis.BasisOf.{basis_of}
 use Rattle.round_trip.specs.Words.{At}
 use Rattle.case_laws.specs.declared.region_cases.case.CaseRow.{CaseRow}
 use Rattle.case_laws.specs.candidates.Rows.{shown_row, shown_rows}
 use Rattle.query_cases.proofs.case_reading.Turns.{MayRow, PairSo, one_below, pairs_so}
-use Rattle.query_cases.proofs.case_reading.Zips.{zip_at, zip_long}
+use Rattle.query_cases.proofs.case_reading.Zips.{zip_at}
 use Rattle.query_cases.proofs.case_reading.meeting.may_meet.Goals as goal
 
 pub returns-then-told-rows : goal.returns-then-told-rows

@@ -1,8 +1,8 @@
 use Rattle.std.proofs.Common.{List, sym, subst}
+use Rattle.emc_base.proofs.facts.Zipped.{zip_at}
 use Rattle.region_states.specs.region_basis.BasisOf.{basis_of}
 use Rattle.case_laws.specs.declared.region_cases.case.Case.{Case}
 use Rattle.query_views.specs.Views.{IsReaderOf}
-use Rattle.query_views.proofs.Zips.{zip_at}
 use Rattle.query_views.proofs.views.QueryViews.first_met.Goals as goal
 
 pub first_met-requires-clause-reader : goal.first_met-requires-clause-reader

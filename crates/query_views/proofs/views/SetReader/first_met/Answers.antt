@@ -1,10 +1,10 @@
 use Rattle.std.proofs.Common.{◌<◌, ℕ, List, All, AllPairs, length, sym, subst}
+use Rattle.emc_base.proofs.facts.Zipped.{zip_long}
 use Rattle.case_laws.specs.candidates.Rows.{shown_rows}
 use Rattle.query_cases.specs.case_reading.Reading.{IsReadingOf}
 use Rattle.region_states.specs.region_basis.BasisOf.{basis_of}
 use Rattle.query_views.specs.First.{FindsAmong}
 use Rattle.query_views.proofs.Firsts.{finds_first}
-use Rattle.query_views.proofs.Zips.{zip_long}
 use Rattle.query_views.proofs.views.SetReader.first_met.Goals as goal
 
 pub first_among-requires-clause-size : goal.first_among-requires-clause-size

@@ -1,6 +1,6 @@
+use Rattle.emc_base.proofs.facts.Found.{some_found}
 use Rattle.round_trip.specs.soundness.mappings.Joined.{prop}
 use Rattle.member_groups.specs.MemberGroups.{constants_in}
-use Rattle.cells.proofs.Few.{some_found}
 use Rattle.region_partition.proofs.mapping_limits.by_cells.count_constants.Goals as goal
 
 pub group_of_prop-group-requires : goal.group_of_prop-group-requires

@@ -1,6 +1,7 @@
 use Rattle.std.proofs.Common.{◌≡◌, ◌+◌, ◌-◌, ◌<◌, ◌==◌, false, sym, ◌∙◌, Some, arith, suc}
 use Rattle.std.proofs.lemmas.Bool.Decides.{Decides-eqb}
-use Rattle.region_partition.proofs.region_lists.Bases.{fails_by, found_above}
+use Rattle.emc_base.proofs.facts.Tests.{fails_by}
+use Rattle.region_partition.proofs.region_lists.Bases.{found_above}
 use Rattle.region_partition.proofs.region_lists.base_types.derives.Goals as goal
 
 pub loop-preserved : goal.loop-preserved

@@ -1,5 +1,5 @@
 -- Hosts and link fragments, each once; and the pairs of a fragment that write to a table's primary key.
-use Rattle.std.proofs.Common.{◌≡◌, ◌≢◌, ◌⊎◌, ⊎_elim, inl, inr, ℕ, ◌<◌, ◌==◌, [], ◌∷◌, ◌++◌, List, Bool, true, false, not, Contains, get_or, refl, sym, ap, subst, ◌∙◌, arith}
+use Rattle.std.proofs.Common.{◌≡◌, ◌≢◌, ◌⊎◌, ⊎_elim, inl, inr, ℕ, ◌<◌, ◌==◌, ◌++◌, List, Bool, true, false, not, Contains, get_or, refl, sym, ap, subst, ◌∙◌, arith}
 use Rattle.std.proofs.lemmas.Bool.Decides.{Decides-eqb, Decides-like}
 use Rattle.std.proofs.lemmas.List.Elements.{All-contains, Contains-append_left, Contains-append_right}
 use Rattle.emc_base.proofs.Lists.{at_once}
@@ -15,32 +15,16 @@ use Rattle.round_trip.specs.soundness.mappings.Owners.{IsPlaced}
 use Rattle.schema_laws.specs.state_demand.Owners.{props_in}
 use Rattle.schema_laws.specs.state_demand.WellWritten.{cols_of}
 use Rattle.schema_laws.proofs.state_demand.writings.Decisions.{so_or_not}
-use Rattle.schema_laws.proofs.state_demand.lists.Lists.{any_or_none, member_cases, none_in_nil, same_by_key}
-use Rattle.schema_laws.proofs.state_demand.lists.Permutations.{head_apart, rest_apart}
-use Rattle.std.proofs.lemmas.List.{map-append}
-use Rattle.emc_base.specs.Lists.{AreApart}
+use Rattle.schema_laws.proofs.state_demand.lists.Lists.{any_or_none, same_by_key}
+use Rattle.round_trip.proofs.Lookups.{assoc_of}
 use Rattle.schema_laws.proofs.state_demand.owners.Owners.{pairs_from_map}
-use Rattle.schema_laws.proofs.sound_demand.Fitting.{assoc_of, sound_link}
+use Rattle.schema_laws.proofs.sound_demand.Fitting.{sound_link}
 use Rattle.schema_laws.proofs.sound_demand.owners.Pairing.{end_key, sound_assoc}
+use Rattle.schema_laws.proofs.state_demand.owners.Owning.{ends_apart}
 use Rattle.regions.specs.region_laws.IsBasis.{IsBasis, IsHostOf}
 use Rattle.regions.specs.Basis.{Basis, Host}
 use Rattle.regions.specs.region_laws.pattern.Allowed.{end_at}
 use Rattle.regions.proofs.region_laws.pattern.symbols.Origins.{side}
-
--- nothing stands in both parts of a list without repeats
-apart_between : {X : Type 0} (xs ys : List X) (x : X) → AreApart (xs ++ ys) → Contains xs x → Contains ys x → ⊥
-apart_between [] ys x apart first second = none_in_nil x first
-apart_between (z ∷ zs) ys x apart first second = ⊎_elim
-    (λ (here : x ≡ z). head_apart z (zs ++ ys) x apart (Contains-append_right zs ys x second) (sym here))
-    (λ (later : Contains zs x). apart_between zs ys x (rest_apart z (zs ++ ys) apart) later second)
-    (member_cases z zs x first)
-
--- the columns of the two ends of a link are different
-ends_apart : (first second : List Pair) → AreApart (cols_of (first ++ second)) → (one two : Pair) → Contains first one → Contains second two → one.col ≡ two.col → ⊥
-ends_apart first second apart one two has_one has_two same =
-    let column : Pair → ColId = λ pair. pair.col in
-    apart_between (cols_of first) (cols_of second) two.col (subst AreApart (map-append column first second) apart)
-    (subst (Contains (cols_of first)) same (contains_map column first one has_one)) (contains_map column second two has_two)
 
 pub col_or_not : (cols : List ColId) (col : ColId) → Contains cols col ⊎ ¬ Contains cols col
 col_or_not cols col = ⊎_elim

@@ -1,29 +1,27 @@
 -- Groups, as a basis tells them: which are tested, which constants they have, and which have none.
-use Rattle.std.proofs.Common.{◌≡◌, ◌⊎◌, ⊎_elim, inl, inr, ◌==◌, List, [], ◌∷◌, IsTrue, Contains, refl, sym, ap, subst}
+use Rattle.std.proofs.Common.{◌≡◌, ◌⊎◌, ⊎_elim, inl, inr, ◌==◌, IsTrue, Contains, refl, sym, ap, subst}
 use Rattle.std.proofs.lemmas.Bool.Decides.{Decides-eqb, Decides-like}
 use Rattle.std.proofs.lemmas.List.Elements.{All-contains}
 use Rattle.std.proofs.lemmas.Option.{slice_get_within}
+use Rattle.emc_base.proofs.facts.Standing.{none_stands}
 use Rattle.round_trip.specs.Words.{TableId, ColId, PropId, Value, Cond, Schema, key_columns}
 use Rattle.edm_types.specs.declared.mapping.CondOn.TheVariants as on
 use Rattle.edm_types.specs.declared.mapping.Test.TheVariants.{Equals}
 use Rattle.round_trip.specs.soundness.mappings.Joined.{ComparesNoBarred, HostsPartner, IsBarred, IsNoKey, Joined, Member, TellsOther, col, member_of, prop}
 use Rattle.round_trip.specs.soundness.mappings.Joined as joined
 use Rattle.round_trip.specs.soundness.Kinds.{IsEnum}
+use Rattle.round_trip.proofs.Lookups.{assoc_of}
 use Rattle.member_groups.specs.Tested.{AreInOneGroup, HasCondition, IsAsked, IsComparedWith, IsConstant, IsImplied, IsMember, IsTested, IsWrittenTo}
 use Rattle.member_groups.proofs.joined_groups.Grouping.{joined_free}
 use Rattle.member_groups.proofs.Numbering.{free_member}
-use Rattle.schema_laws.proofs.sound_demand.Fitting.{assoc_of, sound_fragment, sound_link}
+use Rattle.schema_laws.proofs.sound_demand.Fitting.{sound_fragment, sound_link}
 use Rattle.schema_laws.proofs.sound_demand.owners.Owned.{table_or_not}
 use Rattle.schema_laws.proofs.state_demand.writings.Decisions.{so_or_not}
-use Rattle.schema_laws.proofs.state_demand.lists.Lists.{any_of, head_stands}
+use Rattle.schema_laws.proofs.state_demand.lists.Lists.{any_of}
 use Rattle.regions.specs.region_laws.IsBasis.{IsBasis}
 use Rattle.regions.specs.Basis.{Basis}
 use Rattle.regions.specs.region_laws.pattern.Plain.{IsPlain}
 use Rattle.regions.proofs.region_laws.pattern.types.Classes.{joined_no_enum, joined_no_flag, tells_member}
-
-none_stands : {X : Type 0} (xs : List X) → ((x : X) → Contains xs x → ⊥) → xs ≡ []
-none_stands [] none = refl
-none_stands (x ∷ xs) none = absurd (none x (head_stands x xs))
 
 column_or_not : (c d : ColId) → (c ≡ d) ⊎ ¬ (c ≡ d)
 column_or_not c d = so_or_not (c.index == d.index)

@@ -15,15 +15,13 @@ use Rattle.round_trip.specs.soundness.models.Inheritance.{IsKeyProp, IsRootKey, 
 use Rattle.round_trip.specs.soundness.models.ModelIds.{IsTypeId}
 use Rattle.round_trip.specs.soundness.models.Models.{IsSoundModel}
 use Rattle.graphs.proofs.base_chains.Chains.{Ends}
+use Rattle.edm_types.proofs.Lookups.{key_at}
 use Rattle.schema_laws.proofs.sound_types.BasePlaces.{base_ends, base_here, base_place}
 use Rattle.schema_laws.proofs.state_demand.lists.Lists.{none_in_nil}
 use Rattle.schema_laws.proofs.sound_demand.Keys.{inherits_keys}
 use Rattle.regions.specs.region_laws.pattern.Listed.{IsPartOfKey}
 
 module _ (model : EntityModel) (sound : IsSoundModel model) where
-  key_at : (t : TypeId) (type : EntityType) → At model.types t.index type → key_props model t ≡ type.key
-  key_at t type here = ap (λ found. option_map_or (λ (one : EntityType). one.key) found []) here
-
   props_at : (t : TypeId) (type : EntityType) → At model.types t.index type → props_of model t ≡ type.props
   props_at t type here = ap (λ found. option_map_or (λ (one : EntityType). one.props) found []) here
 
@@ -132,7 +130,7 @@ module _ (model : EntityModel) (sound : IsSoundModel model) where
         let is : IsRootKey model t type.key =
         MatchOption-at_none (IsRootKey model t type.key) (λ above. type.key ≡ key_props model above) none (sound.types t type here).key in
         let own : Contains (declared_props model t) p = All-contains (Contains (declared_props model t)) type.key p is.own
-        (subst (λ key. Contains key p) (key_at t type here) has) in
+        (subst (λ key. Contains key p) (key_at model t type here) has) in
         let by = declared_by t own in
         (own_prop t type here own, (by.0, by.1, subst (λ u. Contains (key_props model u) p) (sym by.2) has))
 
@@ -163,4 +161,4 @@ module _ (model : EntityModel) (sound : IsSoundModel model) where
     pub key_prop : (t : TypeId) → Contains (key_props model t) p → IsKeyProp model p
     key_prop t has =
         let found = type_of_key t p has in
-        All-contains (IsKeyProp model) found.0.key p (sound.types t found.0 found.1).key_props (subst (λ key. Contains key p) (key_at t found.0 found.1) has)
+        All-contains (IsKeyProp model) found.0.key p (sound.types t found.0 found.1).key_props (subst (λ key. Contains key p) (key_at model t found.0 found.1) has)

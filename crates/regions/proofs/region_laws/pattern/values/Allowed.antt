@@ -23,6 +23,7 @@ use Rattle.regions.proofs.region_laws.pattern.Choices.{found_passes, none_passes
 use Rattle.regions.proofs.region_laws.pattern.symbols.Hosting.{one_host}
 use Rattle.regions.proofs.region_laws.pattern.types.Regions.{PartsOf, parts_of}
 use Rattle.regions.proofs.region_laws.pattern.types.Types.{key_among, key_prop}
+use Rattle.regions.proofs.region_laws.pattern.Ends.{other_end}
 
 -- null is in no domain
 pub no_null : (k : Kind) → InDomain Null k → ⊥
@@ -154,10 +155,6 @@ module _ (basis : Basis) (region : Region) (entity : Entity) (links : List Hoste
         (find (λ (hosted : Hosted). hosted.assoc.index == host.assoc.index) links) refl;
   }
     where
-      ends : (first_hosts : Bool) (assoc : Assoc) → end_at (not first_hosts) assoc ≡ partner_end first_hosts assoc
-      ends true assoc = refl
-      ends false assoc = refl
-
       value_told : (host : Host) (assoc : Assoc) → At basis.schema.model.assocs host.assoc.index assoc → (hosted : Hosted)
           → find (λ (one : Hosted). one.assoc.index == host.assoc.index) links ≡ Some hosted → (p : PropId)
           → partner_parts basis.schema.model links host.assoc (not host.first_hosts) p
@@ -167,7 +164,7 @@ module _ (basis : Basis) (region : Region) (entity : Entity) (links : List Hoste
           option_map_or (λ other. value_beside p (key_props basis.schema.model (end_at (not host.first_hosts) other).ty) one.partner) at Null in
           ap (λ one. option_map_or (of_link (slice_get basis.schema.model.assocs host.assoc.index)) one Null) found
           ∙ ap (λ at. of_link at hosted) here
-          ∙ ap (λ (end : End). value_beside p (key_props basis.schema.model end.ty) hosted.partner) (ends host.first_hosts assoc)
+          ∙ ap (λ (end : End). value_beside p (key_props basis.schema.model end.ty) hosted.partner) (other_end host.first_hosts assoc)
 
       by : (host : Host) (assoc : Assoc) → At basis.schema.model.assocs host.assoc.index assoc → Any (λ hosted. hosted.assoc ≡ host.assoc) links → (found : Option Hosted)
           → find (λ (hosted : Hosted). hosted.assoc.index == host.assoc.index) links ≡ found

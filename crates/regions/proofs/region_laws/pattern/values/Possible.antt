@@ -14,7 +14,7 @@ use Rattle.regions.specs.declared.pattern.Symbol.TheVariants as symbol
 use Rattle.regions.specs.declared.pattern.Focus.{Focus}
 use Rattle.regions.specs.declared.pattern.Focus.TheVariants as focus
 use Rattle.regions.specs.Atoms.{LiesIn, atom_at}
-use Rattle.regions.specs.Basis.{Basis, Host, partner_end}
+use Rattle.regions.specs.Basis.{Basis, Host}
 use Rattle.regions.specs.Patterns.{Valuation, value_under}
 use Rattle.regions.specs.Regions.{regions_of}
 use Rattle.regions.specs.Settled.{is_nullable, multi, of_atom, possible}
@@ -25,10 +25,7 @@ use Rattle.regions.proofs.region_laws.pattern.symbols.Origins.{From}
 use Rattle.regions.proofs.region_laws.pattern.types.Regions.{lies_in}
 use Rattle.regions.proofs.region_laws.pattern.symbols.Standing.{IsEndOf, end_of, link_no_prop, listed_prop}
 use Rattle.regions.proofs.region_laws.pattern.types.Types.{declared_above, key_prop}
-
-other_end : (first_hosts : Bool) (assoc : Assoc) → end_at (not first_hosts) assoc ≡ partner_end first_hosts assoc
-other_end true assoc = refl
-other_end false assoc = refl
+use Rattle.regions.proofs.region_laws.pattern.Ends.{other_end}
 
 pub nullable_is : (model : EntityModel) (p : PropId) (declared : Prop) → At model.props p.index declared → is_nullable model p ≡ declared.nullable
 nullable_is model p declared here = ap (λ found. option_map_or (λ (one : Prop). one.nullable) found false) here

@@ -1,5 +1,5 @@
 use Rattle.std.proofs.Common.{sym, ◌∙◌}
-use Rattle.state_legality.proofs.link_legality.Holding.{tied_keys}
+use Rattle.emc_base.proofs.facts.Keys.{tied_keys}
 use Rattle.state_legality.proofs.link_legality.legal.is_same_key.Goals as goal
 
 pub returns : goal.returns

@@ -1,7 +1,7 @@
 use Rattle.std.proofs.Common.{◌≡◌, ◌∙◌, Option, Some, sym, ap}
 use Rattle.serde_json.specs.Written.{compact_text, has_float}
+use Rattle.table_files.proofs.RowTree.{row_tree-plain}
 use Rattle.texts.specs.command_texts.Texts.{row_or_null}
-use Rattle.texts.proofs.command_texts.RowTree.{row_tree-plain}
 use Rattle.texts.proofs.command_texts.data.row_or_null.Goals as goal
 
 pub returns-in_ok-to_string-in-Some : goal.returns-in_ok-to_string-in-Some

@@ -4,13 +4,13 @@ use Rattle.emc_base.specs.Lists.{At}
 use Rattle.emc_base.proofs.Loops.{take-enumerated}
 use Rattle.round_trip.specs.Words.{EntityType, TypeId}
 use Rattle.regions.specs.Regions.{regions_by}
+use Rattle.regions.proofs.region_laws.listing.Choices.{type_counted}
 use Rattle.region_states.specs.region_basis.BasisOf.{basis_of}
 use Rattle.region_partition.specs.region_lists.Counts.{capped}
 use Rattle.region_partition.proofs.region_lists.Types.{type_left, type_listed}
 use Rattle.update_views.specs.declared.region_table.numbering.TypeTests.{TypeTests}
 use Rattle.update_views.specs.region_table.Made.{count_before, tests_by, type_tests, types_before}
 use Rattle.update_views.proofs.region_table.Kept.{next_counted, next_mapped}
-use Rattle.update_views.proofs.region_table.Types.{regions_counted}
 use Rattle.update_views.proofs.region_table.making.types_of_set.Goals as goal
 use Rattle.update_views.proofs.region_table.making.types_of_set.Goals.{then-is_listed+in_ok-tests+in_ok-push, else-is_listed+in_ok-push-2}
 
@@ -40,7 +40,7 @@ loop-index-preserved c =
             w.first-is
                 ∙ w.capped-first.ensures
                 ∙ next_counted (regions_by basis s) (types_before basis entry i) ty c.loop-index.first w.count_of_type.result c.loop-index.invariant.1
-                (w.count_of_type.ensures ∙ ap capped (sym (regions_counted basis s ty)))
+                (w.count_of_type.ensures ∙ ap capped (sym (type_counted basis s ty)))
                 ∙ ap count (sym (type_listed parts entry i declared here listed)),
           )
       | else-is_listed+in_ok-push-2 w ↦
