@@ -1,4 +1,4 @@
-ghost use Rattle.std.specs.Prelude.{◌≡◌, option_map, IfOk};
+ghost use Rattle.std.specs.Prelude.{◌≡◌, ◌∷◌, [], option_map, IfOk, Some};
 ghost use Rattle.std.specs.List.{filter_map};
 ghost use Rattle.csdl_meaning.specs.ModelMeaning.{assoc_between, assoc_of, constraint_of, end_of, mult_of, prop_id, props_of_side};
 ghost use Rattle.csdl_meaning.specs.csdl_making.Making.{AreStarts};
@@ -41,13 +41,61 @@ fn assoc_of(
     let [first, second] = association.ends.as_slice() else {
         return Ok(None);
     };
-    Ok(Some(Assoc {
-        set_name: set.name.copy(alloc)?,
-        assoc_name: association.name.copy(alloc)?,
-        first: end_of(alloc, lookups, set, first)?,
-        second: end_of(alloc, lookups, set, second)?,
-        constraint: constraint_in(alloc, lookups, starts, association, first)?,
-    }))
+    let assoc = assoc_between(alloc, lookups, starts, set, association, first, second)?;
+    Ok(Some(assoc))
+}
+
+// An association set with its association, between these two ends.
+fn assoc_between(
+    alloc: Global,
+    lookups: &Lookups<'_>,
+    starts: &Seq<usize>,
+    set: &RawAssociationSet,
+    association: &RawAssociation,
+    first: &RawEnd,
+    second: &RawEnd,
+) -> Result<Assoc, Memory>
+    requires starts { AreStarts lookups.now.model.now starts.now }
+    ensures { IfOk result (λ assoc. Some assoc ≡ assoc_between lookups.now.model.now set.now association.now (first.now ∷ second.now ∷ [])) }
+{
+    let (set_name, assoc_name) = names_of(alloc, set, association)?;
+    let (one, other) = ends_of(alloc, lookups, set, first, second)?;
+    let constraint = constraint_in(alloc, lookups, starts, association, first)?;
+    Ok(Assoc {
+        set_name,
+        assoc_name,
+        first: one,
+        second: other,
+        constraint,
+    })
+}
+
+// The names of an association set and of its association.
+fn names_of(
+    alloc: Global,
+    set: &RawAssociationSet,
+    association: &RawAssociation,
+) -> Result<(Txt, Txt), Memory>
+    ensures { IfOk result (λ names. names ≡ (set.now.name, association.now.name)) }
+{
+    let set_name = set.name.copy(alloc)?;
+    let assoc_name = association.name.copy(alloc)?;
+    Ok((set_name, assoc_name))
+}
+
+// Both ends of an association, with the entity sets that the association set has there.
+fn ends_of(
+    alloc: Global,
+    lookups: &Lookups<'_>,
+    set: &RawAssociationSet,
+    first: &RawEnd,
+    second: &RawEnd,
+) -> Result<(End, End), Memory>
+    ensures { IfOk result (λ ends. ends ≡ (end_of lookups.now.model.now set.now first.now, end_of lookups.now.model.now set.now second.now)) }
+{
+    let one = end_of(alloc, lookups, set, first)?;
+    let other = end_of(alloc, lookups, set, second)?;
+    Ok((one, other))
 }
 
 // An end of an association, with the entity set that the association set has there.
