@@ -10,6 +10,6 @@ returns g c =
     let names = map g.T.Named.name_in firsts in
     least_searches (IsRepeatedIn g.T.Named.name_in [] c.args.first.now (codes "Name") firsts)
     (IsRepeatedIn g.U.Named.name_in names c.args.second.now (codes "Name") c.args.seconds.now)
-    c.first_twice.result c.first_again.result c.earlier_of.result c.earlier_of.ensures c.first_twice.ensures
-    (again_of g.U.Named.name_in _ c.args.second.now (codes "Name") c.args.seconds.now c.first_again.result names
-    (of_one g.T.Named.name_in firsts _ c.in_ok-known.ensures) c.first_again.ensures)
+    c.first_twice-found.result c.first_again-other.result c.earlier_of.result c.earlier_of.ensures c.first_twice-found.ensures
+    (again_of g.U.Named.name_in _ c.args.second.now (codes "Name") c.args.seconds.now c.first_again-other.result names
+    (of_one g.T.Named.name_in firsts _ c.in_ok-known.ensures) c.first_again-other.ensures)

@@ -14,7 +14,7 @@ returns c =
     let Three = IsRepeatedIn (λ enum. enum.name) (associations ++ types) (codes "EnumType") (codes "Name") model.enums in
     let first = of_one (λ association. association.name) model.associations _ c.requires.associations in
     let second = of_one (λ type. type.name) model.types _ c.requires.types in
-    least_searches One (λ fault. Two fault ⊎ Three fault) c.first_twice.result c.earlier_of.result c.earlier_of-2.result c.earlier_of-2.ensures c.first_twice.ensures
-    (least_searches Two Three c.first_again.result c.first_again-2.result c.earlier_of.result c.earlier_of.ensures
-    (again_of _ _ _ _ _ c.first_again.result associations first c.first_again.ensures)
-    (again_of _ _ _ _ _ c.first_again-2.result (associations ++ types) (of_two _ _ associations types first second) c.first_again-2.ensures))
+    least_searches One (λ fault. Two fault ⊎ Three fault) c.first_twice-of_associations.result c.earlier_of.result c.earlier_of-2.result c.earlier_of-2.ensures c.first_twice-of_associations.ensures
+    (least_searches Two Three c.first_again-of_types.result c.first_again-of_enums.result c.earlier_of.result c.earlier_of.ensures
+    (again_of _ _ _ _ _ c.first_again-of_types.result associations first c.first_again-of_types.ensures)
+    (again_of _ _ _ _ _ c.first_again-of_enums.result (associations ++ types) (of_two _ _ associations types first second) c.first_again-of_enums.ensures))

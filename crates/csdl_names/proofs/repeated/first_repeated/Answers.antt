@@ -16,10 +16,10 @@ returns c =
     let Types : Fault → Type 0 = InList (codes "EntityType") IsRepeatedInType model.types in
     let Enums : Fault → Type 0 = InList (codes "EnumType") IsRepeatedInEnum model.enums in
     let Roles : Fault → Type 0 = InList (codes "Association") IsRepeatedInAssociation model.associations in
-    least_searches Schema (λ fault. Container fault ⊎ Types fault ⊎ Enums fault ⊎ Roles fault) c.first_in_schema.result c.earlier_of-2.result c.earlier_of-3.result
-    c.earlier_of-3.ensures c.first_in_schema.ensures
-    (least_searches Container (λ fault. Types fault ⊎ Enums fault ⊎ Roles fault) c.first_in_container.result c.earlier_of-in_items.result c.earlier_of-2.result
-    c.earlier_of-2.ensures c.first_in_container.ensures
-    (least_searches Types (λ fault. Enums fault ⊎ Roles fault) c.first_at.result c.earlier_of.result c.earlier_of-in_items.result
-    c.earlier_of-in_items.ensures (types_found model c.first_at.result c.first_at.ensures)
-    (least_searches Enums Roles c.first_at-2.result c.first_at-3.result c.earlier_of.result c.earlier_of.ensures c.first_at-2.ensures c.first_at-3.ensures)))
+    least_searches Schema (λ fault. Container fault ⊎ Types fault ⊎ Enums fault ⊎ Roles fault) c.first_in_schema-schema.result c.earlier_of-2.result c.earlier_of-3.result
+    c.earlier_of-3.ensures c.first_in_schema-schema.ensures
+    (least_searches Container (λ fault. Types fault ⊎ Enums fault ⊎ Roles fault) c.first_in_container-container.result c.earlier_of-in_items.result c.earlier_of-2.result
+    c.earlier_of-2.ensures c.first_in_container-container.ensures
+    (least_searches Types (λ fault. Enums fault ⊎ Roles fault) c.first_at-types.result c.earlier_of.result c.earlier_of-in_items.result
+    c.earlier_of-in_items.ensures (types_found model c.first_at-types.result c.first_at-types.ensures)
+    (least_searches Enums Roles c.first_at-enums.result c.first_at-roles.result c.earlier_of.result c.earlier_of.ensures c.first_at-enums.ensures c.first_at-roles.ensures)))

@@ -29,22 +29,22 @@ returns c =
     let Again : Fault → Type 0 = InList (codes "ScalarProperty") (λ k pair inside. IsWrittenBefore fragment.pairs k pair × IsAt WrittenOnce [] inside) fragment.pairs in
     let same = c.in_ok-pairs.ensures in
     let UnfitIn : Writing → List RawPair → Type 0 =
-    λ within pairs. IfOk c.first_unfit.result (IsLeast fault_cmp (InList (codes "ScalarProperty") (IsUnfitFault (schema_in within.between) (named_in within) within.table) pairs)) in
-    let unfit = subst₂ UnfitIn same.writing same.pairs c.first_unfit.ensures in
+    λ within pairs. IfOk c.first_unfit-unfit.result (IsLeast fault_cmp (InList (codes "ScalarProperty") (IsUnfitFault (schema_in within.between) (named_in within) within.table) pairs)) in
+    let unfit = subst₂ UnfitIn same.writing same.pairs c.first_unfit-unfit.ensures in
     let ForeignIn : Writing → List RawPair → Type 0 =
-    λ within pairs. IfOk c.first_enum.result (IsLeast fault_cmp (InList (codes "ScalarProperty") (IsEnumFault (schema_in within.between) (named_in within) within.table) pairs)) in
-    let foreign = subst₂ ForeignIn same.writing same.pairs c.first_enum.ensures in
+    λ within pairs. IfOk c.first_enum-foreign.result (IsLeast fault_cmp (InList (codes "ScalarProperty") (IsEnumFault (schema_in within.between) (named_in within) within.table) pairs)) in
+    let foreign = subst₂ ForeignIn same.writing same.pairs c.first_enum-foreign.ensures in
     let LeavesIn : Writing → List RawPair → Type 0 = λ within pairs. IsTrue c.in_ok-leaves_key.leaves_key ↔ LeavesKey (schema_in within.between) (named_in within) c.args.set within.table pairs in
     let leaves = subst₂ LeavesIn same.writing same.pairs c.in_ok-leaves_key.ensures in
-    let unwritten = least_searched (IsAt WritesKey []) c.fault_here_if.result leaves c.fault_here_if.ensures in
-    let Found : List PropId → Type 0 = λ props. IfOk c.first_condition_fault.result (IsLeast fault_cmp (Cond props)) in
-    let cond = subst Found c.set_key-key.ensures c.first_condition_fault.ensures in
-    let AgainIn : List RawPair → Type 0 = λ pairs. IfOk c.first_again.result (IsLeast fault_cmp (InList (codes "ScalarProperty") (λ k pair inside. IsWrittenBefore pairs k pair × IsAt WrittenOnce [] inside) pairs)) in
-    let again = subst AgainIn same.pairs c.first_again.ensures in
-    least_searches Unfit (λ fault. Unwritten fault ⊎ Cond key fault ⊎ Foreign fault ⊎ Again fault) c.first_unfit.result c.earlier_of-2.result c.earlier_of-3.result
+    let unwritten = least_searched (IsAt WritesKey []) c.fault_here_if-unwritten.result leaves c.fault_here_if-unwritten.ensures in
+    let Found : List PropId → Type 0 = λ props. IfOk c.first_condition_fault-cond.result (IsLeast fault_cmp (Cond props)) in
+    let cond = subst Found c.set_key-key.ensures c.first_condition_fault-cond.ensures in
+    let AgainIn : List RawPair → Type 0 = λ pairs. IfOk c.first_again-again.result (IsLeast fault_cmp (InList (codes "ScalarProperty") (λ k pair inside. IsWrittenBefore pairs k pair × IsAt WrittenOnce [] inside) pairs)) in
+    let again = subst AgainIn same.pairs c.first_again-again.ensures in
+    least_searches Unfit (λ fault. Unwritten fault ⊎ Cond key fault ⊎ Foreign fault ⊎ Again fault) c.first_unfit-unfit.result c.earlier_of-2.result c.earlier_of-3.result
     c.earlier_of-3.ensures unfit
-    (least_searches Unwritten (λ fault. Cond key fault ⊎ Foreign fault ⊎ Again fault) c.fault_here_if.result c.earlier_of-behind.result c.earlier_of-2.result
+    (least_searches Unwritten (λ fault. Cond key fault ⊎ Foreign fault ⊎ Again fault) c.fault_here_if-unwritten.result c.earlier_of-behind.result c.earlier_of-2.result
     c.earlier_of-2.ensures unwritten
-    (least_searches (Cond key) (λ fault. Foreign fault ⊎ Again fault) c.first_condition_fault.result c.earlier_of.result c.earlier_of-behind.result
+    (least_searches (Cond key) (λ fault. Foreign fault ⊎ Again fault) c.first_condition_fault-cond.result c.earlier_of.result c.earlier_of-behind.result
     c.earlier_of-behind.ensures cond
-    (least_searches Foreign Again c.first_enum.result c.first_again.result c.earlier_of.result c.earlier_of.ensures foreign again)))
+    (least_searches Foreign Again c.first_enum-foreign.result c.first_again-again.result c.earlier_of.result c.earlier_of.ensures foreign again)))

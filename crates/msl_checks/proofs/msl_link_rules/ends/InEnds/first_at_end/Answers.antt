@@ -24,8 +24,8 @@ returns c =
     let Key : Fault → Type 0 = λ fault. IsEndKeyUnwritten schema self.table known end × IsAt WritesKey [] fault in
     let Again : Fault → Type 0 = WritesAgain self.of.link.now.ends c.args.place end in
     let UnfitIn : Writing → List RawPair → Type 0 =
-    λ within written. IfOk c.first_unfit.result (IsLeast fault_cmp (InList (codes "ScalarProperty") (IsUnfitFault (schema_in within.between) (named_in within) within.table) written)) in
-    let unfit = subst₂ UnfitIn c.in_ok-pairs.ensures.writing c.in_ok-pairs.ensures.pairs c.first_unfit.ensures in
-    least_searches Unfit (λ fault. Key fault ⊎ Again fault) c.first_unfit.result c.earlier_of.result c.earlier_of-2.result c.earlier_of-2.ensures unfit
-    (least_searches Key Again c.fault_here_if.result c.first_again.result c.earlier_of.result c.earlier_of.ensures
-    (least_searched (IsAt WritesKey []) c.fault_here_if.result c.in_ok-is_unwritten.ensures c.fault_here_if.ensures) c.first_again.ensures)
+    λ within written. IfOk c.first_unfit-unfit.result (IsLeast fault_cmp (InList (codes "ScalarProperty") (IsUnfitFault (schema_in within.between) (named_in within) within.table) written)) in
+    let unfit = subst₂ UnfitIn c.in_ok-pairs.ensures.writing c.in_ok-pairs.ensures.pairs c.first_unfit-unfit.ensures in
+    least_searches Unfit (λ fault. Key fault ⊎ Again fault) c.first_unfit-unfit.result c.earlier_of.result c.earlier_of-2.result c.earlier_of-2.ensures unfit
+    (least_searches Key Again c.fault_here_if-key.result c.first_again-again.result c.earlier_of.result c.earlier_of.ensures
+    (least_searched (IsAt WritesKey []) c.fault_here_if-key.result c.in_ok-is_unwritten.ensures c.fault_here_if-key.ensures) c.first_again-again.ensures)

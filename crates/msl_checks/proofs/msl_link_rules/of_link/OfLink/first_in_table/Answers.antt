@@ -16,7 +16,7 @@ returns c =
     let Ends : Fault → Type 0 = InList (codes "EndProperty") (IsEndFault schema link.ends self.assoc.now table) link.ends in
     let Conds : Fault → Type 0 = InList (codes "Condition") (IsLinkCondFault schema table) link.conds in
     let Placing : Fault → Type 0 = λ fault. IsUnplaced schema link self.set self.assoc.now table × IsAt LinkPlace [] fault in
-    least_searches Ends (λ fault. Conds fault ⊎ Placing fault) c.first_at.result c.earlier_of.result c.earlier_of-2.result c.earlier_of-2.ensures c.first_at.ensures
-    (least_searches Conds Placing c.first_link_condition_fault.result c.fault_here_if.result c.earlier_of.result c.earlier_of.ensures
-    c.first_link_condition_fault.ensures
-    (least_searched (IsAt LinkPlace []) c.fault_here_if.result c.in_ok-is_unplaced.ensures c.fault_here_if.ensures))
+    least_searches Ends (λ fault. Conds fault ⊎ Placing fault) c.first_at-ends.result c.earlier_of.result c.earlier_of-2.result c.earlier_of-2.ensures c.first_at-ends.ensures
+    (least_searches Conds Placing c.first_link_condition_fault-conds.result c.fault_here_if-placing.result c.earlier_of.result c.earlier_of.ensures
+    c.first_link_condition_fault-conds.ensures
+    (least_searched (IsAt LinkPlace []) c.fault_here_if-placing.result c.in_ok-is_unplaced.ensures c.fault_here_if-placing.ensures))

@@ -19,9 +19,9 @@ returns c =
     let Key : Fault → Type 0 = IsKey writing key cond known in
     let Foreign : Fault → Type 0 = IsForeign writing key cond known in
     let same = compares writing key cond c.args.what in
-    let value = least_searched (IsAt ConditionValue (Member (codes "Value") ∷ [])) c.fault_if.result c.in_ok-has_no_value.ensures c.fault_if.ensures in
-    let of_key = least_searched (IsAt KeyCondition []) c.fault_here_if.result c.is_of_key-is_of_key.ensures c.fault_here_if.ensures in
-    let foreign = least_searched (IsAt ForeignValue []) c.fault_here_if-2.result
-    (λ yes. same.0 (c.in_ok-is_foreign.ensures.0 yes), λ wrong. c.in_ok-is_foreign.ensures.1 (same.1 wrong)) c.fault_here_if-2.ensures in
-    least_searches Value (λ fault. Key fault ⊎ Foreign fault) c.fault_if.result c.earlier_of.result c.earlier_of-2.result c.earlier_of-2.ensures value
-    (least_searches Key Foreign c.fault_here_if.result c.fault_here_if-2.result c.earlier_of.result c.earlier_of.ensures of_key foreign)
+    let value = least_searched (IsAt ConditionValue (Member (codes "Value") ∷ [])) c.fault_if-value.result c.in_ok-has_no_value.ensures c.fault_if-value.ensures in
+    let of_key = least_searched (IsAt KeyCondition []) c.fault_here_if-key.result c.is_of_key-is_of_key.ensures c.fault_here_if-key.ensures in
+    let foreign = least_searched (IsAt ForeignValue []) c.fault_here_if-foreign.result
+    (λ yes. same.0 (c.in_ok-is_foreign.ensures.0 yes), λ wrong. c.in_ok-is_foreign.ensures.1 (same.1 wrong)) c.fault_here_if-foreign.ensures in
+    least_searches Value (λ fault. Key fault ⊎ Foreign fault) c.fault_if-value.result c.earlier_of.result c.earlier_of-2.result c.earlier_of-2.ensures value
+    (least_searches Key Foreign c.fault_here_if-key.result c.fault_here_if-foreign.result c.earlier_of.result c.earlier_of.ensures of_key foreign)

@@ -16,12 +16,12 @@ returns-in_default c =
     let writing = c.args.self.now.writing.now in
     let key = c.args.self.now.key.now in
     let cond = c.args.item.now in
-    let form = c.fault_here_if.result in
+    let form = c.fault_here_if-form.result in
     let Whole : Option CondOn → Type 0 = λ known. IfOk form (IsLeast fault_cmp (λ fault. IsForm writing key cond fault ⊎ IsOn writing key cond known fault)) in
     let nothing : None ≡ c.condition_on.result = sym (none_of c.condition_on.result c.in_default.not-Some) in
     subst Whole (nothing ∙ c.condition_on.ensures ∙ ap (on_by cond) c.found.ensures)
     (IfOk-weaker form (IsLeast fault_cmp (IsForm writing key cond)) _ (λ found. first_only (IsForm writing key cond) (IsOn writing key cond None) found (on_nothing writing key cond))
-    (least_searched (IsAt ConditionForm []) form c.is_ill_formed.ensures c.fault_here_if.ensures))
+    (least_searched (IsAt ConditionForm []) form c.is_ill_formed.ensures c.fault_here_if-form.ensures))
 
 pub returns : goal.returns
 returns c =
@@ -29,8 +29,8 @@ returns c =
     let key = c.args.self.now.key.now in
     let cond = c.args.item.now in
     let known : Option CondOn = Some c.in-Some.what in
-    let form = least_searched (IsAt ConditionForm []) c.fault_here_if.result c.is_ill_formed.ensures c.fault_here_if.ensures in
+    let form = least_searched (IsAt ConditionForm []) c.fault_here_if-form.result c.is_ill_formed.ensures c.fault_here_if-form.ensures in
     let Whole : Option CondOn → Type 0 = λ on. IfOk c.earlier_of.result (IsLeast fault_cmp (λ fault. IsForm writing key cond fault ⊎ IsOn writing key cond on fault)) in
     subst Whole (sym c.in-Some.is ∙ c.condition_on.ensures ∙ ap (on_by cond) c.found.ensures)
-    (least_searches (IsForm writing key cond) (IsOn writing key cond known) c.fault_here_if.result c.first_on.result c.earlier_of.result c.earlier_of.ensures form
-    c.first_on.ensures)
+    (least_searches (IsForm writing key cond) (IsOn writing key cond known) c.fault_here_if-form.result c.first_on-on.result c.earlier_of.result c.earlier_of.ensures form
+    c.first_on-on.ensures)
