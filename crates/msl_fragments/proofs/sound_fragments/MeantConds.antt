@@ -28,7 +28,7 @@ use Rattle.msl_rules.specs.Found.{col_numbered, cond_in, conds_in, kind_on, name
 use Rattle.msl_rules.specs.FragmentRules.{IsCondFault, IsNoValue, IsOfKey}
 use Rattle.msl_rules.specs.KeepsMapping.{KeepsMappingRules}
 use Rattle.msl_rules.specs.MappingMeaning.{schema_in}
-use Rattle.msl_rules.proofs.condition_values.NotBinary.{not_binary}
+use Rattle.msl_rules.proofs.NotBinary.{not_binary}
 use Rattle.msl_fragments.proofs.sound_fragments.NamesFound.{col_inside, prop_inside}
 use Rattle.msl_fragments.proofs.sound_fragments.StableKinds.{lies}
 use Rattle.msl_fragments.proofs.sound_fragments.Written.{FoundFragment, no_fragment_fault}

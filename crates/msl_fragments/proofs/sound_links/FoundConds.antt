@@ -11,7 +11,7 @@ use Rattle.emc_base.proofs.FoundItems.{and_then_some, map_some}
 use Rattle.msl_rules.specs.declared.msl_lists.raw.RawCond.{RawCond}
 use Rattle.msl_rules.specs.Found.{cond_in, kind_on, on_in, table_numbered, test_of}
 use Rattle.msl_rules.specs.FragmentRules.{IsNoValue}
-use Rattle.msl_rules.proofs.condition_values.NotBinary.{not_binary}
+use Rattle.msl_rules.proofs.NotBinary.{not_binary}
 use Rattle.msl_fragments.proofs.sound_links.Stable.{domain_stable}
 
 -- a condition on a value compares with what its text gives

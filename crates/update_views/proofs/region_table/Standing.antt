@@ -1,6 +1,6 @@
 -- Items at places of lists that are joined, and of lists of choices.
-use Rattle.std.proofs.Common.{◌≡◌, ◌+◌, ◌*◌, ℕ, zero, suc, List, [], ◌∷◌, ◌++◌, map, flat_map, length, sym, ap, subst, ◌∙◌, suc-mul, zero-mul, zero-add, add_comm, arith}
-use Rattle.std.proofs.lemmas.List.{length-append, length-map}
+use Rattle.std.proofs.Common.{◌≡◌, ◌+◌, ◌*◌, ℕ, zero, suc, List, [], ◌∷◌, ◌++◌, map, flat_map, length, sym, ap, subst, ◌∙◌, suc-mul, zero-mul, zero-add, arith}
+use Rattle.std.proofs.lemmas.List.{length-map}
 use Rattle.std.proofs.lemmas.List.Concat.{flat_map-append}
 use Rattle.emc_base.specs.Lists.{At}
 use Rattle.emc_base.proofs.Joined.{at_map}
@@ -47,12 +47,6 @@ module _ {X Y : Type 0} (f : X → List Y) where
         let size : length (f z) ≡ n = each z in
         let place : length (f z) + (rest + j) ≡ whole + j = omega (arith, more, size) in
         subst Q place later
-
-    pub length_even : (xs : List X) → length (flat_map f xs) ≡ length xs * n
-    length_even [] = sym (zero-mul n)
-    length_even (x ∷ xs) =
-        let both : length (f x) + length (flat_map f xs) ≡ n + length xs * n = λ k. each x k + length_even xs k in
-        length-append (f x) (flat_map f xs) ∙ both ∙ add_comm n (length xs * n) ∙ sym (suc-mul (length xs) n)
 
 module _ {X : Type 0} (xs : List X) (rest : List (List X)) where
   -- a choice by the places of its first item and of the others
