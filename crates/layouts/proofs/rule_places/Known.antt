@@ -1,8 +1,7 @@
 -- What lists know of names, by the places of their names.
-use Rattle.std.proofs.Common.{◌≡◌, ◌⊎◌, ⊎_elim, inl, inr, ℕ, zero, suc, ◌<◌, List, [], ◌∷◌, ◌++◌, map, Contains, Any, Bor, Option, Result, IfOk, true, refl, sym, subst, ◌∙◌, arith}
+use Rattle.std.proofs.Common.{◌≡◌, ◌⊎◌, ⊎_elim, inl, inr, ℕ, zero, suc, ◌<◌, List, [], ◌∷◌, ◌++◌, map, Contains, Any, Bor, Option, true, refl, sym, subst, ◌∙◌, arith}
 use Rattle.std.specs.Option.{is_some}
 use Rattle.std.proofs.lemmas.List.Elements.{Contains-append_cases, Contains-append_left, Contains-append_right}
-use Rattle.std.proofs.lemmas.Result.{IfOk-weaker}
 use Rattle.json_form.specs.declared.pointer.Step.TheVariants.{Member}
 use Rattle.groupings.specs.least_fault.Least.{IsLeast}
 use Rattle.layouts.specs.declared.fault.Fault.{Fault}
@@ -14,7 +13,7 @@ use Rattle.groupings.specs.name_places.PlacesIn.{place_in}
 use Rattle.groupings.proofs.name_places.KnownNames.{name_of_item, place_of_name}
 use Rattle.layouts.specs.rule_places.Places.{IsAt, InList}
 use Rattle.layouts.specs.rule_places.KnownNames.{AreNames, IsKnown, IsKnownAgainAt, IsLeastAgain}
-use Rattle.layouts.specs.rule_places.Names.{IsGivenAgain, IsRepeatedIn}
+use Rattle.layouts.specs.rule_places.Names.{IsGivenAgain}
 use Rattle.layouts.proofs.rule_places.LeastFound.{least_in_list}
 
 -- some item of a list: none of the empty one, the first or a later one
@@ -31,12 +30,6 @@ module _ {X : Type 0} (P : X → Type 0) where
   any_cases : (x : X) (xs : List X) → Any P (x ∷ xs) → P x ⊎ Any P xs
   any_cases x xs (zero, y, within, is, holds) = inl (subst P (sym is) holds)
   any_cases x xs (suc k, y, within, is, holds) = inr (k, y, omega arith, is, holds)
-
--- what a search finds that tells names given again, where what the lists know is known
-pub again_of : {X E : Type 0} (name_in : X → List ℕ) (lists : List (Bor Places)) (member last : List ℕ) (items : List X) (found : Result (Option Fault) E)
-    (names : List (List ℕ)) → AreNames lists names → IfOk found (IsLeastAgain name_in lists member last items) → IfOk found (IsLeast fault_cmp (IsRepeatedIn name_in names member last items))
-again_of name_in lists member last items found names are = IfOk-weaker found (IsLeastAgain name_in lists member last items)
-    (IsLeast fault_cmp (IsRepeatedIn name_in names member last items)) (λ least again. again names are)
 
 -- no list knows no name
 pub of_none : AreNames [] []

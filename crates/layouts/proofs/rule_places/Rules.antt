@@ -186,6 +186,11 @@ pub least_searches : {E : Type 0} (P Q : Fault → Type 0) (one other both : Res
     → IfOk one (IsLeast fault_cmp P) → IfOk other (IsLeast fault_cmp Q) → IfOk both (IsLeast fault_cmp (λ fault. P fault ⊎ Q fault))
 least_searches P Q one other both is first second = least_of_searches fault_cmp fault_cmp_total P Q one other both first second is
 
+-- what a search finds is also this, where it is what is known of it
+pub searched : {E : Type 0} {P : Option Fault → Type 0} (Q : Option Fault → Type 0) (found : Result (Option Fault) E) → IfOk found P
+    → ((least : Option Fault) → P least → Q least) → IfOk found Q
+searched {E} {P} Q found is to = IfOk-weaker found P Q to is
+
 -- a search that asks for something which is there
 pub least_where_some : {X : Type 0} (P : X → Fault → Type 0) (known : Option X) (x : X) (found : Option Fault) → known ≡ Some x → IsLeast fault_cmp (P x) found
     → IsLeast fault_cmp (λ fault. MatchOption known ⊥ (λ y. P y fault)) found
