@@ -67,8 +67,8 @@ module _ {F : Type 0} (cmp : F → F → Ordering) (total : IsTotalOrder cmp) wh
   least_of_searches {E} P Q one other result is_one is_other is = IfOk-weaker result (IsEarlierOf cmp one other) (IsLeast cmp (λ fault. P fault ⊎ Q fault))
       (λ found by.
       let least = least_of_both P Q by.first by.second
-              (let S : Result (Option F) E → Type 0 = λ search. IfOk search (IsLeast cmp P) in subst S by.is_first is_one)
-              (let S : Result (Option F) E → Type 0 = λ search. IfOk search (IsLeast cmp Q) in subst S by.is_second is_other) in
+      (let S : Result (Option F) E → Type 0 = λ search. IfOk search (IsLeast cmp P) in subst S by.is_first is_one)
+      (let S : Result (Option F) E → Type 0 = λ search. IfOk search (IsLeast cmp Q) in subst S by.is_second is_other) in
       subst (λ (it : Option F). IsLeast cmp (λ fault. P fault ⊎ Q fault) it) (sym by.is) least)
       is
 

@@ -42,12 +42,7 @@ impl<'a> Finder<RawCond, Fault> for Conditions<'a> {
 
 impl<'a> Conditions<'a> {
     // The least of what is wrong with a condition on what is known (V34, V35 and V38).
-    fn first_on(
-        &self,
-        alloc: Global,
-        what: CondOn,
-        cond: &RawCond,
-    ) -> Result<Option<Fault>, Memory>
+    fn first_on(&self, alloc: Global, what: CondOn, cond: &RawCond) -> Result<Option<Fault>, Memory>
         ensures { IfOk result (λ found. IsLeast fault_cmp (IsOn self.now.writing.now self.now.key.now cond.now (Some what)) found) }
     {
         let has_no_value = has_no_value(alloc, self.writing, what, cond)?;
