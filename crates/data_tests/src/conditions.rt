@@ -92,9 +92,10 @@ fn selected_in_staff(
     is_active: bool,
     flag: Option<bool>,
 ) -> Result<[bool; 4], Fail> {
-    let test = match is_active {
-        true => Test::Equals(Value::Flag(true)),
-        false => Test::IsNull(false),
+    let test = if is_active {
+        Test::Equals(Value::Flag(true))
+    } else {
+        Test::IsNull(false)
     };
     let fragment = fragment(alloc, below, test)?;
     let model = staff(alloc)?;
