@@ -7,29 +7,31 @@ use emc_base::{ColId, Memory, PropId, Seq, SetId, TableId, Txt, TypeId, Value};
 use std::alloc::Global;
 use std::test::Fail;
 
-// A type and those below it.
-fn below(alloc: Global, model: &EntityModel, ty: TypeId) -> Result<Seq<TypeId>, Memory>
+// Whether just these types are a type or stand below it, in this order.
+fn are_below(
+    alloc: Global,
+    model: &EntityModel,
+    ty: TypeId,
+    types: &[TypeId],
+) -> Result<bool, Memory>
     requires { IsSoundModel model.now }
 {
-    subtree(alloc, model, ty)
+    let found = subtree(alloc, model, ty)?;
+    Ok(found.as_slice() == types)
 }
 
-// A type of the staff and those below it.
-fn below_in_staff(alloc: Global, ty: TypeId) -> Result<Seq<TypeId>, Fail> {
+// The same in the staff.
+fn are_below_in_staff(alloc: Global, ty: TypeId, types: &[TypeId]) -> Result<bool, Fail> {
     let model = staff(alloc)?;
-    let types = below(alloc, &model, ty)?;
-    Ok(types)
+    let are_below = are_below(alloc, &model, ty, types)?;
+    Ok(are_below)
 }
 
 #[test]
 fn a_subtree_is_in_the_order_of_the_types(rt: HostRuntime) -> Result<(), Fail> {
-    for (ty, want) in [
-        (PERSON, [MANAGER, PERSON, EMPLOYEE, CUSTOMER].as_slice()),
-        (EMPLOYEE, &[MANAGER, EMPLOYEE]),
-    ] {
-        let types = below_in_staff(rt.alloc(), ty)?;
-        assert_eq!(rt; types.as_slice(), want);
-    }
+    let persons = [MANAGER, PERSON, EMPLOYEE, CUSTOMER];
+    assert!(rt; are_below_in_staff(rt.alloc(), PERSON, &persons)?);
+    assert!(rt; are_below_in_staff(rt.alloc(), EMPLOYEE, &[MANAGER, EMPLOYEE])?);
     Ok(())
 }
 
