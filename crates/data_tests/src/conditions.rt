@@ -8,12 +8,7 @@ use std::alloc::Global;
 use std::test::Fail;
 
 // Whether just these types are a type or stand below it, in this order.
-fn are_below(
-    alloc: Global,
-    model: &EntityModel,
-    ty: TypeId,
-    types: &[TypeId],
-) -> Result<bool, Memory>
+fn are_below(alloc: Global, model: &EntityModel, ty: TypeId, types: &[TypeId]) -> Result<bool, Fail>
     requires { IsSoundModel model.now }
 {
     let found = subtree(alloc, model, ty)?;
@@ -23,8 +18,7 @@ fn are_below(
 // The same in the staff.
 fn are_below_in_staff(alloc: Global, ty: TypeId, types: &[TypeId]) -> Result<bool, Fail> {
     let model = staff(alloc)?;
-    let are_below = are_below(alloc, &model, ty, types)?;
-    Ok(are_below)
+    are_below(alloc, &model, ty, types)
 }
 
 #[test]
@@ -74,7 +68,7 @@ fn selected(
     model: &EntityModel,
     fragment: &Fragment,
     flag: Option<bool>,
-) -> Result<[bool; 4], Memory>
+) -> Result<[bool; 4], Fail>
     requires { IsSoundModel model.now }
 {
     let expr = select_expr(alloc, fragment)?;
@@ -87,8 +81,18 @@ fn selected(
     Ok(told)
 }
 
-// The same of a fragment of employees, with those below them or without, who are active, or of whom that is known.
+// The same in the staff.
 fn selected_in_staff(
+    alloc: Global,
+    fragment: &Fragment,
+    flag: Option<bool>,
+) -> Result<[bool; 4], Fail> {
+    let model = staff(alloc)?;
+    selected(alloc, &model, fragment, flag)
+}
+
+// The same of a fragment of employees, with those below them or without, who are active, or of whom that is known.
+fn selected_employees(
     alloc: Global,
     below: bool,
     is_active: bool,
@@ -100,9 +104,7 @@ fn selected_in_staff(
         Test::IsNull(false)
     };
     let fragment = fragment(alloc, below, test)?;
-    let model = staff(alloc)?;
-    let told = selected(alloc, &model, &fragment, flag)?;
-    Ok(told)
+    selected_in_staff(alloc, &fragment, flag)
 }
 
 #[test]
@@ -114,7 +116,7 @@ fn entities_are_selected_by_type_and_flag(rt: HostRuntime) -> Result<(), Fail> {
         (false, false, Some(false), [false, false, true, false]),
         (false, false, None, [false; 4]),
     ] {
-        let told = selected_in_staff(rt.alloc(), below, is_active, flag)?;
+        let told = selected_employees(rt.alloc(), below, is_active, flag)?;
         assert_eq!(rt; told, want);
     }
     Ok(())
