@@ -7,29 +7,25 @@ use emc_base::{ColId, Memory, PropId, Seq, SetId, TableId, Txt, TypeId, Value};
 use std::alloc::Global;
 use std::test::Fail;
 
-// A type and those below it.
-fn below(alloc: Global, model: &EntityModel, ty: TypeId) -> Result<Seq<TypeId>, Memory>
+// Whether just these types are a type or stand below it, in this order.
+fn are_below(alloc: Global, model: &EntityModel, ty: TypeId, types: &[TypeId]) -> Result<bool, Fail>
     requires { IsSoundModel model.now }
 {
-    subtree(alloc, model, ty)
+    let found = subtree(alloc, model, ty)?;
+    Ok(found.as_slice() == types)
 }
 
-// A type of the staff and those below it.
-fn below_in_staff(alloc: Global, ty: TypeId) -> Result<Seq<TypeId>, Fail> {
+// The same in the staff.
+fn are_below_in_staff(alloc: Global, ty: TypeId, types: &[TypeId]) -> Result<bool, Fail> {
     let model = staff(alloc)?;
-    let types = below(alloc, &model, ty)?;
-    Ok(types)
+    are_below(alloc, &model, ty, types)
 }
 
 #[test]
 fn a_subtree_is_in_the_order_of_the_types(rt: HostRuntime) -> Result<(), Fail> {
-    for (ty, want) in [
-        (PERSON, [MANAGER, PERSON, EMPLOYEE, CUSTOMER].as_slice()),
-        (EMPLOYEE, &[MANAGER, EMPLOYEE]),
-    ] {
-        let types = below_in_staff(rt.alloc(), ty)?;
-        assert_eq!(rt; types.as_slice(), want);
-    }
+    let persons = [MANAGER, PERSON, EMPLOYEE, CUSTOMER];
+    assert!(rt; are_below_in_staff(rt.alloc(), PERSON, &persons)?);
+    assert!(rt; are_below_in_staff(rt.alloc(), EMPLOYEE, &[MANAGER, EMPLOYEE])?);
     Ok(())
 }
 
@@ -72,7 +68,7 @@ fn selected(
     model: &EntityModel,
     fragment: &Fragment,
     flag: Option<bool>,
-) -> Result<[bool; 4], Memory>
+) -> Result<[bool; 4], Fail>
     requires { IsSoundModel model.now }
 {
     let expr = select_expr(alloc, fragment)?;
@@ -85,21 +81,30 @@ fn selected(
     Ok(told)
 }
 
-// The same of a fragment of employees, with those below them or without, who are active, or of whom that is known.
+// The same in the staff.
 fn selected_in_staff(
+    alloc: Global,
+    fragment: &Fragment,
+    flag: Option<bool>,
+) -> Result<[bool; 4], Fail> {
+    let model = staff(alloc)?;
+    selected(alloc, &model, fragment, flag)
+}
+
+// The same of a fragment of employees, with those below them or without, who are active, or of whom that is known.
+fn selected_employees(
     alloc: Global,
     below: bool,
     is_active: bool,
     flag: Option<bool>,
 ) -> Result<[bool; 4], Fail> {
-    let test = match is_active {
-        true => Test::Equals(Value::Flag(true)),
-        false => Test::IsNull(false),
+    let test = if is_active {
+        Test::Equals(Value::Flag(true))
+    } else {
+        Test::IsNull(false)
     };
     let fragment = fragment(alloc, below, test)?;
-    let model = staff(alloc)?;
-    let told = selected(alloc, &model, &fragment, flag)?;
-    Ok(told)
+    selected_in_staff(alloc, &fragment, flag)
 }
 
 #[test]
@@ -111,7 +116,7 @@ fn entities_are_selected_by_type_and_flag(rt: HostRuntime) -> Result<(), Fail> {
         (false, false, Some(false), [false, false, true, false]),
         (false, false, None, [false; 4]),
     ] {
-        let told = selected_in_staff(rt.alloc(), below, is_active, flag)?;
+        let told = selected_employees(rt.alloc(), below, is_active, flag)?;
         assert_eq!(rt; told, want);
     }
     Ok(())

@@ -61,10 +61,15 @@ fn link_counts(alloc: Global, model: &EntityModel, assoc: AssocId) -> Result<[us
     }
 }
 
+// The same of the staff.
+fn link_counts_of_staff(alloc: Global, assoc: AssocId) -> Result<[usize; 2], Fail> {
+    let model = staff(alloc)?;
+    link_counts(alloc, &model, assoc)
+}
+
 #[test]
 fn a_link_is_added(rt: HostRuntime) -> Result<(), Fail> {
-    let model = staff(rt.alloc())?;
-    let counts = link_counts(rt.alloc(), &model, AssocId { index: 1 })?;
+    let counts = link_counts_of_staff(rt.alloc(), AssocId { index: 1 })?;
     assert_eq!(rt; counts, [0usize, 1]);
     Ok(())
 }
