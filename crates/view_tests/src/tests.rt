@@ -46,7 +46,7 @@ fn links_have_lines(rt: HostRuntime) -> Result<(), Fail> {
 #[test]
 fn one_boss_is_always_there(rt: HostRuntime) -> Result<(), Fail> {
     let wanted =
-        r#"{"cases":[{"atoms":{},"links":{},"rows":{"People":{"BossId":{"is":null},"Id":{"property":"Id"},"Kind":{"is":0}}},"type":"N.Person"},{"atoms":{},"links":{"Boss":true},"rows":{"People":{"BossId":{"link":"Boss","property":"Id"},"Id":{"property":"Id"},"Kind":{"is":1}}},"type":"N.Employee"}],"set":"People"}
+        r#"{"cases":[{"atoms":{},"links":{"Boss":false},"rows":{"People":{"BossId":{"is":null},"Id":{"property":"Id"},"Kind":{"is":0}}},"type":"N.Person"},{"atoms":{},"links":{"Boss":true},"rows":{"People":{"BossId":{"link":"Boss","property":"Id"},"Id":{"property":"Id"},"Kind":{"is":1}}},"type":"N.Employee"}],"set":"People"}
 "#;
     for texts in [ONE_BOSS, BOSSES] {
         assert!(rt; tells(rt.alloc(), texts, Asked::Text, wanted)?);
