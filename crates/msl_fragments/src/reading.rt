@@ -81,8 +81,17 @@ fn read_lists(
     ensures few { IfOk result (λ _. HasFewItems raw.now) }
 {
     let names = SchemaNames::of(alloc, model, store)?;
-    allow_climbs(&names, raw)?;
-    read_names(alloc, &names, raw)
+    read_counted(alloc, &names, raw)
+}
+
+// On how many properties would be looked for, and then the others.
+fn read_counted(alloc: Global, names: &SchemaNames<'_>, raw: &RawMapping) -> Result<Mapping, Stop>
+    requires { IsSoundModel names.now.model.now }
+    ensures reads { Reads (IsMappingListFault names.now.model.now names.now.store.now raw.now) (mapping_in names.now.model.now names.now.store.now raw.now) result }
+    ensures few { IfOk result (λ _. HasFewItems raw.now) }
+{
+    allow_climbs(names, raw)?;
+    read_names(alloc, names, raw)
 }
 
 // On what is mapped twice, and then the others.
