@@ -94,45 +94,58 @@ fn has_rival(model: &EntityModel, shown: &Shown<'_>, others: &[Shown<'_>]) -> bo
 
 // Whether entities of two regions can write the same rows, with the same links there.
 fn are_rivals(model: &EntityModel, one: &Shown<'_>, two: &Shown<'_>) -> bool {
-    let rows = one.pattern.rows.as_slice();
-    let others = two.pattern.rows.as_slice();
-    if one.region.linked.as_slice() != two.region.linked.as_slice() || rows.len() != others.len() {
-        return false;
-    }
-    for (row, other) in rows.iter().zip(others) {
-        if !rows_match(model, (one.region, row), (two.region, other)) {
-            return false;
-        }
-    }
-    true
-}
-
-// Whether two rows, each of a region, are of one table and can hold the same.
-fn rows_match(
-    model: &EntityModel,
-    (one_region, one_row): (&Region, &PatternRow),
-    (two_region, two_row): (&Region, &PatternRow),
-) -> bool {
-    if one_row.table != two_row.table {
-        return false;
-    }
-    for (cell, other) in one_row
-        .cells
-        .as_slice()
-        .iter()
-        .zip(two_row.cells.as_slice())
+    let rows = one.pattern.rows.len();
+    if one.region.linked.as_slice() != two.region.linked.as_slice()
+        || rows != two.pattern.rows.len()
     {
-        let one = settled(model, one_region.atoms.as_slice(), cell.as_slice());
-        let two = settled(model, two_region.atoms.as_slice(), other.as_slice());
-        if !can_be_one(&one, &two) {
+        return false;
+    }
+    for place in 0..rows {
+        if !rows_match(model, one, two, place) {
             return false;
         }
     }
     true
 }
 
-// What a cell can hold: null where nothing is listed, else what the first symbol can be.
-fn settled<'c>(model: &EntityModel, atoms: &'c [AtomOf], cell: &'c [Symbol]) -> CanBe<'c> {
+// Whether the rows at a place, each of a region, are of one table and can hold the same.
+fn rows_match(model: &EntityModel, one: &Shown<'_>, two: &Shown<'_>, place: usize) -> bool {
+    match (one.pattern.rows.get(place), two.pattern.rows.get(place)) {
+        (Some(row), Some(other)) => {
+            row.table == other.table && cells_match(model, (one.region, row), (two.region, other))
+        }
+        _ => false,
+    }
+}
+
+// Whether the cells of two rows, each of a region, can hold the same.
+fn cells_match(
+    model: &EntityModel,
+    one: (&Region, &PatternRow),
+    two: (&Region, &PatternRow),
+) -> bool {
+    for place in 0..one.1.cells.len() {
+        if !can_be_one(&settled(model, one, place), &settled(model, two, place)) {
+            return false;
+        }
+    }
+    true
+}
+
+// What the cell at a place of a region's row can hold: null where nothing is listed, else what the first symbol can be.
+fn settled<'c>(
+    model: &EntityModel,
+    (region, row): (&'c Region, &'c PatternRow),
+    place: usize,
+) -> CanBe<'c> {
+    match row.cells.get(place) {
+        Some(cell) => first_of(model, region.atoms.as_slice(), cell.as_slice()),
+        None => CanBe::Null,
+    }
+}
+
+// What the first of some symbols can be, or null.
+fn first_of<'c>(model: &EntityModel, atoms: &'c [AtomOf], cell: &'c [Symbol]) -> CanBe<'c> {
     match cell.first() {
         Some(symbol) => possible(model, atoms, symbol),
         None => CanBe::Null,

@@ -8,7 +8,6 @@ use crate::all_pairs::has_same_tables;
 use crate::printing::{put, put_values};
 use cells::{Parts, hosted_links};
 use containment::first_conflict;
-use data_documents::state_of_doc;
 use edm_types::{Entity, Hosted, key_of};
 use emc_base::{AssocId, Memory, Seq, SetId};
 use entity_state::EntityState;
@@ -16,7 +15,7 @@ use region_partition::{RegionsFault, find_region, regions};
 use region_states::Conflict;
 use regions::{Focus, Region};
 use round_trip::FailKind;
-use schema_reader::document;
+use schema_reader::state_of_text;
 use std::alloc::Global;
 use std::test::Fail;
 use symbolic_rows::pattern;
@@ -71,10 +70,7 @@ pub fn put_entities(
 ) -> Result<(), Fail>
     requires { AreParts parts.now }
 {
-    let Some(doc) = document(alloc, state) else {
-        return Err(Fail::from("no document"));
-    };
-    let Ok(state) = state_of_doc(alloc, &doc, parts.model) else {
+    let Some(state) = state_of_text(alloc, parts.model, state) else {
         return Err(Fail::from("no state"));
     };
     let Ok(found) = regions(alloc, parts, set, MOST_REGIONS) else {

@@ -3,13 +3,16 @@ ghost use Rattle.round_trip.specs.Between.{schema_of};
 ghost use Rattle.round_trip.specs.soundness.mappings.Mappings.{IsSoundSchema};
 
 use csdl_model::read_csdl;
+use data_documents::{state_of_doc, tables_of_doc};
 use edm_types::{EntityModel, Mapping, StoreModel, VocabFault};
 use emc_base::{Bin, Txt};
 use emc_files::Files;
+use entity_state::EntityState;
 use json_form::Doc;
 use msl_fragments::read_msl;
 use ssdl_model::read_ssdl;
 use std::alloc::Global;
+use table_files::Tables;
 
 /// The largest document in a file, in bytes.
 const LARGEST_FILE: u64 = 1_073_741_824;
@@ -57,10 +60,22 @@ pub fn read_texts(alloc: Global, texts: [&str; 3]) -> Option<Meant>
     read(alloc, &documents).ok()
 }
 
-/// The document of a text. `None` where it isn't JSON, or memory ran out.
-pub fn document(alloc: Global, text: &str) -> Option<Doc> {
+// The document of a text.
+fn document(alloc: Global, text: &str) -> Option<Doc> {
     let bytes = Bin::of(alloc, text.as_bytes()).ok()?;
     Doc::of_bytes(alloc, &bytes).ok()
+}
+
+/// The state in the text of an entity document. `None` where it isn't JSON or has another shape, or memory ran out.
+pub fn state_of_text(alloc: Global, model: &EntityModel, text: &str) -> Option<EntityState> {
+    let doc = document(alloc, text)?;
+    state_of_doc(alloc, &doc, model).ok()
+}
+
+/// The tables in the text of a table document. `None` where it isn't JSON or has another shape, or memory ran out.
+pub fn tables_of_text(alloc: Global, store: &StoreModel, text: &str) -> Option<Tables> {
+    let doc = document(alloc, text)?;
+    tables_of_doc(alloc, &doc, store).ok()
 }
 
 /// What the documents in three files mean. `None` where one isn't there or isn't JSON, a rule is broken, or memory ran out.

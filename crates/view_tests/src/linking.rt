@@ -4,12 +4,11 @@ ghost use Rattle.region_states.specs.region_basis.BasisOf.{basis_of};
 
 use crate::gathering::put_row;
 use cells::{HostLinks, Parts};
-use data_documents::state_of_doc;
 use edm_types::{Entity, Link, key_of};
 use emc_base::{AssocId, Memory, Seq, SetId, Steps};
 use entity_state::EntityState;
 use regions::Region;
-use schema_reader::document;
+use schema_reader::state_of_text;
 use std::alloc::Global;
 use std::test::Fail;
 use table_files::LocalRows;
@@ -27,20 +26,11 @@ pub fn are_rows(
     requires regions { AreRegions (basis_of parts.now) regions.now }
 {
     let views = UpdateViews::of(alloc, parts, regions)?;
-    let state = state_in(alloc, parts, state)?;
-    let text = rows_text(alloc, parts, &views, &state)?;
-    Ok(text.as_str() == wanted)
-}
-
-// The state of a document.
-fn state_in(alloc: Global, parts: &Parts<'_>, text: &str) -> Result<EntityState, Fail> {
-    let Some(doc) = document(alloc, text) else {
-        return Err(Fail::from("no document"));
-    };
-    let Ok(state) = state_of_doc(alloc, &doc, parts.model) else {
+    let Some(state) = state_of_text(alloc, parts.model, state) else {
         return Err(Fail::from("no state"));
     };
-    Ok(state)
+    let text = rows_text(alloc, parts, &views, &state)?;
+    Ok(text.as_str() == wanted)
 }
 
 // The rows of a state.

@@ -9,12 +9,11 @@ ghost use Rattle.round_trip.specs.soundness.Lookups.{set_key};
 
 use crate::gathering::{put, put_values};
 use cells::Parts;
-use data_documents::tables_of_doc;
 use edm_types::EntityModel;
 use emc_base::{Key, PropId, Seq, SetId, TypeId, Value};
 use query_views::{EntityFault, Loaded, QueryViews, StateFault};
 use regions::Region;
-use schema_reader::document;
+use schema_reader::tables_of_text;
 use std::alloc::Global;
 use std::test::Fail;
 use table_files::{Tables, is_legal};
@@ -62,10 +61,7 @@ pub fn is_lent(
 fn tables_in(alloc: Global, parts: &Parts<'_>, text: &str) -> Result<Tables, Fail>
     ensures { IfOk result (AreLegalTables parts.now.store.now) }
 {
-    let Some(doc) = document(alloc, text) else {
-        return Err(Fail::from("no document"));
-    };
-    let Ok(tables) = tables_of_doc(alloc, &doc, parts.store) else {
+    let Some(tables) = tables_of_text(alloc, parts.store, text) else {
         return Err(Fail::from("no tables"));
     };
     if !is_legal(tables.as_slice(), parts.store) {
