@@ -1,5 +1,6 @@
 ghost use Rattle.std.specs.Prelude.{IfOk, IfSome};
 ghost use Rattle.round_trip.specs.Between.{schema_of};
+ghost use Rattle.round_trip.specs.Words.{AreTables};
 ghost use Rattle.round_trip.specs.soundness.mappings.Mappings.{IsSoundSchema};
 
 use csdl_model::read_csdl;
@@ -72,8 +73,10 @@ pub fn state_of_text(alloc: Global, model: &EntityModel, text: &str) -> Option<E
     state_of_doc(alloc, &doc, model).ok()
 }
 
-/// The tables in the text of a table document. `None` where it isn't JSON or has another shape, or memory ran out.
-pub fn tables_of_text(alloc: Global, store: &StoreModel, text: &str) -> Option<Tables> {
+/// The tables in the text of a table document, which have the store's shape. `None` where it isn't JSON or has another shape, or memory ran out.
+pub fn tables_of_text(alloc: Global, store: &StoreModel, text: &str) -> Option<Tables>
+    ensures { IfSome result (AreTables store.now) }
+{
     let doc = document(alloc, text)?;
     tables_of_doc(alloc, &doc, store).ok()
 }

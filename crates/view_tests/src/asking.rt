@@ -1,5 +1,5 @@
-ghost use Rattle.cells.specs.Parts.{AreParts};
-ghost use Rattle.region_partition.specs.mapping_limits.FirstLimit.{HaveFewRegions};
+ghost use Rattle.cells.specs.Cells.{TellsCells};
+ghost use Rattle.cells.specs.Parts.{AreParts, schema_in};
 ghost use Rattle.region_partition.specs.set_regions.Regions.{AreRegions};
 ghost use Rattle.region_states.specs.region_basis.BasisOf.{basis_of};
 ghost use Rattle.round_trip.specs.Between.{schema_of};
@@ -7,6 +7,7 @@ ghost use Rattle.round_trip.specs.soundness.mappings.Mappings.{IsSoundSchema};
 
 use crate::linking::are_rows;
 use crate::loading::{is_entity, is_lent};
+use case_laws::Case;
 use cells::{Cells, Parts};
 use emc_base::Seq;
 use query_views::QueryViews;
@@ -32,10 +33,10 @@ pub enum Asked {
 
 /// Whether this is told by the views of a mapping.
 pub fn tells(alloc: Global, texts: [&str; 3], asked: Asked, wanted: &str) -> Result<bool, Fail> {
-    let Some(meant) = read_texts(alloc, texts) else {
-        return Err(Fail::from("no schema"));
-    };
-    tells_by(alloc, &meant, asked, wanted)
+    match read_texts(alloc, texts) {
+        Some(meant) => tells_by(alloc, &meant, asked, wanted),
+        None => Err(Fail::from("no schema")),
+    }
 }
 
 // The same by what the documents mean.
@@ -49,23 +50,37 @@ fn tells_by(alloc: Global, meant: &Meant, asked: Asked, wanted: &str) -> Result<
         mapping: &meant.mapping,
         cells: &cells,
     };
-    if first_limit(alloc, &parts)?.is_some() {
-        return Err(Fail::from("a limit"));
-    }
     tells_of(alloc, &parts, asked, wanted)
 }
 
 // The same of their parts.
 fn tells_of(alloc: Global, parts: &Parts<'_>, asked: Asked, wanted: &str) -> Result<bool, Fail>
-    requires parts { AreParts parts.now }
-    requires few { HaveFewRegions (basis_of parts.now) }
+    requires sound { IsSoundSchema (schema_in parts.now) }
+    requires cells { TellsCells (schema_in parts.now) parts.now.cells.now }
 {
+    if first_limit(alloc, parts)?.is_some() {
+        return Err(Fail::from("a limit"));
+    }
     let regions = regions_of_sets(alloc, parts)?;
+    tells_at(alloc, parts, &regions, asked, wanted)
+}
+
+// The same by the regions of all sets.
+fn tells_at(
+    alloc: Global,
+    parts: &Parts<'_>,
+    regions: &Seq<Seq<Region>>,
+    asked: Asked,
+    wanted: &str,
+) -> Result<bool, Fail>
+    requires parts { AreParts parts.now }
+    requires regions { AreRegions (basis_of parts.now) regions.now }
+{
     match asked {
-        Asked::Text => is_text(alloc, parts, &regions, wanted),
-        Asked::Rows(state) => are_rows(alloc, parts, &regions, state, wanted),
-        Asked::Entity(tables, key) => is_entity(alloc, parts, &regions, tables, key, wanted),
-        Asked::Lent(tables) => is_lent(alloc, parts, &regions, tables, wanted),
+        Asked::Text => is_text(alloc, parts, regions, wanted),
+        Asked::Rows(state) => are_rows(alloc, parts, regions, state, wanted),
+        Asked::Entity(tables, key) => is_entity(alloc, parts, regions, tables, key, wanted),
+        Asked::Lent(tables) => is_lent(alloc, parts, regions, tables, wanted),
     }
 }
 
@@ -80,9 +95,21 @@ fn is_text(
     requires regions { AreRegions (basis_of parts.now) regions.now }
 {
     let views = QueryViews::of(alloc, parts, regions)?;
-    if views.cases().len() != parts.model.sets.len() {
+    are_cases(alloc, parts, views.cases(), wanted)
+}
+
+// Whether cases of all sets have this text.
+fn are_cases(
+    alloc: Global,
+    parts: &Parts<'_>,
+    cases: &[Seq<Case>],
+    wanted: &str,
+) -> Result<bool, Fail>
+    requires { AreParts parts.now }
+{
+    if cases.len() != parts.model.sets.len() {
         return Err(Fail::from("another number of sets"));
     }
-    let text = views_text(alloc, parts, views.cases())?;
+    let text = views_text(alloc, parts, cases)?;
     Ok(text.as_slice() == wanted.as_bytes())
 }

@@ -11,7 +11,7 @@ use regions::Region;
 use schema_reader::state_of_text;
 use std::alloc::Global;
 use std::test::Fail;
-use table_files::LocalRows;
+use table_files::{LocalRows, TableRow};
 use update_views::UpdateViews;
 
 /// Whether these are the rows of the entities of a state with the links that they host, and then those of the links by themselves.
@@ -29,23 +29,23 @@ pub fn are_rows(
     let Some(state) = state_of_text(alloc, parts.model, state) else {
         return Err(Fail::from("no state"));
     };
-    let text = rows_text(alloc, parts, &views, &state)?;
-    Ok(text.as_str() == wanted)
+    are_rows_by(alloc, parts, &views, &state, wanted)
 }
 
-// The rows of a state.
-fn rows_text(
+// Whether these are the rows of a state by the views.
+fn are_rows_by(
     alloc: Global,
     parts: &Parts<'_>,
     views: &UpdateViews,
     state: &EntityState,
-) -> Result<String, Memory>
+    wanted: &str,
+) -> Result<bool, Fail>
     requires { AreParts parts.now }
 {
     let mut text = String::new(alloc);
     put_sets(alloc, &mut text, parts, views, state)?;
     put_associations(alloc, &mut text, parts, views, state)?;
-    Ok(text)
+    Ok(text.as_str() == wanted)
 }
 
 // Puts the rows of the entities of each set.
@@ -59,12 +59,24 @@ fn put_sets(
     requires { AreParts parts.now }
 {
     let hosts = HostLinks::of(alloc, parts.model, parts.cells, state)?;
+    put_hosts(alloc, text, parts, views, &hosts, state)
+}
+
+// The same by the links that entities host.
+fn put_hosts(
+    alloc: Global,
+    text: &mut String,
+    parts: &Parts<'_>,
+    views: &UpdateViews,
+    hosts: &HostLinks,
+    state: &EntityState,
+) -> Result<(), Memory> {
     for place in 0..parts.model.sets.len() {
         let set = SetId {
             index: place as u32,
         };
         if let Some(entities) = state.entity_lists().get(place) {
-            put_entities(alloc, text, parts, views, &hosts, set, entities.as_slice())?;
+            put_entities(alloc, text, parts, views, hosts, set, entities.as_slice())?;
         }
     }
     Ok(())
@@ -80,13 +92,32 @@ fn put_entities(
     set: SetId,
     entities: &[Entity],
 ) -> Result<(), Memory> {
-    let mut steps = Steps::new();
     for entity in entities {
-        let key = key_of(alloc, parts.model, entity)?;
-        let rows = views.local(alloc, set, entity, hosts.at(set, &key), &mut steps)?;
-        for row in rows.as_slice() {
-            put_row(alloc, text, row)?;
-        }
+        put_entity(alloc, text, parts, views, hosts, set, entity)?;
+    }
+    Ok(())
+}
+
+// Puts the rows of an entity.
+fn put_entity(
+    alloc: Global,
+    text: &mut String,
+    parts: &Parts<'_>,
+    views: &UpdateViews,
+    hosts: &HostLinks,
+    set: SetId,
+    entity: &Entity,
+) -> Result<(), Memory> {
+    let key = key_of(alloc, parts.model, entity)?;
+    let links = hosts.at(set, &key);
+    let rows = views.local(alloc, set, entity, links, &mut Steps::new())?;
+    put_rows(alloc, text, rows.as_slice())
+}
+
+// Puts rows.
+fn put_rows(alloc: Global, text: &mut String, rows: &[TableRow]) -> Result<(), Memory> {
+    for row in rows {
+        put_row(alloc, text, row)?;
     }
     Ok(())
 }

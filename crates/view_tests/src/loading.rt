@@ -50,7 +50,22 @@ pub fn is_lent(
 {
     let views = QueryViews::of(alloc, parts, regions)?;
     let tables = tables_in(alloc, parts, tables)?;
-    match Loaded::of(alloc, &views, parts, &tables) {
+    is_lent_by(alloc, parts, &views, &tables, wanted)
+}
+
+// The same by the views.
+fn is_lent_by(
+    alloc: Global,
+    parts: &Parts<'_>,
+    views: &QueryViews,
+    tables: &Tables,
+    wanted: &str,
+) -> Result<bool, Fail>
+    requires parts { AreParts parts.now }
+    requires views { AreQueryViewsOf (basis_of parts.now) (is_free_in parts.now.cells.now) views.now }
+    requires legal { AreLegalTables parts.now.store.now tables.now }
+{
+    match Loaded::of(alloc, views, parts, tables) {
         Ok(loaded) => is_last(alloc, &loaded, wanted),
         Err(StateFault::NoCase(_)) => Ok(wanted == "no case"),
         Err(StateFault::Memory) => Err(Fail::from("no memory")),
@@ -59,6 +74,7 @@ pub fn is_lent(
 
 // The tables of a document, which are legal.
 fn tables_in(alloc: Global, parts: &Parts<'_>, text: &str) -> Result<Tables, Fail>
+    requires { AreParts parts.now }
     ensures { IfOk result (AreLegalTables parts.now.store.now) }
 {
     let Some(tables) = tables_of_text(alloc, parts.store, text) else {
