@@ -1,12 +1,17 @@
 -- What documents mean that break no rule is accepted, or isn't, as it was decided.
-use Rattle.std.proofs.Common.{◌≡◌, ℕ, List, Result, Ok, Err, inr, sym, subst}
+use Rattle.std.proofs.Common.{◌≡◌, ℕ, List, Result, Ok, Err, inl, inr, sym, subst}
 use Rattle.emc_base.specs.Lists.{At}
 use Rattle.mapping_core.specs.Words.{IsAccepted, Means, Schema}
+use Rattle.mapping_core.specs.Compiles.{Decides}
 use Rattle.mapping_core.specs.declared.compiled.Compiled.{Compiled}
+use Rattle.mapping_core.specs.declared.verdict.Refusal.{Refusal}
+use Rattle.mapping_core.specs.declared.verdict.Refusal.TheVariants as refusal
+use Rattle.texts.specs.command_texts.Texts.{IsFailText}
 use Rattle.mapping_run.specs.declared.answers.answer.Halt.{Halt}
 use Rattle.mapping_run.specs.declared.answers.answer.Halt.TheVariants.{Tells, Memory}
-use Rattle.mapping_run.specs.answers.Gives.{HasDocuments}
-use Rattle.mapping_run.specs.answers.Answers.{Accepts, AcceptsSchema}
+use Rattle.mapping_run.specs.declared.answers.status.Status.TheVariants.{MappingRefused}
+use Rattle.mapping_run.specs.answers.Gives.{HasDocuments, SaysSome}
+use Rattle.mapping_run.specs.answers.Answers.{Accepts, AcceptsSchema, TellsRefusal}
 
 module _ (contents : List (List ℕ)) (csdl ssdl msl : List ℕ) (at_csdl : At contents 0 csdl) (at_ssdl : At contents 1 ssdl) (at_msl : At contents 2 msl) where
   -- the documents are these
@@ -18,3 +23,12 @@ module _ (contents : List (List ℕ)) (csdl ssdl msl : List ℕ) (at_csdl : At c
       let Is : Schema → Type 0 = λ one. Means csdl ssdl msl one × IsAccepted one in these (subst Is (sym same) (means, accepted))
   accepts_meant schema means (Err (Tells answer)) refuses = these (inr (schema, means, refuses))
   accepts_meant schema means (Err Memory) given = tt
+
+-- what tells of a refusal tells why what documents mean isn't accepted
+pub refuses_decided : (schema : Schema) (refusal : Refusal) → Decides schema (Err refusal) → (halt : Halt) → TellsRefusal refusal halt → AcceptsSchema schema (Err halt)
+refuses_decided schema (refusal.Limit back fault) (same, first) (Tells answer) told = inl (fault, first, told)
+refuses_decided schema (refusal.Fails back failure) decided (Tells answer) told =
+    let Told : Schema → Type 0 = λ one. SaysSome (IsFailText one.model failure) MappingRefused answer in
+    inr (decided.1, (failure, decided.2, subst Told decided.0 told))
+refuses_decided schema refusal.Memory decided (Tells answer) told = absurd told
+refuses_decided schema refusal decided Memory told = tt

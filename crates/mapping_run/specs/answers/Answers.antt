@@ -3,12 +3,14 @@ use Rattle.std.specs.Prelude.{◌≡◌, ℕ, List, Any, Result, Ok, Err, ⊤}
 use Rattle.mapping_core.specs.Words.{IsAccepted, Means, Schema}
 use Rattle.mapping_core.specs.declared.loading.LoadFault.{LoadFault}
 use Rattle.mapping_core.specs.declared.loading.LoadFault.TheVariants as load
-use Rattle.texts.specs.command_texts.Texts.{table_breach_text}
+use Rattle.mapping_core.specs.declared.verdict.Refusal.{Refusal}
+use Rattle.mapping_core.specs.declared.verdict.Refusal.TheVariants as refusal
+use Rattle.texts.specs.command_texts.Texts.{IsFailText, limit_text, table_breach_text}
 use Rattle.mapping_core.specs.declared.compiled.Compiled.{Compiled}
 use Rattle.mapping_run.specs.declared.answers.answer.Answer.{Answer}
 use Rattle.mapping_run.specs.declared.answers.answer.Halt.{Halt}
 use Rattle.mapping_run.specs.declared.answers.answer.Halt.TheVariants.{Tells, Memory}
-use Rattle.mapping_run.specs.declared.answers.status.Status.TheVariants.{DocumentRefused}
+use Rattle.mapping_run.specs.declared.answers.status.Status.TheVariants.{DocumentRefused, MappingRefused}
 use Rattle.mapping_run.specs.answers.Gives.{HasDocuments, RefusesMapping, RefusesSchema, Says, SaysSome, TellsNoState}
 
 -- the accepted mapping of the documents that are the first three of these contents; or what is told where they aren't accepted
@@ -22,6 +24,17 @@ abbrev pub AcceptsSchema : Schema → Result Compiled Halt → Type 0
 AcceptsSchema schema (Ok compiled) = (compiled ≡ schema) × IsAccepted schema
 AcceptsSchema schema (Err (Tells answer)) = RefusesSchema schema answer
 AcceptsSchema schema (Err Memory) = ⊤
+
+-- a refusal is answered so: by the limit that is passed, or by the state that fails, in the names of the schema that was given back
+abbrev pub IsRefusal : Refusal → Answer → Type 0
+IsRefusal (refusal.Limit back fault) answer = Says (limit_text fault) MappingRefused answer
+IsRefusal (refusal.Fails back failure) answer = SaysSome (IsFailText back.model failure) MappingRefused answer
+IsRefusal refusal.Memory answer = ⊥
+
+-- the same, or memory ran out
+abbrev pub TellsRefusal : Refusal → Halt → Type 0
+TellsRefusal refusal (Tells answer) = IsRefusal refusal answer
+TellsRefusal refusal Memory = ⊤
 
 -- a row in which tables differ is told by the name of a table of the store
 abbrev pub NamesTable : Schema → LoadFault → Type 0

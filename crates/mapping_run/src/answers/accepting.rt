@@ -1,12 +1,12 @@
-ghost use Rattle.std.specs.Prelude.{◌≤◌, length};
+ghost use Rattle.std.specs.Prelude.{◌≤◌, IfOk, length};
 ghost use Rattle.mapping_core.specs.Words.{IsRead};
-ghost use Rattle.mapping_run.specs.answers.Answers.{Accepts, AcceptsSchema};
+ghost use Rattle.mapping_run.specs.answers.Answers.{Accepts, AcceptsSchema, IsRefusal, TellsRefusal};
 ghost use Rattle.mapping_run.specs.answers.Gives.{Says};
 ghost use Rattle.mapping_run.specs.declared.answers.status.Status.TheVariants.{MappingRefused};
 
 use crate::answers::answer::{Answer, Halt};
 use crate::answers::status::Status;
-use emc_base::{Bin, Seq, Txt};
+use emc_base::{Bin, Memory, Seq, Txt};
 use mapping_core::{Compiled, Refusal, Schema, VocabFault, decide, read};
 use std::alloc::Global;
 use texts::{fail_text, limit_text, rule_text};
@@ -30,15 +30,32 @@ fn accepted_schema(alloc: Global, schema: Schema) -> Result<Compiled, Halt>
 {
     match decide(alloc, schema) {
         Ok(compiled) => Ok(compiled),
-        Err(Refusal::Limit(_schema, fault)) => {
-            Err(Halt::Tells(refused(limit_text(alloc, &fault)?)))
-        }
-        Err(Refusal::Fails(schema, failure)) => {
-            let text = fail_text(alloc, &schema, &failure)?;
+        Err(refusal) => Err(refusal_told(alloc, &refusal)),
+    }
+}
+
+// What is told of a refusal.
+fn refusal_told(alloc: Global, refusal: &Refusal) -> Halt
+    ensures { TellsRefusal refusal.now result }
+{
+    match refusal_answer(alloc, refusal) {
+        Ok(answer) => Halt::Tells(answer),
+        Err(Memory) => Halt::Memory,
+    }
+}
+
+// The answer that tells of a refusal, unless memory ran out.
+fn refusal_answer(alloc: Global, refusal: &Refusal) -> Result<Answer, Memory>
+    ensures { IfOk result (IsRefusal refusal.now) }
+{
+    match refusal {
+        Refusal::Limit(_, fault) => Ok(refused(limit_text(alloc, fault)?)),
+        Refusal::Fails(schema, failure) => {
+            let text = fail_text(alloc, schema, failure)?;
             let status = Status::MappingRefused;
-            Err(Halt::Tells(Answer { text, status }))
+            Ok(Answer { text, status })
         }
-        Err(Refusal::Memory) => Err(Halt::Memory),
+        Refusal::Memory => Err(Memory),
     }
 }
 
