@@ -30,7 +30,7 @@ use Rattle.msl_fragments.specs.ReadsMapping.{IsMappingOf}
 use Rattle.mapping_core.specs.Accepted.{IsDecided}
 use Rattle.layouts.specs.told_rules.Reads.{Answers}
 use Rattle.layouts.specs.told_rules.Told.{IsToldOrMemory, told_as}
-use Rattle.mapping_core.specs.Compiles.{ReadsSchema}
+use Rattle.mapping_core.specs.Compiles.{AreRead, ReadsAll, ReadsSchema}
 use Rattle.mapping_core.specs.Reading.{IsReadOf, ReadsFile, ReadsTree}
 use Rattle.mapping_core.specs.Rules.{Breaks, IsFaultBy, IsFileFault, IsReadSchema, IsToldRule, file_number, model_in, schema_of_files, store_in, tree_in}
 
@@ -126,15 +126,15 @@ module _ (csdl ssdl msl : List ℕ) where
 
   -- what stops the reading of a file is told
   stops_at : (file : VocabFile) (fault : VocabFault) → Answers {X = Schema} file (IsFileFault csdl ssdl msl file) (λ read. ⊥) (Err fault) → AreFaultless (file_number file)
-      → ReadsSchema csdl ssdl msl (Err fault)
+      → ReadsAll csdl ssdl msl (Err fault)
   stops_at file (read.Rule told) reads before = subst (IsToldRule csdl ssdl msl) (sym reads.2) (tells_first file reads.0 reads.1 before)
   stops_at file read.Memory reads before = cc
 
 -- what stops the reading is what it answers
 handed_on : (csdl ssdl msl : List ℕ) (told : VocabFault) (result : Result Schema VocabFault) → IsErrAnd result (λ fault. fault ≡ told)
-    → ReadsSchema csdl ssdl msl (Err told) → ReadsSchema csdl ssdl msl result
+    → ReadsAll csdl ssdl msl (Err told) → ReadsAll csdl ssdl msl result
 handed_on csdl ssdl msl told (Ok schema) is reads = absurd is
-handed_on csdl ssdl msl told (Err fault) is reads = let P : VocabFault → Type 0 = λ other. ReadsSchema csdl ssdl msl (Err other) in subst P (sym is) reads
+handed_on csdl ssdl msl told (Err fault) is reads = let P : VocabFault → Type 0 = λ other. ReadsAll csdl ssdl msl (Err other) in subst P (sym is) reads
 
 -- what was told of a file says nothing of what would have been read
 told_alone : {X Y : Type 0} (file : VocabFile) (P : Fault → Type 0) (IsRead : X → Type 0) (IsOther : Y → Type 0) (fault : VocabFault)
@@ -145,7 +145,7 @@ told_alone file P IsRead IsOther read.Memory answers = answers
 module _ (csdl ssdl msl : List ℕ) where
   -- the first file stops the reading
   pub stops_at_model : (told : VocabFault) (result : Result Schema VocabFault) → IsErrAnd result (λ fault. fault ≡ told) → ReadsFile Csdl IsModelFault IsModelOf csdl (Err told)
-      → ReadsSchema csdl ssdl msl result
+      → ReadsAll csdl ssdl msl result
   stops_at_model told result is reads = handed_on csdl ssdl msl told result is
       (stops_at csdl ssdl msl Csdl told (told_alone Csdl (IsFaultBy IsModelFault csdl) (IsReadOf IsModelOf csdl) (λ (schema : Schema). ⊥) told reads) (none_read csdl ssdl msl))
 
@@ -159,7 +159,7 @@ module _ (csdl ssdl msl : List ℕ) where
 
     -- the second file stops the reading
     pub stops_at_store : (told : VocabFault) (result : Result Schema VocabFault) → IsErrAnd result (λ fault. fault ≡ told) → ReadsFile Ssdl IsStoreFault IsStoreOf ssdl (Err told)
-        → ReadsSchema csdl ssdl msl result
+        → ReadsAll csdl ssdl msl result
     stops_at_store told result is reads = handed_on csdl ssdl msl told result is
         (stops_at csdl ssdl msl Ssdl told (told_alone Ssdl (IsFaultBy IsStoreFault ssdl) (IsReadOf IsStoreOf ssdl) (λ (schema : Schema). ⊥) told reads) model_clean)
 
@@ -172,7 +172,7 @@ module _ (csdl ssdl msl : List ℕ) where
 
       -- the third file stops the reading
       pub stops_at_mapping : (told : VocabFault) (result : Result Schema VocabFault) → IsErrAnd result (λ fault. fault ≡ told)
-          → ReadsFile Msl (IsMappingFault model store) (IsMappingOf model store) msl (Err told) → ReadsSchema csdl ssdl msl result
+          → ReadsFile Msl (IsMappingFault model store) (IsMappingOf model store) msl (Err told) → ReadsAll csdl ssdl msl result
       stops_at_mapping told result is reads = handed_on csdl ssdl msl told result is (stops_at csdl ssdl msl Msl told between store_clean)
         where
           Told : EntityModel → StoreModel → Type 0
@@ -228,15 +228,37 @@ module _ (csdl ssdl msl : List ℕ) where
                 let same : fault ≡ other = same_fault fault other (rule ∙ sym last.1) (root ∙ sym last.2) in
                 subst (λ (else : Fault). fault_cmp fault else ≢ Greater) same (not_after_itself fault)
 
-        pub is_unbuilt : (fault : Fault) → fault.rule ≡ IsBuilt → fault.place ≡ [] → (answer : VocabFault) → (¬ IsDecided together) → IsToldOrMemory (told_as Msl fault) answer
+        is_unbuilt : (answer : VocabFault) → (¬ IsDecided together) → IsToldOrMemory (told_as Msl (record { rule = IsBuilt; place = [] })) answer
             → ReadsSchema csdl ssdl msl (Err answer)
-        is_unbuilt fault rule root (read.Rule told) formless answered = subst (IsToldRule csdl ssdl msl) (sym answered) (tells_unbuilt fault rule root formless)
-        is_unbuilt fault rule root read.Memory formless answered = cc
+        is_unbuilt (read.Rule told) formless answered =
+            subst (IsToldRule csdl ssdl msl) (sym answered) (tells_unbuilt (record { rule = IsBuilt; place = [] }) refl refl formless)
+        is_unbuilt read.Memory formless answered = cc
 
         -- documents of the form break no rule
-        pub is_meant : IsDecided together → IsReadSchema csdl ssdl msl together
+        is_meant : IsDecided together → IsReadSchema csdl ssdl msl together
         is_meant form = record { means = record { unbroken = unbroken; meaning = together_is }; sound = of_mapping.is_read.sound; form = form }
           where
             unbroken : (file : VocabFile) (fault : Fault) → ¬ Breaks csdl ssdl msl file fault
             unbroken file fault (inl own) = faultless file fault own
             unbroken file fault (inr last) = last.3.formless (subst IsDecided together_is form)
+
+module _ (csdl ssdl msl : List ℕ) where
+  -- what stops the reading of all is told of the whole
+  pub all_stops : (told : VocabFault) (result : Result Schema VocabFault) → IsErrAnd result (λ fault. fault ≡ told) → ReadsAll csdl ssdl msl (Err told)
+      → ReadsSchema csdl ssdl msl result
+  all_stops told (Ok schema) is reads = absurd is
+  all_stops told (Err fault) is reads = let P : VocabFault → Type 0 = λ other. ReadsSchema csdl ssdl msl (Err other) in subst P (sym is) (on_err told reads)
+    where
+      on_err : (told : VocabFault) → ReadsAll csdl ssdl msl (Err told) → ReadsSchema csdl ssdl msl (Err told)
+      on_err (read.Rule rule) reads = reads
+      on_err read.Memory reads = reads
+
+  module _ (schema : Schema) (read_all : AreRead csdl ssdl msl schema) where
+    -- what they mean together is of the form
+    pub all_meant : IsDecided schema → IsReadSchema csdl ssdl msl schema
+    all_meant = is_meant csdl ssdl msl schema.model read_all.of_model schema.store read_all.of_store schema.mapping read_all.of_mapping
+
+    -- or of none
+    pub all_unbuilt : (answer : VocabFault) → (¬ IsDecided schema) → IsToldOrMemory (told_as Msl (record { rule = IsBuilt; place = [] })) answer
+        → ReadsSchema csdl ssdl msl (Err answer)
+    all_unbuilt = is_unbuilt csdl ssdl msl schema.model read_all.of_model schema.store read_all.of_store schema.mapping read_all.of_mapping

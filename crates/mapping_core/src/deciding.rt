@@ -1,7 +1,12 @@
 ghost use Rattle.std.specs.Prelude.{IfOk};
 ghost use Rattle.round_trip.specs.Words.{Schema};
 ghost use Rattle.round_trip.specs.soundness.mappings.Mappings.{IsSoundSchema};
-ghost use Rattle.cells.specs.Cells.{TellsCells};
+ghost use Rattle.cells.specs.Cells.{TellsCells, is_free_in};
+ghost use Rattle.cells.specs.Parts.{AreParts};
+ghost use Rattle.region_states.specs.region_basis.BasisOf.{basis_of};
+ghost use Rattle.region_partition.specs.set_regions.Regions.{AreRegions};
+ghost use Rattle.update_views.specs.Views.{AreViewsOf};
+ghost use Rattle.query_views.specs.Views.{AreQueryViewsOf};
 ghost use Rattle.mapping_core.specs.Accepted.{IsDecided};
 ghost use Rattle.mapping_core.specs.Compiles.{Decides, Judges};
 ghost use Rattle.mapping_core.specs.Rules.{IsRead};
@@ -35,15 +40,27 @@ pub fn decide(alloc: Global, schema: Schema) -> Result<Compiled, Refusal>
     requires { IsRead schema }
     ensures { Decides schema result }
 {
-    let cells = Cells::of(alloc, &schema.model, &schema.store, &schema.mapping)?;
-    match judge(alloc, &schema, &cells)? {
-        Judgement::Keeps(regions, views) => Ok(Compiled::new(schema, cells, regions, views)),
-        Judgement::Limit(fault) => Err(Refusal::Limit(schema, fault)),
-        Judgement::Fails(failure) => Err(Refusal::Fails(schema, failure)),
+    match Cells::of(alloc, &schema.model, &schema.store, &schema.mapping) {
+        Ok(cells) => decide_by(alloc, schema, cells),
+        Err(Memory) => Err(Refusal::Memory),
     }
 }
 
-// The same of a schema with its cells, which are lent.
+// The same by the cells of the schema.
+fn decide_by(alloc: Global, schema: Schema, cells: Cells) -> Result<Compiled, Refusal>
+    requires read { IsRead schema }
+    requires cells { TellsCells schema cells }
+    ensures { Decides schema result }
+{
+    match judge(alloc, &schema, &cells) {
+        Ok(Judgement::Keeps(regions, views)) => Ok(Compiled::new(schema, cells, regions, views)),
+        Ok(Judgement::Limit(fault)) => Err(Refusal::Limit(schema, fault)),
+        Ok(Judgement::Fails(failure)) => Err(Refusal::Fails(schema, failure)),
+        Err(Memory) => Err(Refusal::Memory),
+    }
+}
+
+// What is found of a schema with its cells, which are lent.
 fn judge(alloc: Global, schema: &Schema, cells: &Cells) -> Result<Judgement, Memory>
     requires sound { IsSoundSchema schema.now }
     requires form { IsDecided schema.now }
@@ -63,9 +80,22 @@ fn judge(alloc: Global, schema: &Schema, cells: &Cells) -> Result<Judgement, Mem
     if let Some(failure) = first_failure(alloc, &parts, &regions)? {
         return Ok(Judgement::Fails(failure));
     }
-    let views = MappingViews {
-        update: UpdateViews::of(alloc, &parts, &regions)?,
-        query: QueryViews::of(alloc, &parts, &regions)?,
-    };
+    let views = views_of(alloc, &parts, &regions)?;
     Ok(Judgement::Keeps(regions, views))
+}
+
+// The views of a mapping by its regions.
+fn views_of(
+    alloc: Global,
+    parts: &Parts<'_>,
+    regions: &Seq<Seq<Region>>,
+) -> Result<MappingViews, Memory>
+    requires parts { AreParts parts.now }
+    requires regions { AreRegions (basis_of parts.now) regions.now }
+    ensures update { IfOk result (λ views. AreViewsOf (basis_of parts.now) views.update) }
+    ensures query { IfOk result (λ views. AreQueryViewsOf (basis_of parts.now) (is_free_in parts.now.cells.now) views.query) }
+{
+    let update = UpdateViews::of(alloc, parts, regions)?;
+    let query = QueryViews::of(alloc, parts, regions)?;
+    Ok(MappingViews { update, query })
 }

@@ -9,7 +9,7 @@ ghost use Rattle.round_trip.specs.soundness.Stores.{IsSoundStore};
 ghost use Rattle.ssdl_model.specs.ReadsStore.{IsStoreOf};
 ghost use Rattle.ssdl_model.specs.StoreFaults.{IsStoreFault};
 ghost use Rattle.mapping_core.specs.Accepted.{IsDecided};
-ghost use Rattle.mapping_core.specs.Compiles.{ReadsSchema};
+ghost use Rattle.mapping_core.specs.Compiles.{ReadsAll, ReadsSchema, TellsUnbuilt};
 ghost use Rattle.mapping_core.specs.Reading.{ReadsFile, ReadsTree};
 ghost use Rattle.mapping_core.specs.Rules.{IsToldRule};
 
@@ -33,19 +33,35 @@ pub fn one_rule()
 pub fn read(alloc: Global, csdl: &Bin, ssdl: &Bin, msl: &Bin) -> Result<Schema, VocabFault>
     ensures { ReadsSchema csdl.now ssdl.now msl.now result }
 {
+    let schema = read_schema(alloc, csdl, ssdl, msl)?;
+    if is_decided(&schema) {
+        Ok(schema)
+    } else {
+        Err(unbuilt(alloc))
+    }
+}
+
+// The same without asking whether what they mean is of the form that is decided.
+fn read_schema(alloc: Global, csdl: &Bin, ssdl: &Bin, msl: &Bin) -> Result<Schema, VocabFault>
+    ensures { ReadsAll csdl.now ssdl.now msl.now result }
+{
     let model = read_model(alloc, csdl)?;
     let store = read_store(alloc, ssdl)?;
-    let mapping = read_mapping(alloc, msl, &model, &store)?;
-    let schema = Schema {
-        model,
-        store,
-        mapping,
-    };
-    if !is_decided(&schema) {
-        let fault = Fault::here(alloc, Rule::IsBuilt);
-        return Err(told(alloc, VocabFile::Msl, fault));
+    match read_mapping(alloc, msl, &model, &store) {
+        Ok(mapping) => Ok(Schema {
+            model,
+            store,
+            mapping,
+        }),
+        Err(fault) => Err(fault),
     }
-    Ok(schema)
+}
+
+// That what documents mean isn't of the form that is decided, as it is told.
+fn unbuilt(alloc: Global) -> VocabFault
+    ensures { TellsUnbuilt result }
+{
+    told(alloc, VocabFile::Msl, Fault::here(alloc, Rule::IsBuilt))
 }
 
 // Whether what documents mean is of the form that is decided so far.

@@ -14,6 +14,6 @@ returns c =
     let First : Option LimitFault → Type 0 = λ told. IsFirstLimit c.args.schema.now told in
     let found = c.in_ok-failure.ensures in (
       record { within = subst First c.in_default.is c.in_ok-fault.ensures.first; round_trips = found.round_trips c.in_default-2.is; keeps = found.keeps c.in_default-2.is },
-      made_by _ (c.in_ok-fault.ensures.parts c.in_default.is) c.in_ok-regions.regions c.in_ok-regions.ensures (record { update = c.in_ok-of.field-0; query = c.in_ok-of-2.field-0 })
-          c.in_ok-of.ensures c.in_ok-of-2.ensures,
+      made_by _ (c.in_ok-fault.ensures.parts c.in_default.is) c.in_ok-regions.regions c.in_ok-regions.ensures c.in_ok-views.views
+          c.in_ok-views.ensures.update c.in_ok-views.ensures.query,
     )
