@@ -1,17 +1,18 @@
 -- What documents mean that break no rule is accepted, or isn't, as it was decided.
 use Rattle.std.proofs.Common.{◌≡◌, ℕ, List, Result, Ok, Err, inl, inr, sym, subst}
 use Rattle.emc_base.specs.Lists.{At}
-use Rattle.mapping_core.specs.Words.{IsAccepted, Means, Schema}
+use Rattle.mapping_core.specs.Words.{IsAccepted, IsFailureOf, Means, Schema}
 use Rattle.mapping_core.specs.Compiles.{Decides}
 use Rattle.mapping_core.specs.declared.compiled.Compiled.{Compiled}
 use Rattle.mapping_core.specs.declared.verdict.Refusal.{Refusal}
 use Rattle.mapping_core.specs.declared.verdict.Refusal.TheVariants as refusal
 use Rattle.texts.specs.command_texts.Texts.{IsFailText}
+use Rattle.mapping_run.specs.declared.answers.answer.Answer.{Answer}
 use Rattle.mapping_run.specs.declared.answers.answer.Halt.{Halt}
 use Rattle.mapping_run.specs.declared.answers.answer.Halt.TheVariants.{Tells, Memory}
 use Rattle.mapping_run.specs.declared.answers.status.Status.TheVariants.{MappingRefused}
-use Rattle.mapping_run.specs.answers.Gives.{HasDocuments, SaysSome}
-use Rattle.mapping_run.specs.answers.Answers.{Accepts, AcceptsSchema, TellsRefusal}
+use Rattle.mapping_run.specs.answers.Gives.{HasDocuments, RefusesSchema, SaysSome}
+use Rattle.mapping_run.specs.answers.Answers.{Accepts, AcceptsSchema, IsRefusal, ShowsFailure, TellsRefusal}
 
 module _ (contents : List (List ℕ)) (csdl ssdl msl : List ℕ) (at_csdl : At contents 0 csdl) (at_ssdl : At contents 1 ssdl) (at_msl : At contents 2 msl) where
   -- the documents are these
@@ -25,10 +26,21 @@ module _ (contents : List (List ℕ)) (csdl ssdl msl : List ℕ) (at_csdl : At c
   accepts_meant schema means (Err Memory) given = tt
 
 -- what tells of a refusal tells why what documents mean isn't accepted
-pub refuses_decided : (schema : Schema) (refusal : Refusal) → Decides schema (Err refusal) → (halt : Halt) → TellsRefusal refusal halt → AcceptsSchema schema (Err halt)
-refuses_decided schema (refusal.Limit back fault) (same, first) (Tells answer) told = inl (fault, first, told)
-refuses_decided schema (refusal.Fails back failure) decided (Tells answer) told =
+refuses_answered : (schema : Schema) (refusal : Refusal) → Decides schema (Err refusal) → (answer : Answer) → IsRefusal refusal answer → RefusesSchema schema answer
+refuses_answered schema (refusal.Limit back fault) decided answer told = inl (fault, decided.1, told)
+refuses_answered schema (refusal.Fails back failure) decided answer told =
     let Told : Schema → Type 0 = λ one. SaysSome (IsFailText one.model failure) MappingRefused answer in
     inr (decided.1, (failure, decided.2, subst Told decided.0 told))
-refuses_decided schema refusal.Memory decided (Tells answer) told = absurd told
+refuses_answered schema refusal.Memory decided answer told = absurd told
+
+-- unless memory ran out
+pub refuses_decided : (schema : Schema) (refusal : Refusal) → Decides schema (Err refusal) → (halt : Halt) → TellsRefusal refusal halt → AcceptsSchema schema (Err halt)
+refuses_decided schema refusal decided (Tells answer) told = refuses_answered schema refusal decided answer told
 refuses_decided schema refusal decided Memory told = tt
+
+-- and what refuses it shows a failure of the schema that is given back
+pub shows_decided : (schema : Schema) (refusal : Refusal) → Decides schema (Err refusal) → ShowsFailure refusal
+shows_decided schema (refusal.Limit back fault) decided = tt
+shows_decided schema (refusal.Fails back failure) decided =
+    let Fails : Schema → Type 0 = λ one. IsFailureOf one failure in subst Fails (sym decided.0) decided.2
+shows_decided schema refusal.Memory decided = tt

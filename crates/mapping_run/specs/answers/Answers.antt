@@ -1,6 +1,6 @@
 -- What the steps of answering a command give: whether the mapping is accepted, and why tables are refused.
 use Rattle.std.specs.Prelude.{◌≡◌, ℕ, List, Any, Result, Ok, Err, ⊤}
-use Rattle.mapping_core.specs.Words.{IsAccepted, Means, Schema}
+use Rattle.mapping_core.specs.Words.{IsAccepted, IsFailureOf, Means, Schema}
 use Rattle.mapping_core.specs.declared.loading.LoadFault.{LoadFault}
 use Rattle.mapping_core.specs.declared.loading.LoadFault.TheVariants as load
 use Rattle.mapping_core.specs.declared.verdict.Refusal.{Refusal}
@@ -24,6 +24,12 @@ abbrev pub AcceptsSchema : Schema → Result Compiled Halt → Type 0
 AcceptsSchema schema (Ok compiled) = (compiled ≡ schema) × IsAccepted schema
 AcceptsSchema schema (Err (Tells answer)) = RefusesSchema schema answer
 AcceptsSchema schema (Err Memory) = ⊤
+
+-- a refusal for a legal state that fails gives a state that does, of the schema that was given back
+abbrev pub ShowsFailure : Refusal → Type 0
+ShowsFailure (refusal.Limit back fault) = ⊤
+ShowsFailure (refusal.Fails back failure) = IsFailureOf back failure
+ShowsFailure refusal.Memory = ⊤
 
 -- a refusal is answered so: by the limit that is passed, or by the state that fails, in the names of the schema that was given back
 abbrev pub IsRefusal : Refusal → Answer → Type 0

@@ -1,6 +1,6 @@
 ghost use Rattle.std.specs.Prelude.{◌≤◌, IfOk, length};
 ghost use Rattle.mapping_core.specs.Words.{IsRead};
-ghost use Rattle.mapping_run.specs.answers.Answers.{Accepts, AcceptsSchema, IsRefusal, TellsRefusal};
+ghost use Rattle.mapping_run.specs.answers.Answers.{Accepts, AcceptsSchema, IsRefusal, ShowsFailure, TellsRefusal};
 ghost use Rattle.mapping_run.specs.answers.Gives.{Says};
 ghost use Rattle.mapping_run.specs.declared.answers.status.Status.TheVariants.{MappingRefused};
 
@@ -30,12 +30,17 @@ fn accepted_schema(alloc: Global, schema: Schema) -> Result<Compiled, Halt>
 {
     match decide(alloc, schema) {
         Ok(compiled) => Ok(compiled),
-        Err(refusal) => Err(refusal_told(alloc, &refusal)),
+        Err(refusal) => {
+            let halt = refusal_told(alloc, &refusal);
+            drop(refusal);
+            Err(halt)
+        }
     }
 }
 
 // What is told of a refusal.
 fn refusal_told(alloc: Global, refusal: &Refusal) -> Halt
+    requires { ShowsFailure refusal.now }
     ensures { TellsRefusal refusal.now result }
 {
     match refusal_answer(alloc, refusal) {
@@ -46,6 +51,7 @@ fn refusal_told(alloc: Global, refusal: &Refusal) -> Halt
 
 // The answer that tells of a refusal, unless memory ran out.
 fn refusal_answer(alloc: Global, refusal: &Refusal) -> Result<Answer, Memory>
+    requires { ShowsFailure refusal.now }
     ensures { IfOk result (IsRefusal refusal.now) }
 {
     match refusal {

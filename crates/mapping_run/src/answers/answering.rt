@@ -21,7 +21,11 @@ pub fn answer_on(alloc: Global, command: Command, contents: &Seq<Bin>) -> Result
     ensures { IfOk result (GivesOn command contents.now) }
 {
     match accepted(alloc, contents) {
-        Ok(compiled) => answer_by(alloc, command, &compiled, contents),
+        Ok(compiled) => {
+            let answer = answer_by(alloc, command, &compiled, contents);
+            drop(compiled);
+            answer
+        }
         Err(Halt::Tells(answer)) => Ok(answer),
         Err(Halt::Memory) => Err(Memory),
     }
