@@ -1,4 +1,4 @@
-use Rattle.std.proofs.Common.{List, ℕ, ap, subst, sym, ◌∙◌, arith}
+use Rattle.std.proofs.Common.{arith}
 use Rattle.std.proofs.lemmas.Grind.{common_steps}
 use Rattle.csdl_types.proofs.bounds.prop_breaks_bound.Goals as goal
 
