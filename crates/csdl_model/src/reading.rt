@@ -58,11 +58,19 @@ fn read_lists(alloc: Global, model: &RawModel) -> Result<EntityModel, Stop>
     ensures { Reads (IsListFault model.now) (meaning model.now) result }
 {
     let scope = Scope::of(alloc, model)?;
-    let bases = bases_of(alloc, model, &scope)?;
+    read_by_scope(alloc, model, &scope)
+}
+
+// The same, where it is known what the names stand for.
+fn read_by_scope(alloc: Global, model: &RawModel, scope: &Scope) -> Result<EntityModel, Stop>
+    requires { IsScopeOf model.now scope.now }
+    ensures { Reads (IsListFault model.now) (meaning model.now) result }
+{
+    let bases = bases_of(alloc, model, scope)?;
     let props = props_of(alloc, &model.types)?;
     let lookups = Lookups {
         model,
-        scope: &scope,
+        scope,
         props: &props,
         bases: &bases,
     };

@@ -2,6 +2,7 @@
 
 mod bases;
 mod named;
+mod pairs;
 mod raw;
 mod scope;
 

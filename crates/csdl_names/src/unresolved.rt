@@ -1,4 +1,6 @@
-ghost use Rattle.std.specs.Prelude.{◌≡◌, IfOk};
+ghost use Rattle.std.specs.Prelude.{◌≡◌, IfOk, codes};
+ghost use Rattle.json_form.specs.declared.pointer.Step.TheVariants.{Member};
+ghost use Rattle.layouts.specs.Inside.{Under};
 ghost use Rattle.layouts.specs.Faults.{fault_cmp};
 ghost use Rattle.groupings.specs.least_fault.Least.{IsLeast};
 ghost use Rattle.csdl_names.specs.csdl_lists.References.{names_in};
@@ -12,7 +14,7 @@ use crate::csdl_lists::{
 };
 use crate::lookups::{Lookups, end_of_role};
 use emc_base::{Memory, Seq, Txt};
-use groupings::{Finder, earlier};
+use groupings::{Finder, earlier_of};
 use layouts::{Fault, Rule, behind_member, fault_if, first_at};
 use std::alloc::Global;
 
@@ -44,10 +46,10 @@ impl<'a> Finder<RawSetEnd, Fault> for SetEnds<'a> {
 
     fn find(&self, alloc: Global, _: usize, item: &RawSetEnd) -> Result<Option<Fault>, Memory> {
         let lookups = self.lookups;
-        let role = first_of_role(alloc, lookups, &self.set.association, &item.role, "Role")?;
+        let role = first_of_role(alloc, lookups, &self.set.association, &item.role, "Role");
         let named = lookups.set_named(&item.set);
-        let set = first_of_none(alloc, named, "EntitySet")?;
-        Ok(earlier(role, set))
+        let set = first_of_none(alloc, named, "EntitySet");
+        earlier_of(role, set)
     }
 }
 
@@ -64,13 +66,13 @@ impl<'a> Finder<RawAssociationSet, Fault> for Lookups<'a> {
         item: &RawAssociationSet,
     ) -> Result<Option<Fault>, Memory> {
         let named = self.association_named(&item.association);
-        let association = first_of_none(alloc, named, "Association")?;
+        let association = first_of_none(alloc, named, "Association");
         let search = SetEnds {
             lookups: self,
             set: item,
         };
-        let ends = first_at(alloc, "End", &search, &item.ends)?;
-        Ok(earlier(association, ends))
+        let ends = first_at(alloc, "End", &search, &item.ends);
+        earlier_of(association, ends)
     }
 }
 
@@ -82,10 +84,10 @@ impl<'a> Finder<RawNav, Fault> for Lookups<'a> {
 
     fn find(&self, alloc: Global, _: usize, item: &RawNav) -> Result<Option<Fault>, Memory> {
         let named = self.association_named(&item.relationship);
-        let association = first_of_none(alloc, named, "Relationship")?;
-        let from = first_of_role(alloc, self, &item.relationship, &item.from_role, "FromRole")?;
-        let to = first_of_role(alloc, self, &item.relationship, &item.to_role, "ToRole")?;
-        Ok(earlier(association, earlier(from, to)))
+        let association = first_of_none(alloc, named, "Relationship");
+        let from = first_of_role(alloc, self, &item.relationship, &item.from_role, "FromRole");
+        let to = first_of_role(alloc, self, &item.relationship, &item.to_role, "ToRole");
+        earlier_of(association, earlier_of(from, to))
     }
 }
 
@@ -116,10 +118,10 @@ impl<'a> Finder<RawType, Fault> for Lookups<'a> {
     ghost wrong = { λ s. IsUnresolvedInType (names_in s.model.now) s.model.now };
 
     fn find(&self, alloc: Global, place: usize, item: &RawType) -> Result<Option<Fault>, Memory> {
-        let base = first_of_base(alloc, self, &item.base)?;
-        let key = first_in_key(alloc, self, place, &item.key)?;
-        let navs = first_at(alloc, "NavigationProperty", self, &item.navs)?;
-        Ok(earlier(base, earlier(key, navs)))
+        let base = first_of_base(alloc, self, &item.base);
+        let key = first_in_key(alloc, self, place, &item.key);
+        let navs = first_at(alloc, "NavigationProperty", self, &item.navs);
+        earlier_of(base, earlier_of(key, navs))
     }
 }
 
@@ -148,13 +150,11 @@ impl<'a> Finder<RawAssociation, Fault> for Lookups<'a> {
         _: usize,
         item: &RawAssociation,
     ) -> Result<Option<Fault>, Memory> {
-        let ends = first_at(alloc, "End", self, &item.ends)?;
+        let ends = first_at(alloc, "End", self, &item.ends);
         let Some(constraint) = &item.constraint else {
-            return Ok(ends);
+            return ends;
         };
-        let inside = first_in_constraint(alloc, self, item, constraint)?;
-        let seen = behind_member(alloc, "ReferentialConstraint", inside)?;
-        Ok(earlier(ends, seen))
+        earlier_of(ends, first_in_constraint(alloc, self, item, constraint))
     }
 }
 
@@ -223,51 +223,77 @@ fn first_in_role(
     ensures { IfOk result (IsLeast fault_cmp (IsUnresolvedInRole (names_in lookups.now.model.now) lookups.now.model.now association.now role.now)) }
 {
     let is_lacking = end_of_role(association, &role.role).is_none();
-    let end = fault_if(alloc, is_lacking, Rule::Resolves, "Role")?;
+    let end = fault_if(alloc, is_lacking, Rule::Resolves, "Role");
     let Some(ty) = lookups.type_of_role(association, &role.role) else {
-        return Ok(end);
+        return end;
     };
     let props = first_at(
         alloc,
         "PropertyRef",
         &PropNames { lookups, ty },
         &role.props,
-    )?;
-    Ok(earlier(end, props))
+    );
+    earlier_of(end, props)
 }
 
-// The least of what doesn't resolve in a constraint.
+// The same, seen from the constraint whose member it is.
+fn first_in_role_at(
+    alloc: Global,
+    lookups: &Lookups<'_>,
+    association: &RawAssociation,
+    role: &RawRole,
+    member: &str,
+) -> Result<Option<Fault>, Memory>
+    ensures { IfOk result (IsLeast fault_cmp (Under (Member member.now) (IsUnresolvedInRole (names_in lookups.now.model.now) lookups.now.model.now association.now role.now))) }
+{
+    let found = first_in_role(alloc, lookups, association, role)?;
+    behind_member(alloc, member, found)
+}
+
+// The least of what doesn't resolve in a constraint, seen from the association.
 fn first_in_constraint(
     alloc: Global,
     lookups: &Lookups<'_>,
     association: &RawAssociation,
     constraint: &RawConstraint,
 ) -> Result<Option<Fault>, Memory>
-    ensures { IfOk result (IsLeast fault_cmp (IsUnresolvedInConstraint (names_in lookups.now.model.now) lookups.now.model.now association.now constraint.now)) }
+    ensures { IfOk result (IsLeast fault_cmp (Under (Member (codes "ReferentialConstraint")) (IsUnresolvedInConstraint (names_in lookups.now.model.now) lookups.now.model.now association.now constraint.now))) }
 {
-    let in_principal = first_in_role(alloc, lookups, association, &constraint.principal)?;
-    let in_dependent = first_in_role(alloc, lookups, association, &constraint.dependent)?;
-    let principal = behind_member(alloc, "Principal", in_principal)?;
-    let dependent = behind_member(alloc, "Dependent", in_dependent)?;
-    Ok(earlier(principal, dependent))
+    let principal = first_in_role_at(
+        alloc,
+        lookups,
+        association,
+        &constraint.principal,
+        "Principal",
+    );
+    let dependent = first_in_role_at(
+        alloc,
+        lookups,
+        association,
+        &constraint.dependent,
+        "Dependent",
+    );
+    let found = earlier_of(principal, dependent)?;
+    behind_member(alloc, "ReferentialConstraint", found)
 }
 
-// The least of what doesn't resolve in the container.
+// The least of what doesn't resolve in the container, seen from the model.
 fn first_in_container(
     alloc: Global,
     lookups: &Lookups<'_>,
     container: &RawContainer,
 ) -> Result<Option<Fault>, Memory>
-    ensures { IfOk result (IsLeast fault_cmp (IsUnresolvedInContainer (names_in lookups.now.model.now) lookups.now.model.now container.now)) }
+    ensures { IfOk result (IsLeast fault_cmp (Under (Member (codes "EntityContainer")) (IsUnresolvedInContainer (names_in lookups.now.model.now) lookups.now.model.now container.now))) }
 {
-    let sets = first_at(alloc, "EntitySet", lookups, &container.sets)?;
+    let sets = first_at(alloc, "EntitySet", lookups, &container.sets);
     let associations = first_at(
         alloc,
         "AssociationSet",
         lookups,
         &container.association_sets,
-    )?;
-    Ok(earlier(sets, associations))
+    );
+    let found = earlier_of(sets, associations)?;
+    behind_member(alloc, "EntityContainer", found)
 }
 
 /// The least of the names that resolve to nothing of the sort that is needed. `Memory` comes where memory ran out, and where
@@ -276,9 +302,8 @@ pub fn first_unresolved(alloc: Global, lookups: &Lookups<'_>) -> Result<Option<F
     ensures { IfOk result (λ found. IsLeast fault_cmp (IsUnresolved lookups.now.model.now) found) }
 {
     allow_climbs(lookups)?;
-    let inside = first_in_container(alloc, lookups, &lookups.model.container)?;
-    let container = behind_member(alloc, "EntityContainer", inside)?;
-    let types = first_at(alloc, "EntityType", lookups, &lookups.model.types)?;
-    let associations = first_at(alloc, "Association", lookups, &lookups.model.associations)?;
-    Ok(earlier(container, earlier(types, associations)))
+    let container = first_in_container(alloc, lookups, &lookups.model.container);
+    let types = first_at(alloc, "EntityType", lookups, &lookups.model.types);
+    let associations = first_at(alloc, "Association", lookups, &lookups.model.associations);
+    earlier_of(container, earlier_of(types, associations))
 }

@@ -1,4 +1,4 @@
-ghost use Rattle.std.specs.Prelude.{◌≡◌, ◌↔◌, ◌∷◌, IfOk, IsTrue, option_map, string_bytes};
+ghost use Rattle.std.specs.Prelude.{◌≡◌, ◌↔◌, ◌∷◌, IfOk, IsTrue, Some, option_map, string_bytes};
 ghost use Rattle.serde_json.specs.Find.{as_object};
 ghost use Rattle.serde_json.specs.View.{members_view, view};
 ghost use Rattle.json_form.specs.Nodes.{part_of};
@@ -6,7 +6,7 @@ ghost use Rattle.json_form.specs.TreeParts.{items_in, members_in};
 ghost use Rattle.groupings.specs.least_fault.Least.{Among, IsLeast};
 ghost use Rattle.layouts.specs.Faults.{fault_cmp};
 ghost use Rattle.layouts.specs.Forms.{Fits, IsFaultOf, IsSetFlag};
-ghost use Rattle.layouts.specs.Inside.{IsEntryFault, IsItemFault, IsMemberFault, IsPartFault};
+ghost use Rattle.layouts.specs.Inside.{IsEntryFault, IsItemFault, IsMemberFault, IsPartFault, after};
 
 use crate::fault::Fault;
 use crate::form::{Entry, Form, Leaf, Shape};
@@ -73,7 +73,8 @@ fn first_in_items(alloc: Global, form: Form, node: Node<'_>) -> Result<Option<Fa
 {
     let mut found = None;
     for (i, item) in node.items().iter().enumerate() {
-        found = earlier(found, first_in_item(alloc, form, i, Node::new(item))?);
+        let inside = first_in_item(alloc, form, i, Node::new(item))?;
+        found = earlier(found, inside);
     }
     Ok(found)
 }
@@ -123,10 +124,8 @@ fn first_in_members(
 {
     let mut found = None;
     for (name, value) in members.iter() {
-        found = earlier(
-            found,
-            first_in_member(alloc, shape, name.as_str(), Node::new(value))?,
-        );
+        let inside = first_in_member(alloc, shape, name.as_str(), Node::new(value))?;
+        found = earlier(found, inside);
     }
     Ok(found)
 }
@@ -143,11 +142,17 @@ fn first_in_member(
 {
     match first_in_part(alloc, shape, name, node)? {
         None => Ok(None),
-        Some(fault) => {
-            let seen = fault.after(Step::Member(Txt::of(alloc, name)?))?;
-            Ok(Some(seen))
-        }
+        Some(fault) => after_member(alloc, fault, name),
     }
+}
+
+// The same fault, seen from the object whose member it is in.
+fn after_member(alloc: Global, fault: Fault, name: &str) -> Result<Option<Fault>, Memory>
+    ensures { IfOk result (λ seen. seen ≡ Some (after (Step.Member name.now) fault)) }
+{
+    let step = Step::Member(Txt::of(alloc, name)?);
+    let seen = fault.after(step)?;
+    Ok(Some(seen))
 }
 
 // The same, seen from the member.

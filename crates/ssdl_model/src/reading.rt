@@ -57,11 +57,20 @@ fn read_lists(alloc: Global, store: &RawModel) -> Result<StoreModel, Stop>
     ensures { Reads (IsStoreListFault store.now) (store_meaning store.now) result }
 {
     let scope = Scope::of(alloc, store)?;
-    let bases = bases_of(alloc, store, &scope)?;
+    read_by_scope(alloc, store, &scope)
+}
+
+// The same, where it is known what the names stand for.
+fn read_by_scope(alloc: Global, store: &RawModel, scope: &Scope) -> Result<StoreModel, Stop>
+    requires scope { IsScopeOf store.now scope.now }
+    requires unbased { IsUnbased store.now }
+    ensures { Reads (IsStoreListFault store.now) (store_meaning store.now) result }
+{
+    let bases = bases_of(alloc, store, scope)?;
     let props = props_of(alloc, &store.types)?;
     let lookups = Lookups {
         model: store,
-        scope: &scope,
+        scope,
         props: &props,
         bases: &bases,
     };

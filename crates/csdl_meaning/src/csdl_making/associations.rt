@@ -109,10 +109,13 @@ fn end_of(
 {
     let place = lookups.set_of_role(set, &end.role).unwrap_or(0);
     let ty = lookups.type_named(&end.ty).unwrap_or(0);
+    let set = set_id(place)?;
+    let ty = type_id(ty)?;
+    let role = end.role.copy(alloc)?;
     Ok(End {
-        role: end.role.copy(alloc)?,
-        set: set_id(place)?,
-        ty: type_id(ty)?,
+        role,
+        set,
+        ty,
         mult: mult_of(end.multiplicity.as_str()),
     })
 }

@@ -2,10 +2,10 @@ ghost use Rattle.std.specs.Prelude.{◌≡◌, IfOk};
 ghost use Rattle.json_form.specs.Nodes.{part_of};
 ghost use Rattle.csdl_names.specs.csdl_lists.Raw.{bound_at, key_at};
 
+use crate::csdl_lists::pairs::{text_and_optional_at, two_lists_at, two_texts_at};
 use emc_base::{Memory, Seq, Txt};
 use json_form::{
-    FromNode, Node, flag_at, list_at, object_at, optional_object_at, optional_text_at, text_at,
-    texts_at, whole_at,
+    FromNode, Node, flag_at, list_at, object_at, optional_object_at, text_at, texts_at, whole_at,
 };
 use std::alloc::Global;
 
@@ -24,8 +24,7 @@ impl FromNode for RawSetEnd {
     ghost of = { raw_set_end };
 
     fn read(alloc: Global, node: Node<'_>) -> Result<RawSetEnd, Memory> {
-        let role = text_at(alloc, node, "Role")?;
-        let set = text_at(alloc, node, "EntitySet")?;
+        let (role, set) = two_texts_at(alloc, node, "Role", "EntitySet")?;
         Ok(RawSetEnd { role, set })
     }
 }
@@ -47,8 +46,7 @@ impl FromNode for RawAssociationSet {
     ghost of = { raw_association_set };
 
     fn read(alloc: Global, node: Node<'_>) -> Result<RawAssociationSet, Memory> {
-        let name = text_at(alloc, node, "Name")?;
-        let association = text_at(alloc, node, "Association")?;
+        let (name, association) = two_texts_at(alloc, node, "Name", "Association")?;
         let ends = list_at(alloc, node, "End")?;
         Ok(RawAssociationSet {
             name,
@@ -73,8 +71,7 @@ impl FromNode for RawSet {
     ghost of = { raw_set };
 
     fn read(alloc: Global, node: Node<'_>) -> Result<RawSet, Memory> {
-        let name = text_at(alloc, node, "Name")?;
-        let element = text_at(alloc, node, "EntityType")?;
+        let (name, element) = two_texts_at(alloc, node, "Name", "EntityType")?;
         Ok(RawSet { name, element })
     }
 }
@@ -96,8 +93,7 @@ impl FromNode for RawEnd {
     ghost of = { raw_end };
 
     fn read(alloc: Global, node: Node<'_>) -> Result<RawEnd, Memory> {
-        let role = text_at(alloc, node, "Role")?;
-        let ty = text_at(alloc, node, "Type")?;
+        let (role, ty) = two_texts_at(alloc, node, "Role", "Type")?;
         let multiplicity = text_at(alloc, node, "Multiplicity")?;
         Ok(RawEnd {
             role,
@@ -166,8 +162,7 @@ impl FromNode for RawEnum {
     ghost of = { raw_enum };
 
     fn read(alloc: Global, node: Node<'_>) -> Result<RawEnum, Memory> {
-        let name = text_at(alloc, node, "Name")?;
-        let underlying = optional_text_at(alloc, node, "UnderlyingType")?;
+        let (name, underlying) = text_and_optional_at(alloc, node, "Name", "UnderlyingType")?;
         let members = list_at(alloc, node, "Member")?;
         Ok(RawEnum {
             name,
@@ -196,10 +191,8 @@ impl FromNode for RawNav {
     ghost of = { raw_nav };
 
     fn read(alloc: Global, node: Node<'_>) -> Result<RawNav, Memory> {
-        let name = text_at(alloc, node, "Name")?;
-        let relationship = text_at(alloc, node, "Relationship")?;
-        let from_role = text_at(alloc, node, "FromRole")?;
-        let to_role = text_at(alloc, node, "ToRole")?;
+        let (name, relationship) = two_texts_at(alloc, node, "Name", "Relationship")?;
+        let (from_role, to_role) = two_texts_at(alloc, node, "FromRole", "ToRole")?;
         Ok(RawNav {
             name,
             relationship,
@@ -228,8 +221,7 @@ impl FromNode for RawProp {
     ghost of = { raw_prop };
 
     fn read(alloc: Global, node: Node<'_>) -> Result<RawProp, Memory> {
-        let name = text_at(alloc, node, "Name")?;
-        let kind = text_at(alloc, node, "Type")?;
+        let (name, kind) = two_texts_at(alloc, node, "Name", "Type")?;
         let nullable = flag_at(node, "Nullable", true);
         let bound = bound_at(node);
         Ok(RawProp {
@@ -264,12 +256,10 @@ impl FromNode for RawType {
     ghost of = { raw_type };
 
     fn read(alloc: Global, node: Node<'_>) -> Result<RawType, Memory> {
-        let name = text_at(alloc, node, "Name")?;
-        let base = optional_text_at(alloc, node, "BaseType")?;
+        let (name, base) = text_and_optional_at(alloc, node, "Name", "BaseType")?;
         let is_abstract = flag_at(node, "Abstract", false);
         let key = key_at(alloc, node)?;
-        let props = list_at(alloc, node, "Property")?;
-        let navs = list_at(alloc, node, "NavigationProperty")?;
+        let (props, navs) = two_lists_at(alloc, node, "Property", "NavigationProperty")?;
         Ok(RawType {
             name,
             base,
@@ -351,8 +341,7 @@ impl FromNode for RawContainer {
 
     fn read(alloc: Global, node: Node<'_>) -> Result<RawContainer, Memory> {
         let name = text_at(alloc, node, "Name")?;
-        let sets = list_at(alloc, node, "EntitySet")?;
-        let association_sets = list_at(alloc, node, "AssociationSet")?;
+        let (sets, association_sets) = two_lists_at(alloc, node, "EntitySet", "AssociationSet")?;
         Ok(RawContainer {
             name,
             sets,
@@ -384,11 +373,9 @@ impl FromNode for RawModel {
     ghost of = { raw_model };
 
     fn read(alloc: Global, node: Node<'_>) -> Result<RawModel, Memory> {
-        let namespace = text_at(alloc, node, "Namespace")?;
-        let alias = optional_text_at(alloc, node, "Alias")?;
+        let (namespace, alias) = text_and_optional_at(alloc, node, "Namespace", "Alias")?;
         let container = object_at(alloc, node, "EntityContainer")?;
-        let types = list_at(alloc, node, "EntityType")?;
-        let enums = list_at(alloc, node, "EnumType")?;
+        let (types, enums) = two_lists_at(alloc, node, "EntityType", "EnumType")?;
         let associations = list_at(alloc, node, "Association")?;
         Ok(RawModel {
             namespace,

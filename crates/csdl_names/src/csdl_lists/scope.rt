@@ -1,9 +1,11 @@
 ghost use Rattle.std.specs.Prelude.{◌≡◌, ◌∷◌, ◌++◌, [], IfOk, option_map, string_bytes};
+ghost use Rattle.groupings.specs.name_places.GivenNames.{first_place};
+ghost use Rattle.groupings.specs.name_places.PlacesIn.{place_in};
 ghost use Rattle.csdl_names.specs.csdl_lists.Scopes.{IsScopeOf, local_in, names_of};
 
 use crate::csdl_lists::raw::RawModel;
-use emc_base::{Memory, Txt};
-use groupings::{Places, first_places, rest_after};
+use emc_base::{Memory, Seq, Txt};
+use groupings::{Named, Places, places_of, rest_after};
 use std::alloc::Global;
 
 /// What the names in a model stand for: places in its lists, counted from 0.
@@ -28,13 +30,20 @@ impl Scope {
     pub fn of(alloc: Global, model: &RawModel) -> Result<Scope, Memory>
         ensures { IfOk result (IsScopeOf model.now) }
     {
+        let (namespace, alias) = dotted_names(alloc, &model.namespace, &model.alias)?;
+        let (types, enums) = two_places_of(alloc, &model.types, &model.enums)?;
+        let (associations, sets) = two_places_of(
+            alloc,
+            &model.associations,
+            &model.container.sets,
+        )?;
         Ok(Scope {
-            namespace: dotted(alloc, &model.namespace)?,
-            alias: dotted_alias(alloc, &model.alias)?,
-            types: first_places(alloc, model.types.as_slice())?,
-            enums: first_places(alloc, model.enums.as_slice())?,
-            associations: first_places(alloc, model.associations.as_slice())?,
-            sets: first_places(alloc, model.container.sets.as_slice())?,
+            namespace,
+            alias,
+            types,
+            enums,
+            associations,
+            sets,
         })
     }
 
@@ -75,6 +84,34 @@ impl Scope {
             None => rest_after(self.alias.as_ref()?.as_str(), text),
         }
     }
+}
+
+// The first places of the names in two lists.
+fn two_places_of<T: Named, U: Named>(
+    alloc: Global,
+    ones: &Seq<T>,
+    others: &Seq<U>,
+) -> Result<(Places, Places), Memory>
+    ensures ones { IfOk result (λ places. place_in places.0 ≡ first_place T.name_in ones.now) }
+    ensures others { IfOk result (λ places. place_in places.1 ≡ first_place U.name_in others.now) }
+{
+    let first = places_of(alloc, ones)?;
+    let second = places_of(alloc, others)?;
+    Ok((first, second))
+}
+
+// The Namespace and a dot, and the Alias and a dot.
+fn dotted_names(
+    alloc: Global,
+    namespace: &Txt,
+    alias: &Option<Txt>,
+) -> Result<(String, Option<String>), Memory>
+    ensures namespace { IfOk result (λ names. string_bytes names.0 ≡ namespace.now ++ 46 ∷ []) }
+    ensures alias { IfOk result (λ names. option_map string_bytes names.1 ≡ option_map (λ text. text ++ 46 ∷ []) alias.now) }
+{
+    let first = dotted(alloc, namespace)?;
+    let second = dotted_alias(alloc, alias)?;
+    Ok((first, second))
 }
 
 // A text and a dot.

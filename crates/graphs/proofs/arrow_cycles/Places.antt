@@ -1,7 +1,8 @@
 -- Items at places of a list that is cut, put behind another, or changed at one place.
-use Rattle.std.proofs.Common.{◌≡◌, ◌≢◌, ◌⊎◌, ⊎_elim, inl, inr, ℕ, zero, suc, ◌+◌, ◌<◌, ◌≤◌, List, [], ◌∷◌, ◌++◌, length, get_or, set, take, drop, Contains, Some, refl, ap, subst, ◌∙◌, arith}
-use Rattle.std.proofs.lemmas.Option.{slice_get_read}
+use Rattle.std.proofs.Common.{◌≡◌, ◌≢◌, ◌⊎◌, ⊎_elim, inl, inr, ℕ, zero, suc, ◌+◌, ◌-◌, ◌<◌, ◌≤◌, List, [], ◌∷◌, ◌++◌, length, get_or, set, take, drop, Contains, Some, None, slice_get, length-drop, refl, ap, sym, subst, ◌∙◌, arith}
+use Rattle.std.proofs.lemmas.Option.{slice_get_read, slice_get_within}
 use Rattle.emc_base.specs.Lists.{At}
+use Rattle.emc_base.proofs.Lists.{item_at}
 use Rattle.emc_base.proofs.Mapped.{contains_at}
 
 module _ {X : Type 0} where
@@ -77,3 +78,27 @@ module _ {X : Type 0} where
   -- an item that was read
   pub at_read : (xs : List X) (i : ℕ) (read x : X) → i < length xs → read ≡ get_or xs i read → read ≡ x → At xs i x
   at_read xs i read x inside is same = slice_get_read xs (length xs) i read refl inside is ∙ ap Some same
+
+  -- a list without a last item is empty
+  nothing_last : (xs : List X) → slice_get xs (length xs - 1) ≡ None → length xs ≡ 0
+  nothing_last [] none = refl
+  nothing_last (x ∷ xs) none =
+      let held = item_at (x ∷ xs) (length (x ∷ xs) - 1) (omega arith) in
+      let both : Some held.0 ≡ None = sym held.1 ∙ none in
+      absurd cc
+
+  -- the last item behind the first so many is the last of all
+  pub last_behind : (n : ℕ) (xs : List X) (x : X) → At (drop n xs) (length (drop n xs) - 1) x → At xs (length xs - 1) x × (n < length xs)
+  last_behind n xs x at =
+      let P : ℕ → Type 0 = λ k. At xs k x in
+      let size : length (drop n xs) ≡ length xs - n = length-drop n xs in
+      let inside : length (drop n xs) - 1 < length (drop n xs) = slice_get_within (drop n xs) (length (drop n xs) - 1) x at in
+      let same : n + (length (drop n xs) - 1) ≡ length xs - 1 = omega (arith, size, inside) in
+      (subst P same (at_dropped n xs (length (drop n xs) - 1) x at), omega (arith, size, inside))
+
+  -- where there is no last item behind the first so many, there are no more
+  pub none_behind : (n : ℕ) (xs : List X) → slice_get (drop n xs) (length (drop n xs) - 1) ≡ None → length xs ≤ n
+  none_behind n xs none =
+      let size : length (drop n xs) ≡ length xs - n = length-drop n xs in
+      let empty : length (drop n xs) ≡ 0 = nothing_last (drop n xs) none in
+      omega (arith, size, empty)

@@ -1,5 +1,7 @@
 -- Places each of which is in a class of its own.
-use Rattle.std.proofs.Common.{◌≡◌, ℕ, ◌<◌, [], ◌∷◌, length, refl, sym, subst, arith}
+use Rattle.std.proofs.Common.{◌≡◌, ℕ, ◌+◌, ◌<◌, List, [], ◌∷◌, ◌++◌, inl, inr, length, refl, sym, subst, ap, ◌∙◌, arith}
+use Rattle.std.proofs.lemmas.Bool.{cases_eq}
+use Rattle.std.proofs.lemmas.List.{length-append}
 use Rattle.std.proofs.lemmas.Option.{slice_get_within}
 use Rattle.emc_base.specs.Lists.{At}
 use Rattle.emc_base.proofs.Lists.{at_once, only_member, only_stands}
@@ -7,6 +9,7 @@ use Rattle.groupings.specs.linked_places.Joinings.{IsAlone, IsJoining}
 use Rattle.groupings.specs.linked_places.Links.{IsClasses, IsLink, Linked, same}
 use Rattle.groupings.specs.declared.linked_places.joining.Joining.{Joining}
 use Rattle.groupings.proofs.linked_places.Linking.{same_number}
+use Rattle.groupings.proofs.linked_places.Lists.{at_before_end, at_end}
 
 module _ (count : ℕ) (joining : Joining) (alone : IsAlone count joining) where
   -- at each number stands the one place that has it
@@ -42,3 +45,24 @@ module _ (count : ℕ) (joining : Joining) (alone : IsAlone count joining) where
       λ linked. same_number (IsLink count []) joining.numbers.items (λ a b is. absurd (let none : is.0.0 < 0 = is.0.1 in omega arith)) one other linked,
     );
   }
+
+-- one place more is in a class of its own
+pub alone_more : (place : ℕ) (before after : Joining) → IsAlone place before → after.numbers.items ≡ before.numbers.items ++ place ∷ []
+    → after.members.items ≡ before.members.items ++ (place ∷ []) ∷ [] → IsAlone (place + 1) after
+alone_more place before after alone numbers members =
+    let P : List ℕ → ℕ → ℕ → Type 0 = λ xs p q. At xs p q in
+    let Q : List (List ℕ) → ℕ → ℕ → Type 0 = λ xs p q. At xs p (q ∷ []) in
+    let last_number : At after.numbers.items place place = subst (λ xs. P xs place place) (sym numbers) (at_end before.numbers.items place place (sym alone.size)) in
+    let last_list : At after.members.items place (place ∷ []) = subst (λ xs. Q xs place place) (sym members) (at_end before.members.items place (place ∷ []) (sym alone.lists)) in
+    record {
+      size = ap length numbers ∙ length-append before.numbers.items (place ∷ []) ∙ ap (λ n. n + 1) alone.size;
+      lists = ap length members ∙ length-append before.members.items ((place ∷ []) ∷ []) ∙ ap (λ n. n + 1) alone.lists;
+      own = λ p inside. elim (cases_eq p place) [
+        | inl here ↦ subst (λ q. P after.numbers.items q q) (sym here) last_number
+        | inr other ↦ subst (λ xs. P xs p p) (sym numbers) (at_before_end before.numbers.items p place p (alone.own p (omega (arith, inside, other))))
+      ];
+      alone = λ p inside. elim (cases_eq p place) [
+        | inl here ↦ subst (λ q. Q after.members.items q q) (sym here) last_list
+        | inr other ↦ subst (λ xs. Q xs p p) (sym members) (at_before_end before.members.items p (place ∷ []) (p ∷ []) (alone.alone p (omega (arith, inside, other))))
+      ];
+    }

@@ -1,5 +1,5 @@
 -- A class that is moved to another: two places that had the two numbers have one, and the lists of places still tell each number.
-use Rattle.std.proofs.Common.{◌≡◌, ◌≢◌, inl, inr, ℕ, ◌<◌, List, [], ◌++◌, length, set, Contains, sym, subst, ◌∙◌, arith}
+use Rattle.std.proofs.Common.{◌≡◌, ◌≢◌, inl, inr, ℕ, ◌<◌, List, [], ◌++◌, length, set, Contains, None, Some, refl, slice_get, sym, subst, ◌∙◌, arith}
 use Rattle.std.proofs.lemmas.Bool.{cases_eq}
 use Rattle.std.proofs.lemmas.List.Elements.{Contains-append_cases, Contains-append_left, Contains-append_right}
 use Rattle.std.proofs.lemmas.Option.{slice_get_within}
@@ -20,6 +20,27 @@ joins_back one other before after joins = record {
     | inr (inl way) ↦ inr (inr way)
     | inr (inr way) ↦ inr (inl way)
   ];
+}
+
+-- two places with one number are joined
+pub same_joins : (one other number : ℕ) (numbers : List ℕ) → At numbers one number → At numbers other number → Joins one other numbers numbers
+same_joins one other number numbers at_one at_other = record {
+  size = refl;
+  kept = λ _ _ together. together;
+  joined = λ _ _. (number, at_one, at_other);
+  only = λ _ _ together. inl together;
+}
+
+-- a place that isn't there is joined to no other
+pub outside_joins : (one other : ℕ) (numbers : List ℕ) → slice_get numbers one ≡ None → Joins one other numbers numbers
+outside_joins one other numbers none = record {
+  size = refl;
+  kept = λ _ _ together. together;
+  joined = λ inside _.
+      let held = item_at numbers one inside in
+      let both : Some held.0 ≡ None = sym held.1 ∙ none in
+      absurd cc;
+  only = λ _ _ together. inl together;
 }
 
 module _ (from to : ℕ) (apart : from ≢ to) (before after : List ℕ) (moves : Moves from to before after) where

@@ -28,10 +28,7 @@ pub fn optional_object_at<T: FromNode>(
     ensures { IfOk result (λ read. read ≡ option_map T.of (get name.now (part_of node.entry))) }
 {
     match node.member(name) {
-        Some(member) => {
-            let read = T::read(alloc, member)?;
-            Ok(Some(read))
-        }
+        Some(member) => Ok(Some(T::read(alloc, member)?)),
         None => Ok(None),
     }
 }

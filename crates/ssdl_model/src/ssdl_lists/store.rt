@@ -1,10 +1,10 @@
 ghost use Rattle.std.specs.Prelude.{◌≡◌, IfOk, codes, map};
 ghost use Rattle.json_form.specs.Nodes.{part_of};
-ghost use Rattle.json_form.specs.from_nodes.Reading.{items_at, object_at};
+ghost use Rattle.json_form.specs.from_nodes.Reading.{items_at, object_at, optional_text_at, text_at};
 ghost use Rattle.ssdl_model.specs.ssdl_lists.RawStore.{raw_store, raw_table, raw_tables};
 
 use csdl_names::{RawContainer, RawModel, RawType};
-use emc_base::{Memory, Seq};
+use emc_base::{Memory, Seq, Txt};
 use json_form::{Node, items_at, list_at, optional_text_at, text_at, texts_at};
 use serde_json::Value;
 use std::alloc::Global;
@@ -13,8 +13,7 @@ use std::alloc::Global;
 pub fn read_store(alloc: Global, node: Node<'_>) -> Result<RawModel, Memory>
     ensures { IfOk result (λ store. store ≡ raw_store (part_of node.entry)) }
 {
-    let namespace = text_at(alloc, node, "Namespace")?;
-    let alias = optional_text_at(alloc, node, "Alias")?;
+    let (namespace, alias) = read_names(alloc, node)?;
     let container = read_container(alloc, node)?;
     let types = read_types(alloc, node)?;
     let associations = list_at(alloc, node, "Association")?;
@@ -26,6 +25,15 @@ pub fn read_store(alloc: Global, node: Node<'_>) -> Result<RawModel, Memory>
         enums: Seq::empty(alloc),
         associations,
     })
+}
+
+// The Namespace, and the Alias where there is one.
+fn read_names(alloc: Global, node: Node<'_>) -> Result<(Txt, Option<Txt>), Memory>
+    ensures { IfOk result (λ names. names ≡ (text_at (codes "Namespace") (part_of node.entry), optional_text_at (codes "Alias") (part_of node.entry))) }
+{
+    let namespace = text_at(alloc, node, "Namespace")?;
+    let alias = optional_text_at(alloc, node, "Alias")?;
+    Ok((namespace, alias))
 }
 
 // The EntityContainer, whose association sets are passed over.

@@ -1,4 +1,5 @@
-use Rattle.std.proofs.Common.{◌≡◌, ◌∙◌, ◌+◌, ◌++◌, List, drop, ℤ, ◌+ℤ◌, pos, ap, refl, rules, to_z, of_z}
+use Rattle.std.proofs.Common.{◌≡◌, ◌∙◌, ◌+◌, ◌++◌, List, drop, ℤ, ◌+ℤ◌, pos, ap, refl, rules, to_z, of_z, arith}
+use Rattle.std.proofs.lemmas.Grind.{common_steps}
 use Rattle.std.specs.Int.{w128}
 use Rattle.std.proofs.lemmas.Option.{slice_get_read}
 use Rattle.csdl_types.specs.Numbers.{numbers_from}
@@ -16,3 +17,13 @@ loop-member-preserved c =
           ∙ c.loop-member.invariant.0,
       next_upto _ c.number_at-number.result _ c.loop-member.member-index c.loop-member.invariant.1 c.number_at-number.ensures.upto (after ∙ ap (λ (n : ℤ). n +ℤ pos 1) number),
     )
+
+pub loop-member-init : goal.loop-member-init
+loop-member-init c = (
+  ap (λ (made : List ℤ). made ++ numbers_from (pos 0) c.as_slice-member-items.result.now) c.new-numbers.ensures.items
+      ∙ ap (numbers_from (pos 0)) c.as_slice-member-items.ensures.items,
+  search rules,
+)
+
+pub returns : goal.returns
+returns c = grind (arith, common_steps)

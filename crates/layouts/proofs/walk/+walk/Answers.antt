@@ -40,14 +40,14 @@ pub first_in_members-loop-name-preserved : goal.first_in_members-loop-name-prese
 first_in_members-loop-name-preserved t c =
     let entry : String Global × Value = (c.in-Some.name.now, c.in-Some.value.now) in
     let entries = c.args.members.now.entries in
-    let more = c.in_ok-first_in_member.field-0 in
+    let more = c.in_ok-inside.inside in
     let P : Option Fault → Type 0 = λ found. Passed c.args.shape entries c.next.new.self found in
     let Q : List ℕ × Data → Type 0 = λ member. IsLeast fault_cmp (IsMemberFault c.args.shape member.0 member.1) more in
     let same : (c.as_str.result.now, part_of c.new.result) ≡ (string_bytes entry.0, view entry.1) =
     λ i. (c.as_str.ensures.value i, c.new.ensures i) in
     subst P (sym c.earlier-found.ensures)
     (passed_more c.args.shape entries c.loop-name.name-iterator c.loop-name.found more entry c.next.new.self
-    c.in-Some.ensures.steps (λ i. subst Q same c.in_ok-first_in_member.ensures) c.loop-name.invariant)
+    c.in-Some.ensures.steps (λ i. subst Q same c.in_ok-inside.ensures) c.loop-name.invariant)
 
 pub first_in_members-loop-name-init : goal.first_in_members-loop-name-init
 first_in_members-loop-name-init t c =
@@ -74,14 +74,14 @@ first_in_items-first_in_item-requires t c =
 pub first_in_items-loop-i-preserved : goal.first_in_items-loop-i-preserved
 first_in_items-loop-i-preserved t c =
     let items = c.items-item-items.result.now in
-    let more = c.in_ok-first_in_item.field-0 in
+    let more = c.in_ok-inside.inside in
     let Item : ℕ → Value → Fault → Type 0 = λ i item. IsItemFault c.args.form i (view item) in
     let P : Option Fault → Type 0 = λ found. IsLeast fault_cmp (AmongFirst Item items (c.loop-i.i + 1)) found in
     let Q : Data → Type 0 = λ part. IsLeast fault_cmp (IsItemFault c.args.form c.loop-i.i part) more in
     subst P (sym c.earlier-found.ensures)
     (least_more fault_cmp fault_cmp_total Item items c.loop-i.i c.item-item.result c.loop-i.found more
     (slice_get_read items _ c.loop-i.i _ refl c.loop-i-test.true c.item-item.is)
-    c.loop-i.invariant (subst Q c.new.ensures c.in_ok-first_in_item.ensures))
+    c.loop-i.invariant (subst Q c.new.ensures c.in_ok-inside.ensures))
 
 pub first_in_items-returns : goal.first_in_items-returns
 first_in_items-returns t c =
@@ -152,11 +152,11 @@ first_in_item-returns-in_ok-seen-in-Some t c =
     sym (c.in_ok-seen-in-Some.ensures ∙ (λ i. after (Item (c.in-Ok.ensures.1 i)) c.in-Some.fault)) in
     subst Q placed (least_under (Item c.args.i) IsInside (Some c.in-Some.fault) (subst P c.in-Some.is c.in_ok-first_fault.ensures))
 
-pub first_in_member-returns-in_ok-seen-in-Some : goal.first_in_member-returns-in_ok-seen-in-Some
-first_in_member-returns-in_ok-seen-in-Some t c =
+pub first_in_member-returns-in-Some : goal.first_in_member-returns-in-Some
+first_in_member-returns-in-Some t c =
     let IsPart : Fault → Type 0 = IsPartFault c.args.shape c.args.name.now (part_of c.args.node) in
     let P : Option Fault → Type 0 = λ found. IsLeast fault_cmp IsPart found in
-    let Q : Fault → Type 0 = λ seen. IsLeast fault_cmp (Under (Member c.args.name.now) IsPart) (Some seen) in
-    let named : after (Member c.args.name.now) c.in-Some.fault ≡ c.in_ok-seen-in-Some.seen =
-    sym (c.in_ok-seen-in-Some.ensures ∙ (λ i. after (Member (c.in_ok-of-in-Some.ensures i)) c.in-Some.fault)) in
-    subst Q named (least_under (Member c.args.name.now) IsPart (Some c.in-Some.fault) (subst P c.in-Some.is c.in_ok-first_in_part.ensures))
+    let Q : Option Fault → Type 0 = λ seen. IsLeast fault_cmp (Under (Member c.args.name.now) IsPart) seen in
+    IfOk-weaker c.after_member.result (λ seen. seen ≡ Some (after (Member c.args.name.now) c.in-Some.fault)) Q
+    (λ seen is. subst Q (sym is) (least_under (Member c.args.name.now) IsPart (Some c.in-Some.fault) (subst P c.in-Some.is c.in_ok-first_in_part.ensures)))
+    c.after_member.ensures

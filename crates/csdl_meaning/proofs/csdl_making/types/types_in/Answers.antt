@@ -1,3 +1,5 @@
+use Rattle.std.proofs.Common.{arith}
+use Rattle.std.proofs.lemmas.Grind.{common_steps}
 use Rattle.std.proofs.Common.{List, length, ap, ◌∙◌}
 use Rattle.std.proofs.lemmas.List.FromFn.{length-map-range_with_len}
 use Rattle.round_trip.specs.Words.{PropId}
@@ -13,3 +15,6 @@ pub with_inherited-requires-2-clause-alike : goal.with_inherited-requires-2-clau
 with_inherited-requires-2-clause-alike c =
     let raw = c.args.lookups.now.model.now in
     ap (λ (lists : List (List PropId)). length lists) c.in_ok-own_props.ensures ∙ length-map-range_with_len (own_props raw) 0 (length raw.types)
+
+pub returns : goal.returns
+returns c = grind (arith, common_steps)

@@ -1,4 +1,5 @@
 use Rattle.std.proofs.Common.{◌⊎◌, ◌∷◌, [], codes}
+use Rattle.std.proofs.lemmas.Result.{IfOk-weaker}
 use Rattle.json_form.specs.declared.pointer.Step.TheVariants.{Member}
 use Rattle.layouts.specs.declared.fault.Fault.{Fault}
 use Rattle.layouts.specs.declared.rule.Rule.TheVariants.{Resolves}
@@ -6,7 +7,7 @@ use Rattle.layouts.specs.rule_places.Places.{IsAt}
 use Rattle.csdl_names.specs.csdl_lists.References.{names_in}
 use Rattle.csdl_names.specs.Unresolved.{LacksRole}
 use Rattle.layouts.specs.rule_places.Names.{NamesNothing}
-use Rattle.layouts.proofs.rule_places.Rules.{least_joined}
+use Rattle.layouts.proofs.rule_places.Rules.{least_searches}
 use Rattle.csdl_names.proofs.LeastFound.{names_nothing}
 use Rattle.csdl_names.proofs.unresolved.LookupsFinderRawNavFault.find.Goals as goal
 
@@ -17,7 +18,8 @@ returns c =
     let Association : Fault → Type 0 = NamesNothing ((names_in model).association_named nav.relationship) (codes "Relationship") in
     let From : Fault → Type 0 = λ fault. LacksRole (names_in model) model nav.relationship nav.from_role × IsAt Resolves (Member (codes "FromRole") ∷ []) fault in
     let To : Fault → Type 0 = λ fault. LacksRole (names_in model) model nav.relationship nav.to_role × IsAt Resolves (Member (codes "ToRole") ∷ []) fault in
-    least_joined Association (λ fault. From fault ⊎ To fault) c.in_ok-association.association c.earlier.result c.earlier-2.result c.earlier-2.ensures
-    (names_nothing c.association_named-named.result ((names_in model).association_named nav.relationship) (codes "Relationship") c.in_ok-association.association
-    c.association_named-named.ensures c.in_ok-association.ensures)
-    (least_joined From To c.in_ok-from.from c.in_ok-to.to c.earlier.result c.earlier.ensures c.in_ok-from.ensures c.in_ok-to.ensures)
+    least_searches Association (λ fault. From fault ⊎ To fault) c.first_of_none-association.result c.earlier_of.result c.earlier_of-2.result c.earlier_of-2.ensures
+    (IfOk-weaker c.first_of_none-association.result _ _
+    (λ found. names_nothing c.association_named-named.result ((names_in model).association_named nav.relationship) (codes "Relationship") found c.association_named-named.ensures)
+    c.first_of_none-association.ensures)
+    (least_searches From To c.first_of_role-from.result c.first_of_role-to.result c.earlier_of.result c.earlier_of.ensures c.first_of_role-from.ensures c.first_of_role-to.ensures)

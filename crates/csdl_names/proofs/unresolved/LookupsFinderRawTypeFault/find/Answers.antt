@@ -3,7 +3,7 @@ use Rattle.layouts.specs.declared.fault.Fault.{Fault}
 use Rattle.layouts.specs.rule_places.Places.{InList}
 use Rattle.csdl_names.specs.csdl_lists.References.{names_in}
 use Rattle.csdl_names.specs.Unresolved.{IsUnresolvedBase, IsUnresolvedInKey, IsUnresolvedInNav}
-use Rattle.layouts.proofs.rule_places.Rules.{least_joined}
+use Rattle.layouts.proofs.rule_places.Rules.{least_searches}
 use Rattle.csdl_names.proofs.unresolved.LookupsFinderRawTypeFault.find.Goals as goal
 
 pub returns : goal.returns
@@ -13,5 +13,5 @@ returns c =
     let Base : Fault → Type 0 = IsUnresolvedBase (names_in model) model type.base in
     let Key : Fault → Type 0 = IsUnresolvedInKey (names_in model) model c.args.place type.key in
     let Navs : Fault → Type 0 = InList (codes "NavigationProperty") (IsUnresolvedInNav (names_in model) model) type.navs in
-    least_joined Base (λ fault. Key fault ⊎ Navs fault) c.in_ok-base.base c.earlier.result c.earlier-2.result c.earlier-2.ensures c.in_ok-base.ensures
-    (least_joined Key Navs c.in_ok-key.key c.in_ok-navs.navs c.earlier.result c.earlier.ensures c.in_ok-key.ensures c.in_ok-navs.ensures)
+    least_searches Base (λ fault. Key fault ⊎ Navs fault) c.first_of_base-base.result c.earlier_of.result c.earlier_of-2.result c.earlier_of-2.ensures c.first_of_base-base.ensures
+    (least_searches Key Navs c.first_in_key-key.result c.first_at-navs.result c.earlier_of.result c.earlier_of.ensures c.first_in_key-key.ensures c.first_at-navs.ensures)

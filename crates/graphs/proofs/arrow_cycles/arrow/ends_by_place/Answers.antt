@@ -1,5 +1,5 @@
-use Rattle.std.proofs.Common.{ℕ, List, Option, None, take, length, get_or, sym, subst₂}
-use Rattle.std.proofs.lemmas.List.{take_more}
+use Rattle.std.proofs.Common.{ℕ, List, Option, None, take, length, get_or, sym, subst, subst₂}
+use Rattle.std.proofs.lemmas.List.{take_all, take_more}
 use Rattle.std.proofs.lemmas.Option.{slice_get-get_or}
 use Rattle.graphs.specs.arrow_cycles.Ends.{IsEnds}
 use Rattle.graphs.specs.declared.arrow_cycles.arrow.Arrow.{Arrow}
@@ -23,3 +23,11 @@ loop-arrow-preserved c =
     let P : List (Option Arrow) → List (List ℕ) → Type 0 = λ xs ends. IsEnds c.args.count xs ends in
     subst₂ P (sym (take_more arrows n None c.loop-arrow-test.true)) (sym c.in_ok-add_end.ensures)
     (one_arrow c.args.count (take n arrows) c.loop-arrow.ends.items c.loop-arrow.invariant one begins)
+
+pub loop-arrow-init : goal.loop-arrow-init
+loop-arrow-init c = c.in_ok-ends.ensures
+
+pub returns : goal.returns
+returns c =
+    let P : List (Option Arrow) → Type 0 = λ xs. IsEnds c.args.count xs c.loop-arrow.ends.items in
+    subst P (take_all c.loop-arrow.arrow-index c.args.arrows.now c.loop-arrow-test.false) c.loop-arrow.invariant

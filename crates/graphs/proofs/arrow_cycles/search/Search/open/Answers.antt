@@ -39,3 +39,16 @@ returns-clause-seen c at =
     let old = c.args.self.now in
     let now = at_set old.marks.items c.args.place (OnPath c.len-3.result) (slice_get_within old.marks.items c.args.place New c.requires.next.unseen) in
     cc
+
+pub index_mut-requires : goal.index_mut-requires
+index_mut-requires c =
+    let old = c.args.self.now in
+    let seen : c.args.place < length old.marks.items = slice_get_within old.marks.items c.args.place New c.requires.next.unseen in
+    omega (arith, seen)
+
+pub bounds-ends-place : goal.bounds-ends-place
+bounds-ends-place c =
+    let old = c.args.self.now in
+    let seen : c.args.place < length old.marks.items = slice_get_within old.marks.items c.args.place New c.requires.next.unseen in
+    let alike : length old.marks.items ≡ length c.args.ends.now = c.requires.search.0 in
+    omega (arith, seen, alike)

@@ -1,5 +1,5 @@
-use Rattle.std.proofs.Common.{List, take, get_or, sym, subst}
-use Rattle.std.proofs.lemmas.List.{take_more}
+use Rattle.std.proofs.Common.{List, ℕ, take, get_or, sym, subst, subst₂}
+use Rattle.std.proofs.lemmas.List.{take_all, take_more}
 use Rattle.groupings.specs.linked_places.Links.{IsClasses}
 use Rattle.groupings.specs.declared.linked_places.classes.Link.{Link}
 use Rattle.groupings.proofs.linked_places.Alone.{alone_classes, alone_joining}
@@ -22,3 +22,8 @@ loop-link-preserved c =
       subst P (sym (take_more links n nil c.loop-link-test.true))
           (one_link c.args.count (take n links) new before after c.loop-link.invariant.1 c.in_ok-join.ensures.joins),
     )
+
+pub returns : goal.returns
+returns c =
+    let P : List Link → List ℕ → Type 0 = λ xs numbers. IsClasses c.args.count xs (record { numbers = numbers }) in
+    subst₂ P (take_all c.loop-link.link-index c.args.links.now c.loop-link-test.false) (sym c.in_ok-from_vec.ensures) c.loop-link.invariant.1
