@@ -5,4 +5,4 @@ pub mod LookUps
 pub mod NearPlaces
 pub mod Rests
 pub mod Places
-pub mod Both
+pub mod OfBoth

@@ -1,4 +1,4 @@
-ghost use Rattle.std.specs.Prelude.{◌≡◌, IfOk, Ok};
+ghost use Rattle.std.specs.Prelude.{◌≡◌, IfOk};
 ghost use Rattle.groupings.specs.name_places.GivenNames.{first_place};
 ghost use Rattle.groupings.specs.name_places.PlacesIn.{place_in};
 ghost use Rattle.schema_names.specs.Columns.{AreColumnsOf};
@@ -6,6 +6,7 @@ ghost use Rattle.schema_names.specs.Columns.{AreColumnsOf};
 use crate::columns::{TableColumns, columns_of};
 use crate::lent_names::places_by;
 use crate::own_props::{OwnProps, own_props_of};
+use crate::pairs::both;
 use edm_types::{EntityModel, StoreModel};
 use emc_base::{Memory, Seq};
 use groupings::Places;
@@ -85,11 +86,4 @@ fn table_places(alloc: Global, store: &StoreModel) -> Result<(Places, Seq<TableC
 {
     let tables = places_by(alloc, store.tables.as_slice(), |table| &table.name)?;
     both(tables, columns_of(alloc, store.tables.as_slice()))
-}
-
-// Both of two things, where there is the second.
-fn both<A: Drop, B>(first: A, second: Result<B, Memory>) -> Result<(A, B), Memory>
-    ensures { IfOk result (λ pair. (pair.0 ≡ first) × (second ≡ Ok pair.1)) }
-{
-    Ok((first, second?))
 }
