@@ -1,4 +1,4 @@
-ghost use Rattle.std.specs.Prelude.{◌≡◌, IfOk};
+ghost use Rattle.std.specs.Prelude.{◌≡◌, IfOk, Ok};
 ghost use Rattle.std.specs.Option.{option_copied};
 ghost use Rattle.round_trip.specs.soundness.mappings.Joined.{prop, col};
 ghost use Rattle.round_trip.specs.Between.{schema_of};
@@ -34,9 +34,10 @@ impl MemberGroups {
     ) -> Result<MemberGroups, Memory>
         ensures { IfOk result (TellsMemberGroups (schema_of model.now store.now mapping.now)) }
     {
-        let numbered = Numbered::of(alloc, model, store, mapping.fragments.as_slice())?;
         let asks = asks_of(alloc, mapping)?;
-        told_by(alloc, model, mapping, numbered, &asks)
+        let numbered = Numbered::of(alloc, model, store, mapping.fragments.as_slice())?;
+        let told = told_by(alloc, model, mapping, &numbered, &asks);
+        put_together(numbered, told)
     }
 
     /// The group of a property. `None` exactly where there is no such property.
@@ -68,18 +69,29 @@ impl MemberGroups {
     }
 }
 
-// The groups of these numbers, with what is tested of them and their constants.
+// What is tested of the groups of these numbers, and their constants.
 fn told_by(
     alloc: Global,
     model: &EntityModel,
     mapping: &Mapping,
-    numbered: Numbered,
+    numbered: &Numbered,
     asks: &[Ask],
-) -> Result<MemberGroups, Memory>
-    ensures { IfOk result (AreOfNumbered model.now mapping.now numbered asks.now) }
+) -> Result<(BTreeSet<u32>, Seq<Seq<Value>>), Memory>
+    ensures { IfOk result (λ told. AreOfNumbered model.now mapping.now numbered.now asks.now (record { numbers = numbered.now.numbers; tested = told.0; constants = told.1 })) }
 {
-    let tested = tested_groups(alloc, model, mapping, &numbered, asks)?;
-    let constants = constants_of(alloc, model, &numbered, asks, &tested)?;
+    let tested = tested_groups(alloc, model, mapping, numbered, asks)?;
+    let constants = constants_of(alloc, model, numbered, asks, &tested)?;
+    Ok((tested, constants))
+}
+
+// The groups of these numbers, of which this is told.
+fn put_together(
+    numbered: Numbered,
+    told: Result<(BTreeSet<u32>, Seq<Seq<Value>>), Memory>,
+) -> Result<MemberGroups, Memory>
+    ensures { IfOk result (λ groups. (groups.numbers ≡ numbered.numbers) × (told ≡ Ok (groups.tested, groups.constants))) }
+{
+    let (tested, constants) = told?;
     Ok(MemberGroups {
         numbers: numbered.numbers,
         tested,

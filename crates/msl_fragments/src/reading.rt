@@ -81,7 +81,9 @@ fn read_lists(
     ensures few { IfOk result (λ _. HasFewItems raw.now) }
 {
     let names = SchemaNames::of(alloc, model, store)?;
-    read_counted(alloc, &names, raw)
+    let read = read_counted(alloc, &names, raw);
+    drop(names);
+    read
 }
 
 // On how many properties would be looked for, and then the others.
@@ -152,19 +154,35 @@ fn read_writing(alloc: Global, names: &SchemaNames<'_>, raw: &RawMapping) -> Res
     ensures { Reads (BreaksMappingRules names.now.model.now names.now.store.now raw.now) (mapping_in names.now.model.now names.now.store.now raw.now) result }
 {
     let mapping = make_mapping(alloc, names, raw)?;
-    let barred = Barred::of(alloc, names.model, names.store, &mapping)?;
-    let between = Between {
-        names,
-        mapping: &mapping,
-        barred: &barred,
-    };
-    match first_writing_fault(alloc, &between, raw)? {
+    match first_in_writing(alloc, names, &mapping, raw)? {
         Some(fault) => Err(Stop::Fault(fault)),
         None => Ok(mapping),
     }
 }
 
 // The least of what is wrong with what is written, by the mapping that is meant.
+fn first_in_writing(
+    alloc: Global,
+    names: &SchemaNames<'_>,
+    mapping: &Mapping,
+    raw: &RawMapping,
+) -> Result<Option<Fault>, Memory>
+    requires sound { IsSoundModel names.now.model.now }
+    requires meant { mapping.now ≡ mapping_in names.now.model.now names.now.store.now raw.now }
+    ensures { IfOk result (λ found. IsLeast fault_cmp (BreaksMappingRules names.now.model.now names.now.store.now raw.now) found) }
+{
+    let barred = Barred::of(alloc, names.model, names.store, mapping)?;
+    let between = Between {
+        names,
+        mapping,
+        barred: &barred,
+    };
+    let found = first_writing_fault(alloc, &between, raw);
+    drop(barred);
+    found
+}
+
+// The same, by what is barred too.
 fn first_writing_fault(
     alloc: Global,
     between: &Between<'_>,

@@ -1,9 +1,12 @@
 -- The properties that types declare, known by their names one after another.
-use Rattle.std.proofs.Common.{◌≡◌, ℕ, zero, suc, ◌+◌, ◌<◌, ◌≤◌, ◌==◌, ◌&&◌, List, [], ◌∷◌, ◌++◌, append-nil, length, map, filter, take, find, slice_get, Bool, true, false, cond, Option, Some, None, refl, sym, ap, subst, ◌∙◌, arith}
+use Rattle.std.proofs.Common.{string_bytes, ◌≡◌, ℕ, zero, suc, ◌+◌, ◌<◌, ◌≤◌, ◌==◌, ◌&&◌, List, [], ◌∷◌, ◌++◌, append-nil, length, map, filter, take, find, slice_get, Bool, true, false, cond, Option, Some, None, refl, sym, ap, subst, ◌∙◌, arith}
+use Rattle.std.specs.Cmp.Lexicographic.{slice_cmp}
 use Rattle.std.specs.List.{enumerate_from}
 use Rattle.std.specs.Option.{option_and_then, option_map_or, option_or}
+use Rattle.std.specs.Map.{lookup}
+use Rattle.std.specs.Ordering.{is_eq, nat_cmp}
 use Rattle.std.specs.Str.{bytes_eq}
-use Rattle.std.proofs.lemmas.List.{map-append, take_all}
+use Rattle.std.proofs.lemmas.List.{length_push, map-append, take_all}
 use Rattle.std.proofs.lemmas.List.Elements.{filter_more}
 use Rattle.std.proofs.lemmas.List.Folds.{find-append}
 use Rattle.std.proofs.lemmas.Option.{get_or_from_slice_get, slice_get_past, slice_get_within}
@@ -15,6 +18,16 @@ use Rattle.round_trip.specs.soundness.models.Inheritance.{prop_numbered}
 use Rattle.schema_names.specs.declared.own_props.OwnProps.{OwnProps}
 use Rattle.schema_names.specs.OwnProps.{AddsProp, AreOwnProps, HaveNoProps, prop_at, prop_in}
 use Rattle.schema_names.specs.SchemaNames.{has_name}
+
+-- one more type without a property
+pub none_more : (n : ℕ) (own : List OwnProps) (one : OwnProps) → HaveNoProps n own → one.by_name.entries ≡ [] → HaveNoProps (n + 1) (own ++ one ∷ [])
+none_more n own one nothing empty = record { count = length_push own one ∙ ap (λ k. k + 1) nothing.count; none = λ t name. upto own t name (λ k. nothing.none k name) }
+  where
+    upto : (some : List OwnProps) (t : ℕ) (name : List ℕ) → ((k : ℕ) → prop_at some k name ≡ None) → prop_at (some ++ one ∷ []) t name ≡ None
+    upto [] zero name all = ap (lookup (λ k. is_eq (slice_cmp nat_cmp name (string_bytes k)))) empty
+    upto [] (suc t) name all = refl
+    upto (other ∷ some) zero name all = all zero
+    upto (other ∷ some) (suc t) name all = upto some t name (λ k. all (suc k))
 
 -- where nothing stands at a place, the list ends before
 past_end : {X : Type 0} (xs : List X) (i : ℕ) → slice_get xs i ≡ None → length xs ≤ i

@@ -5,3 +5,4 @@ pub mod LookUps
 pub mod NearPlaces
 pub mod Rests
 pub mod Places
+pub mod OfBoth

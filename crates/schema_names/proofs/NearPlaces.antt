@@ -1,13 +1,12 @@
 -- What stands where it is looked for first: where names are apart, it is the first of its name.
-use Rattle.std.proofs.Common.{◌≡◌, ◌≢◌, ◌↔◌, ℕ, zero, suc, ◌<◌, List, [], ◌∷◌, map, find, get_or, length, slice_get, AllPairs, IsSomeAnd, IsTrue, MatchOption, Bool, true, false, cond, Option, Some, None, refl, sym, ap, subst, ◌∙◌, arith}
-use Rattle.std.specs.Bool.{⊤}
+use Rattle.std.proofs.Common.{◌≡◌, ℕ, zero, suc, ◌<◌, List, [], ◌∷◌, map, find, get_or, slice_get, AllPairs, IsTrue, Bool, true, false, cond, Option, Some, None, refl, sym, ap, subst, ◌∙◌, arith}
 use Rattle.std.specs.List.{AllZip}
 use Rattle.std.specs.Option.{option_and_then, option_map_or}
 use Rattle.std.specs.Str.{bytes_eq}
 use Rattle.std.proofs.lemmas.Bool.{false_from_ne_true}
 use Rattle.std.proofs.lemmas.Option.{get_or_from_slice_get, slice_get_within}
 use Rattle.std.proofs.lemmas.Slice.Eq.{bytes_eq-Decides}
-use Rattle.emc_base.specs.Lists.{At, AreApart}
+use Rattle.emc_base.specs.Lists.{At}
 use Rattle.emc_base.proofs.facts.Zipped.{zip_at}
 use Rattle.groupings.specs.name_places.GivenNames.{first_place}
 use Rattle.groupings.specs.name_places.PlacesIn.{place_in}

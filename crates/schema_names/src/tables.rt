@@ -1,8 +1,12 @@
-ghost use Rattle.std.specs.Prelude.{IfOk};
+ghost use Rattle.std.specs.Prelude.{◌≡◌, IfOk};
+ghost use Rattle.groupings.specs.name_places.GivenNames.{first_place};
+ghost use Rattle.groupings.specs.name_places.PlacesIn.{place_in};
+ghost use Rattle.schema_names.specs.Columns.{AreColumnsOf};
 
 use crate::columns::{TableColumns, columns_of};
 use crate::lent_names::places_by;
 use crate::own_props::{OwnProps, own_props_of};
+use crate::pairs::both;
 use edm_types::{EntityModel, StoreModel};
 use emc_base::{Memory, Seq};
 use groupings::Places;
@@ -34,15 +38,52 @@ impl NameTables {
     pub fn of(alloc: Global, model: &EntityModel, store: &StoreModel) -> Result<NameTables, Memory>
         ensures { IfOk result (AreTablesOf model.now store.now) }
     {
-        let assocs = model.assocs.as_slice();
+        let in_model = both(
+            entity_places(alloc, model)?,
+            association_places(alloc, model),
+        )?;
+        let names = both(in_model, table_places(alloc, store))?;
+        let (names, own_props) = both(names, own_props_of(alloc, model))?;
+        let (((types, sets), (association_sets, associations)), (tables, columns)) = names;
         Ok(NameTables {
-            types: places_by(alloc, model.types.as_slice(), |ty| &ty.name)?,
-            sets: places_by(alloc, model.sets.as_slice(), |set| &set.name)?,
-            association_sets: places_by(alloc, assocs, |assoc| &assoc.set_name)?,
-            associations: places_by(alloc, assocs, |assoc| &assoc.assoc_name)?,
-            tables: places_by(alloc, store.tables.as_slice(), |table| &table.name)?,
-            columns: columns_of(alloc, store.tables.as_slice())?,
-            own_props: own_props_of(alloc, model)?,
+            types,
+            sets,
+            association_sets,
+            associations,
+            tables,
+            columns,
+            own_props,
         })
     }
+}
+
+// Where the names of entity types are given first, and those of entity sets.
+fn entity_places(alloc: Global, model: &EntityModel) -> Result<(Places, Places), Memory>
+    ensures types { IfOk result (λ places. place_in places.0 ≡ first_place (λ type. type.name) model.now.types) }
+    ensures sets { IfOk result (λ places. place_in places.1 ≡ first_place (λ set. set.name) model.now.sets) }
+{
+    let types = places_by(alloc, model.types.as_slice(), |ty| &ty.name)?;
+    both(
+        types,
+        places_by(alloc, model.sets.as_slice(), |set| &set.name),
+    )
+}
+
+// Where the names of association sets are given first, and those of their associations.
+fn association_places(alloc: Global, model: &EntityModel) -> Result<(Places, Places), Memory>
+    ensures sets { IfOk result (λ places. place_in places.0 ≡ first_place (λ assoc. assoc.set_name) model.now.assocs) }
+    ensures associations { IfOk result (λ places. place_in places.1 ≡ first_place (λ assoc. assoc.assoc_name) model.now.assocs) }
+{
+    let assocs = model.assocs.as_slice();
+    let sets = places_by(alloc, assocs, |assoc| &assoc.set_name)?;
+    both(sets, places_by(alloc, assocs, |assoc| &assoc.assoc_name))
+}
+
+// Where the names of tables are given first, and those of the columns of each.
+fn table_places(alloc: Global, store: &StoreModel) -> Result<(Places, Seq<TableColumns>), Memory>
+    ensures tables { IfOk result (λ places. place_in places.0 ≡ first_place (λ table. table.name) store.now.tables) }
+    ensures columns { IfOk result (λ places. AreColumnsOf store.now.tables places.1) }
+{
+    let tables = places_by(alloc, store.tables.as_slice(), |table| &table.name)?;
+    both(tables, columns_of(alloc, store.tables.as_slice()))
 }

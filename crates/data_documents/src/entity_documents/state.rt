@@ -29,12 +29,24 @@ pub fn state_of_doc(
 ) -> Result<EntityState, ShapeFault>
     ensures { ReadsState model.now (tree_of doc.now) result }
 {
-    let root = doc.root();
     let names = ModelNames::of(alloc, model)?;
-    if let Some(place) = first_fault(alloc, &names, root)? {
+    let state = state_of_root(alloc, &names, doc.root());
+    drop(names);
+    state
+}
+
+// The state of a document, by its root and the names of the model.
+fn state_of_root(
+    alloc: Global,
+    names: &ModelNames<'_>,
+    root: Node<'_>,
+) -> Result<EntityState, ShapeFault>
+    ensures { ReadsState names.now.model.now (part_of root.entry) result }
+{
+    if let Some(place) = first_fault(alloc, names, root)? {
         return Err(ShapeFault::Shape(place.pointer(alloc)?));
     }
-    let state = state_in(alloc, &names, root)?;
+    let state = state_in(alloc, names, root)?;
     Ok(state)
 }
 

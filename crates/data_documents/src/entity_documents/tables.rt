@@ -1,12 +1,13 @@
 ghost use Rattle.std.specs.Prelude.{◌≡◌, IfOk, map};
 ghost use Rattle.groupings.specs.name_places.GivenNames.{first_place};
 ghost use Rattle.groupings.specs.name_places.PlacesIn.{place_in};
+ghost use Rattle.entity_state.specs.StateTree.{name_of};
 ghost use Rattle.data_documents.specs.entity_documents.Tables.{name_or};
 
 use edm_types::EntityModel;
 use emc_base::{Memory, PropId, Seq, Txt};
 use groupings::Places;
-use schema_names::places_by;
+use schema_names::{both, places_by};
 use std::alloc::Global;
 
 /// Where the names in an entity model are given first.
@@ -29,14 +30,44 @@ impl NameTables {
     pub fn of(alloc: Global, model: &EntityModel) -> Result<NameTables, Memory>
         ensures { IfOk result (AreTablesOf model.now) }
     {
-        let unnamed = Txt::of(alloc, "")?;
+        let sets = set_places(alloc, model)?;
+        let (sets, types) = both(sets, type_places(alloc, model))?;
+        let (sets, association_sets) = sets;
+        let (types, props) = types;
         Ok(NameTables {
-            types: places_by(alloc, model.types.as_slice(), |ty| &ty.name)?,
-            sets: places_by(alloc, model.sets.as_slice(), |set| &set.name)?,
-            association_sets: places_by(alloc, model.assocs.as_slice(), |assoc| &assoc.set_name)?,
-            props: props_of(alloc, model, &unnamed)?,
+            types,
+            sets,
+            association_sets,
+            props,
         })
     }
+}
+
+// Where the names of entity sets are given first, and those of association sets.
+fn set_places(alloc: Global, model: &EntityModel) -> Result<(Places, Places), Memory>
+    ensures sets { IfOk result (λ places. place_in places.0 ≡ first_place (λ set. set.name) model.now.sets) }
+    ensures association_sets { IfOk result (λ places. place_in places.1 ≡ first_place (λ assoc. assoc.set_name) model.now.assocs) }
+{
+    let sets = places_by(alloc, model.sets.as_slice(), |set| &set.name)?;
+    let assocs = model.assocs.as_slice();
+    both(sets, places_by(alloc, assocs, |assoc| &assoc.set_name))
+}
+
+// Where the names of entity types are given first, and those of the properties of each.
+fn type_places(alloc: Global, model: &EntityModel) -> Result<(Places, Seq<Places>), Memory>
+    ensures types { IfOk result (λ places. place_in places.0 ≡ first_place (λ type. type.name) model.now.types) }
+    ensures props { IfOk result (λ places. map place_in places.1 ≡ map (λ type. first_place (name_of model.now) type.props) model.now.types) }
+{
+    let types = places_by(alloc, model.types.as_slice(), |ty| &ty.name)?;
+    both(types, props_in(alloc, model))
+}
+
+// Where the properties of each type are, by their names in the model.
+fn props_in(alloc: Global, model: &EntityModel) -> Result<Seq<Places>, Memory>
+    ensures { IfOk result (λ props. map place_in props ≡ map (λ type. first_place (name_of model.now) type.props) model.now.types) }
+{
+    let unnamed = Txt::of(alloc, "")?;
+    props_of(alloc, model, &unnamed)
 }
 
 // Where the properties of each type are.

@@ -1,6 +1,8 @@
-ghost use Rattle.std.specs.Prelude.{IfOk};
+ghost use Rattle.std.specs.Prelude.{◌⊎◌, [], IfOk, codes};
 ghost use Rattle.groupings.specs.least_fault.Least.{IsLeast};
 ghost use Rattle.layouts.specs.Faults.{fault_cmp};
+ghost use Rattle.layouts.specs.rule_places.Names.{IsRepeatedIn};
+ghost use Rattle.layouts.specs.rule_places.Places.{InList};
 ghost use Rattle.msl_rules.specs.NameRules.{IsMappedTwice};
 
 use emc_base::Memory;
@@ -35,18 +37,32 @@ impl Finder<RawLinkMapping, Fault> for Roles {
 pub fn first_mapped_twice(alloc: Global, raw: &RawMapping) -> Result<Option<Fault>, Memory>
     ensures { IfOk result (λ found. IsLeast fault_cmp (IsMappedTwice raw.now) found) }
 {
-    let set_places = places_of(alloc, &raw.sets)?;
-    let sets = first_twice(alloc, "EntitySetMapping", "Name", &raw.sets, &set_places)?;
-    let link_places = places_of(alloc, &raw.links)?;
-    let links = first_twice(
-        alloc,
-        "AssociationSetMapping",
-        "Name",
-        &raw.links,
-        &link_places,
-    )?;
+    let sets = first_set_twice(alloc, raw)?;
+    let links = first_in_links(alloc, raw)?;
+    behind_member(alloc, "EntityContainerMapping", earlier(sets, links))
+}
+
+// The first of the entity sets that are mapped twice.
+fn first_set_twice(alloc: Global, raw: &RawMapping) -> Result<Option<Fault>, Memory>
+    ensures { IfOk result (λ found. IsLeast fault_cmp (IsRepeatedIn (λ set. set.name) [] (codes "EntitySetMapping") (codes "Name") raw.now.sets) found) }
+{
+    let places = places_of(alloc, &raw.sets)?;
+    first_twice(alloc, "EntitySetMapping", "Name", &raw.sets, &places)
+}
+
+// The least of the association sets that are mapped twice, and of the roles that are named twice in one mapping.
+fn first_in_links(alloc: Global, raw: &RawMapping) -> Result<Option<Fault>, Memory>
+    ensures { IfOk result (λ found. IsLeast fault_cmp (λ fault. IsRepeatedIn (λ link. link.name) [] (codes "AssociationSetMapping") (codes "Name") raw.now.links fault ⊎ InList (codes "AssociationSetMapping") (λ _ link. IsRepeatedIn (λ end. end.role) [] (codes "EndProperty") (codes "Name") link.ends) raw.now.links fault) found) }
+{
+    let links = first_link_twice(alloc, raw)?;
     let roles = first_at(alloc, "AssociationSetMapping", &Roles {}, &raw.links)?;
-    let inside = earlier(sets, earlier(links, roles));
-    let found = behind_member(alloc, "EntityContainerMapping", inside)?;
-    Ok(found)
+    Ok(earlier(links, roles))
+}
+
+// The first of the association sets that are mapped twice.
+fn first_link_twice(alloc: Global, raw: &RawMapping) -> Result<Option<Fault>, Memory>
+    ensures { IfOk result (λ found. IsLeast fault_cmp (IsRepeatedIn (λ link. link.name) [] (codes "AssociationSetMapping") (codes "Name") raw.now.links) found) }
+{
+    let places = places_of(alloc, &raw.links)?;
+    first_twice(alloc, "AssociationSetMapping", "Name", &raw.links, &places)
 }

@@ -9,13 +9,12 @@ use Rattle.emc_base.proofs.Lists.{item_at}
 use Rattle.emc_base.proofs.Mapped.{contains_at, contains_map}
 use Rattle.emc_base.proofs.Numbered.{map_contains}
 use Rattle.emc_base.proofs.FoundItems.{member_of}
-use Rattle.round_trip.specs.Words.{AssocId, ColId, End, EntityModel, Fragment, IsWritten, Pair, PropId, Schema, SetId, Table, TableId, key_columns, key_props}
+use Rattle.round_trip.specs.Words.{AssocId, ColId, End, Fragment, IsWritten, Pair, PropId, Schema, SetId, Table, TableId, key_columns, key_props}
 use Rattle.round_trip.specs.FailsAt.{IsHostedAt}
 use Rattle.round_trip.specs.soundness.models.Constraints.{IsSoundAssoc, IsSoundEnd}
 use Rattle.round_trip.specs.soundness.mappings.Fragments.{WritesEndKey}
 use Rattle.round_trip.specs.soundness.Lookups.{set_key}
 use Rattle.round_trip.specs.soundness.mappings.Mappings.{IsSoundFragment, IsSoundSchema}
-use Rattle.round_trip.specs.soundness.models.Models.{IsSoundModel}
 use Rattle.round_trip.specs.soundness.mappings.Owners as sound
 use Rattle.round_trip.proofs.Lookups.{end_set_key}
 use Rattle.table_owners.specs.declared.sources.Source.{Source}

@@ -1,4 +1,5 @@
-use Rattle.std.proofs.Common.{◌∙◌, ◌<◌, ap, length, subst, sym}
+use Rattle.std.proofs.Common.{arith, ◌∙◌, ◌<◌, ap, length, subst, sym}
+use Rattle.std.proofs.lemmas.Grind.{common_steps}
 use Rattle.std.specs.Borrow.{Bor}
 use Rattle.std.proofs.lemmas.List.{get_or-map, length-map}
 use Rattle.round_trip.specs.Words.{Entity, IsEntity}
@@ -13,3 +14,9 @@ entity_tree-requires c =
     subst (IsEntity c.args.model.now)
     (get_or-map (λ (entity : Bor Entity). entity.now) c.args.entities.now i item item.now c.loop-entity-test.true ∙ ap (λ (entity : Bor Entity). entity.now) (sym c.entity-item.is))
     (c.requires i item.now within)
+
+pub loop-entity-preserved : goal.loop-entity-preserved
+loop-entity-preserved c = grind (arith, common_steps)
+
+pub returns : goal.returns
+returns c = grind (arith, common_steps)

@@ -1,4 +1,5 @@
-use Rattle.std.proofs.Common.{◌∙◌, sym, ap, map, ⊎_elim}
+use Rattle.std.proofs.Common.{arith, ◌∙◌, sym, ap, map, ⊎_elim}
+use Rattle.std.proofs.lemmas.Grind.{common_steps}
 use Rattle.serde_json.specs.View.{members_view}
 use Rattle.json_form.specs.Trees.{put_all}
 use Rattle.entity_state.specs.StateTree.{named_value}
@@ -13,3 +14,6 @@ returns c =
     (λ second. zip-no_second rest.a.rest.now rest.b.rest.now second.1.0)
     c.in-None.ensures.steps))
     ∙ c.loop-prop.invariant
+
+pub loop-prop-preserved : goal.loop-prop-preserved
+loop-prop-preserved c = grind (arith, common_steps)

@@ -1,4 +1,4 @@
-use Rattle.std.proofs.Common.{◌≡◌, List, ◌++◌, ◌∷◌, [], refl, sym, subst, take, ◌+◌}
+use Rattle.std.proofs.Common.{List, ◌++◌, ◌∷◌, [], refl, sym, subst, take, ◌+◌}
 use Rattle.std.proofs.lemmas.List.{take_all}
 use Rattle.std.proofs.lemmas.Option.{slice_get_read}
 use Rattle.emc_base.proofs.Loops.{take_item}

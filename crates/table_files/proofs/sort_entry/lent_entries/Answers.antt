@@ -1,4 +1,5 @@
-use Rattle.std.proofs.Common.{◌≡◌, All, ◌++◌, ◌+◌, List, [], ◌∷◌, map, take, ap, subst, sym, ◌∙◌}
+use Rattle.std.proofs.Common.{arith, ◌≡◌, All, ◌++◌, ◌+◌, List, [], ◌∷◌, map, take, ap, subst, sym, ◌∙◌}
+use Rattle.std.proofs.lemmas.Grind.{common_steps}
 use Rattle.std.proofs.lemmas.List.{map_push, take_more}
 use Rattle.std.proofs.lemmas.List.Elements.{All-push}
 use Rattle.round_trip.specs.Words.{Row}
@@ -20,3 +21,9 @@ loop-row-preserved c =
           ∙ ap (λ (row : Row). take n rows ++ row ∷ []) (c.entry_of.ensures.same ∙ c.row-item.is) ∙ sym (take_more rows n c.row-item.result c.loop-row-test.true)),
       subst (All Hold) (sym c.in_ok-push.ensures.items) (All-push Hold entries entry c.loop-row.invariant.1 c.entry_of.ensures.firsts),
     )
+
+pub returns-clause-same : goal.returns-clause-same
+returns-clause-same c = grind (arith, common_steps)
+
+pub returns-clause-firsts : goal.returns-clause-firsts
+returns-clause-firsts c = grind (arith, common_steps)

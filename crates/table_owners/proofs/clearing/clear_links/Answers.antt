@@ -1,6 +1,7 @@
 use Rattle.std.proofs.Common.{◌⊎◌, List, refl, subst}
+use Rattle.std.proofs.lemmas.List.{take_all}
 use Rattle.std.proofs.lemmas.Option.{slice_get_read}
-use Rattle.round_trip.specs.Words.{ColId, Cond, Pair, TableId}
+use Rattle.round_trip.specs.Words.{ColId, Cond, LinkFragment, Pair, TableId}
 use Rattle.table_owners.specs.Clearing.{Clears, Each, IsCondOn, IsNamedByLinks, IsPairOn}
 use Rattle.table_owners.proofs.columns.Cleared.{clears_both, clears_next}
 use Rattle.table_owners.proofs.clearing.clear_links.Goals as goal
@@ -25,3 +26,8 @@ loop-fragment-preserved c =
     (clears_both on_second on_conds one other after
     (subst Second c.as_slice-in-loop-fragment.ensures.items c.clear_pairs-in-loop-fragment.ensures)
     (subst Conds c.as_slice-in-loop-fragment-2.ensures.items c.clear_conds.ensures)))
+
+pub returns : goal.returns
+returns c =
+    let Passed : List LinkFragment → Type 0 = λ some. Clears (Each IsNamedByLinks some) c.args.free.now.items c.loop-fragment.free.items in
+    subst Passed (take_all c.loop-fragment.fragment-index c.args.fragments.now c.loop-fragment-test.false) c.loop-fragment.invariant

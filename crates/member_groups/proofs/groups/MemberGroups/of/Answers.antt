@@ -1,11 +1,13 @@
-use Rattle.std.proofs.Common.{List, refl, sym, subst}
+use Rattle.std.proofs.Common.{◌≡◌, ℕ, List, Result, Ok, BTreeSet, IfOk, refl, sym, subst}
 use Rattle.std.proofs.lemmas.Result.{IfOk-weaker}
+use Rattle.emc_base.specs.declared.memory.Memory.{Memory}
 use Rattle.round_trip.specs.Between.{schema_of}
-use Rattle.round_trip.specs.Words.{Fragment}
+use Rattle.round_trip.specs.Words.{Fragment, Value}
 use Rattle.member_groups.specs.MemberGroups.{TellsMemberGroups}
 use Rattle.member_groups.specs.OfNumbered.{AreOfNumbered, TellsNumbered}
 use Rattle.member_groups.specs.declared.mapping_asks.asks.Ask.{Ask}
 use Rattle.member_groups.specs.declared.group_numbers.numbers.Numbers.{Numbers}
+use Rattle.member_groups.specs.declared.groups.MemberGroups.{MemberGroups}
 use Rattle.member_groups.proofs.Telling.{tells_groups}
 use Rattle.member_groups.proofs.groups.MemberGroups.of.Goals as goal
 
@@ -17,13 +19,18 @@ returns c =
     let schema = schema_of model store mapping in
     let numbered = c.in_ok-numbered.numbered in
     let asks = c.in_ok-asks.asks.items in
-    let Told : List Fragment → Type 0 = λ fragments. TellsNumbered model store fragments numbered in
-    let are = subst Told c.as_slice.ensures.items c.in_ok-numbered.ensures in
-    IfOk-weaker c.told_by.result (AreOfNumbered model mapping numbered c.deref.result.now) (TellsMemberGroups schema)
-    (λ groups told.
-    let Of : Numbers → Type 0 = λ numbers. TellsMemberGroups schema (record { numbers = numbers; tested = groups.tested; constants = groups.constants }) in
-    let Tested : List Ask → Type 0 = λ list. AreOfNumbered model mapping numbered list groups in
-    let of_asks = subst Tested c.deref.ensures.value told in
-    subst Of (sym told.numbers)
+    let As : List Fragment → Type 0 = λ fragments. TellsNumbered model store fragments numbered in
+    let are = subst As c.as_slice.ensures.items c.in_ok-numbered.ensures in
+    let Parts : Type 0 = BTreeSet ℕ × List (List Value) in
+    let Told : List Ask → Parts → Type 0 = λ list told. AreOfNumbered model mapping numbered list (record { numbers = numbered.numbers; tested = told.0; constants = told.1 }) in
+    let Tells : Result Parts Memory → Type 0 = λ told. IfOk told (Told c.deref.result.now) in
+    let Of : MemberGroups → Type 0 = λ groups. (groups.numbers ≡ numbered.numbers) × (c.told_by-told.result ≡ Ok (groups.tested, groups.constants)) in
+    IfOk-weaker c.put_together.result Of (TellsMemberGroups schema)
+    (λ groups is.
+    let parts : Parts = (groups.tested, groups.constants) in
+    let Numbered : Numbers → Type 0 = λ numbers. TellsMemberGroups schema (record { numbers = numbers; tested = groups.tested; constants = groups.constants }) in
+    let Asked : List Ask → Type 0 = λ list. Told list parts in
+    let of_asks = subst Asked c.deref.ensures.value (subst Tells is.1 c.told_by-told.ensures) in
+    subst Numbered (sym is.0)
     (tells_groups schema numbered (are.groups mapping refl) are.numbers asks c.in_ok-asks.ensures groups.tested of_asks.tested groups.constants of_asks.constants))
-    c.told_by.ensures
+    c.put_together.ensures

@@ -1,10 +1,9 @@
-use Rattle.std.proofs.Common.{◌≡◌, List, [], ap, map, subst, ◌∙◌}
+use Rattle.std.proofs.Common.{◌≡◌, List, [], IfOk, map, subst}
 use Rattle.emc_base.proofs.Numbered.{all_pairs_map}
 use Rattle.groupings.specs.least_fault.Least.{IsLeast}
 use Rattle.round_trip.specs.Words.{ColId, Row, Value, place_at, row_key}
 use Rattle.entity_state.specs.breach_order.Founds.{found_cmp}
 use Rattle.entity_state.specs.breach_order.Repeats.{IsFoundRepeat}
-use Rattle.entity_state.proofs.breach_order.Finds.{told_repeat}
 use Rattle.entity_state.proofs.breach_order.FirstFound.{no_repeat_found}
 use Rattle.table_files.specs.InOrder.{AreToldApartBy}
 use Rattle.std.specs.Prelude.{None}
@@ -23,7 +22,5 @@ returns-then-branch c =
 pub returns : goal.returns
 returns c =
     let table = c.args.table.now in
-    told_repeat 3 c.args.t (λ (key : List Value). place_at table.name key []) c.as_slice-list.result.now _
-    (c.as_slice-list.ensures.value ∙ c.in_ok-keys.ensures ∙ ap (map (row_key table)) c.rows_at-rows.ensures)
-    c.in_ok-i.field-0 c.in-Some.i c.index-list-i.result c.in_ok-found.found _ _ c.in_ok-i.ensures c.in-Some.is c.index-list-i.is
-    c.in_ok-found.ensures c.number.ensures (λ k. record { name = c.in_ok-copy.ensures k; key = c.in_ok-copy-2.ensures k; part = c.in_ok-of.ensures k })
+    let Least : List Row → Type 0 = λ rows. IfOk c.first_again.result (IsLeast found_cmp (IsFoundRepeat 3 c.args.t (λ (key : List Value). place_at table.name key []) (map (row_key table) rows))) in
+    subst Least c.rows_at-rows.ensures c.first_again.ensures
