@@ -46,24 +46,24 @@ module _ (basis : Basis) where
     -- a limit on the model is told first; and each other one where none before it is passed
     pub model_first : slice_get model 0 ≡ Some (fault_of found) → slice_get (limits_passed basis) 0 ≡ Some (fault_of found)
     model_first is = ap (λ list. slice_get list 0) in_turn ∙ (let y = fault_of found in
-      first_before (model ++ store ++ mapping ++ constants) regions y (first_before (model ++ store ++ mapping) constants y
-      (first_before (model ++ store) mapping y (first_before model store y is))))
+        first_before (model ++ store ++ mapping ++ constants) regions y (first_before (model ++ store ++ mapping) constants y
+        (first_before (model ++ store) mapping y (first_before model store y is))))
 
     pub store_first : model ≡ [] → slice_get store 0 ≡ Some (fault_of found) → slice_get (limits_passed basis) 0 ≡ Some (fault_of found)
     store_first no_model is = ap (λ list. slice_get list 0) in_turn ∙ (let y = fault_of found in
-      first_before (model ++ store ++ mapping ++ constants) regions y (first_before (model ++ store ++ mapping) constants y
-      (first_before (model ++ store) mapping y (first_behind model store y no_model is))))
+        first_before (model ++ store ++ mapping ++ constants) regions y (first_before (model ++ store ++ mapping) constants y
+        (first_before (model ++ store) mapping y (first_behind model store y no_model is))))
 
     pub mapping_first : model ≡ [] → store ≡ [] → slice_get mapping 0 ≡ Some (fault_of found) → slice_get (limits_passed basis) 0 ≡ Some (fault_of found)
     mapping_first no_model no_store is = ap (λ list. slice_get list 0) in_turn ∙ (let y = fault_of found in
-      first_before (model ++ store ++ mapping ++ constants) regions y (first_before (model ++ store ++ mapping) constants y
-      (first_behind (model ++ store) mapping y (none_both model store no_model no_store) is)))
+        first_before (model ++ store ++ mapping ++ constants) regions y (first_before (model ++ store ++ mapping) constants y
+        (first_behind (model ++ store) mapping y (none_both model store no_model no_store) is)))
 
     pub constants_first : model ≡ [] → store ≡ [] → mapping ≡ [] → slice_get constants 0 ≡ Some (fault_of found)
         → slice_get (limits_passed basis) 0 ≡ Some (fault_of found)
     constants_first no_model no_store no_mapping is = ap (λ list. slice_get list 0) in_turn ∙ (let y = fault_of found in
-      first_before (model ++ store ++ mapping ++ constants) regions y
-      (first_behind (model ++ store ++ mapping) constants y (none_both (model ++ store) mapping (none_both model store no_model no_store) no_mapping) is))
+        first_before (model ++ store ++ mapping ++ constants) regions y
+        (first_behind (model ++ store ++ mapping) constants y (none_both (model ++ store) mapping (none_both model store no_model no_store) no_mapping) is))
 
   -- where no other limit is passed, what is told of regions is told of all
   pub regions_last : (result : Result ⊤ Passed) → model ≡ [] → store ≡ [] → mapping ≡ [] → constants ≡ [] → TellsFirst regions result → TellsFirst (limits_passed basis) result
