@@ -1,4 +1,7 @@
 ghost use Rattle.std.specs.Prelude.{◌≡◌, IfOk, IfSome, string_bytes};
+ghost use Rattle.serde_json.specs.Data.{Data};
+ghost use Rattle.json_form.specs.Documents.{printed};
+ghost use Rattle.entity_state.specs.Tells.{IsTreeInKeyOrder};
 ghost use Rattle.round_trip.specs.Words.{IsState};
 ghost use Rattle.witness_state.specs.Failures.{IsFailureOf};
 ghost use Rattle.texts.specs.command_texts.Texts.{IsFailText, IsOtherLine, IsStateLine, accepted_text, failing_text, file_text, file_word, kind_word, limit_text, limit_word, rule_text, usage_text};
@@ -104,6 +107,15 @@ fn kind_word(kind: FailKind) -> &'static str
     }
 }
 
+// The printed document of a state.
+fn state_bytes(alloc: Global, model: &EntityModel, state: &EntityState) -> Result<Bin, Memory>
+    requires { IsState model.now state.now }
+    ensures { IfOk result (λ text. (tree : Data) × IsTreeInKeyOrder model.now state.now tree × (text ≡ printed tree)) }
+{
+    let document = state.to_doc(alloc, model)?;
+    document.bytes(alloc)
+}
+
 // A word, and the printed document of a state.
 fn state_line(
     alloc: Global,
@@ -114,7 +126,7 @@ fn state_line(
     requires { IsState model.now state.now }
     ensures { IfOk result (IsStateLine word.now model.now state.now) }
 {
-    let document = state.to_doc(alloc, model)?.bytes(alloc)?;
+    let document = state_bytes(alloc, model, state)?;
     let mut text = format!(in alloc; "{word} ")?.into_bytes();
     text.extend_from_slice(document.as_slice())?;
     Ok(Bin::from_vec(text))
