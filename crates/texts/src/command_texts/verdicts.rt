@@ -1,4 +1,4 @@
-ghost use Rattle.std.specs.Prelude.{◌≡◌, IfOk, IfSome, string_bytes};
+ghost use Rattle.std.specs.Prelude.{◌≡◌, ◌++◌, IfOk, IfSome, string_bytes};
 ghost use Rattle.serde_json.specs.Data.{Data};
 ghost use Rattle.json_form.specs.Documents.{printed};
 ghost use Rattle.entity_state.specs.Tells.{IsTreeInKeyOrder};
@@ -165,8 +165,17 @@ pub fn fail_text(alloc: Global, schema: &Schema, failure: &Failure) -> Result<Bi
     let model = &schema.model;
     let state = state_line(alloc, "state", model, &failure.state)?;
     let other = other_line(alloc, model, &failure.other)?;
-    let mut text = failing_text(alloc, failure)?.into_bytes();
-    text.extend_from_slice(state.as_slice())?;
-    text.extend_from_slice(other.as_slice())?;
-    Ok(Bin::from_vec(text))
+    let text = failing_text(alloc, failure)?;
+    let whole = with_lines(text, &state, &other)?;
+    Ok(whole)
+}
+
+// A text with two lines behind it.
+fn with_lines(text: String, state: &Bin, other: &Bin) -> Result<Bin, Memory>
+    ensures { IfOk result (λ whole. whole ≡ (string_bytes text ++ state.now) ++ other.now) }
+{
+    let mut bytes = text.into_bytes();
+    bytes.extend_from_slice(state.as_slice())?;
+    bytes.extend_from_slice(other.as_slice())?;
+    Ok(Bin::from_vec(bytes))
 }
