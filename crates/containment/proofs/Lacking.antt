@@ -1,7 +1,7 @@
 -- Nulls of a region by the rows of its pattern, by the columns of a row, and by the symbols of a cell.
-use Rattle.std.proofs.Common.{◌≡◌, ◌≢◌, ◌&&◌, List, [], ◌∷◌, slice_get, All, Contains, find, None, Option, Some, Bool, not, false, true≢false, IsTrue, refl, sym, ap, subst, ◌∙◌}
+use Rattle.std.proofs.Common.{◌≡◌, ◌≢◌, ◌&&◌, ◌+◌, ◌<◌, ℕ, ⊎_elim, List, [], ◌∷◌, slice_get, All, Contains, find, None, Option, Some, Bool, not, true, false, true≢false, IsTrue, refl, sym, ap, subst, ◌∙◌, arith}
 use Rattle.std.specs.Option.{option_map_or}
-use Rattle.std.proofs.lemmas.Bool.{and_from, and_parts, false_from_ne_true}
+use Rattle.std.proofs.lemmas.Bool.{and_from, and_parts, cases_eq, false_from_ne_true}
 use Rattle.std.proofs.lemmas.List.Elements.{All-contains}
 use Rattle.std.proofs.lemmas.Option.{none-some}
 use Rattle.round_trip.specs.Words.{At, ColId, Column, StoreModel, Table, TableId}
@@ -40,6 +40,28 @@ module _ (basis : Basis) (region : Region) where
   none_stands (first ∷ others) some none one = false_from_ne_true (stands (first ∷ others) one) (λ told.
       let parts = and_parts (lists (first ∷ others) one) (is_nullable one) told in
       none_passes is_nullable (first ∷ others) one none ((Decides-lists (first ∷ others) one).0 parts.0) parts.1)
+
+  -- a symbol that stands for null in a column that isn't nullable
+  pub lack_there : (row : PatternRow) (col : ColId) (one : Symbol) (table : Table) (column : Column) → slice_get basis.schema.store.tables row.table.index ≡ Some table
+      → slice_get table.cols col.index ≡ Some column → column.nullable ≡ false → IsTrue (stands (cell_in row col) one) → IsTrue (lacks basis region row col one)
+  lack_there row col one table column is_table is_column plain told =
+      let required : is_required basis.schema.store row.table col ≡ true =
+      ap (λ (found : Option Table). option_map_or (λ held. option_map_or (λ entry. not entry.nullable) (slice_get held.cols col.index) false) found false) is_table
+      ∙ ap (λ (found : Option Column). option_map_or (λ entry. not entry.nullable) found false) is_column ∙ ap not plain in
+      and_from (is_required basis.schema.store row.table col) (stands (cell_in row col) one) required told
+
+  -- with one more column, in which no symbol stands for null
+  pub none_further : (row : PatternRow) (i : ℕ) → ((col : ColId) (one : Symbol) → col.index < i → lacks basis region row col one ≡ false)
+      → ((one : Symbol) → stands (cell_in row (record { index = i })) one ≡ false) → (col : ColId) (one : Symbol) → col.index < i + 1 → lacks basis region row col one ≡ false
+  none_further row i so_far none col one below = ⊎_elim
+      (λ (last : col.index ≡ i).
+      let same : col ≡ record { index = i } = λ k. record { index = last k } in
+      false_from_ne_true (lacks basis region row col one) (λ told.
+      let stood = (and_parts (is_required basis.schema.store row.table col) (stands (cell_in row col) one) told).1 in
+      let never : stands (cell_in row col) one ≡ false = subst (λ (at : ColId). stands (cell_in row at) one ≡ false) (sym same) (none one) in
+      true≢false (sym stood ∙ never)))
+      (λ (before : col.index ≢ i). so_far col one (omega (arith, below, before)))
+      (cases_eq col.index i)
 
   abbrev rows : List PatternRow
   rows = (pattern_of basis (focus.Entity region)).rows

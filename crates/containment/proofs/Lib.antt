@@ -1,3 +1,4 @@
+pub mod Turns
 pub mod Listed
 pub mod Clashing
 pub mod Lacking

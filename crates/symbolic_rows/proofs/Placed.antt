@@ -1,12 +1,16 @@
 -- Lists of which something is so at each place, changed at one place, and lists that hold the same at each place.
-use Rattle.std.proofs.Common.{◌≡◌, ◌≢◌, ◌⊎◌, ◌↔◌, ⊎_elim, inl, inr, true, false, true≢false, ℕ, suc, ◌<◌, ◌≤◌, List, [], ◌∷◌, length, map, set, slice_get, None, length-set, refl, sym, ap, subst, ◌∙◌, zero-add, arith}
+use Rattle.std.proofs.Common.{◌≡◌, ◌≢◌, ◌⊎◌, ◌↔◌, ⊎_elim, inl, inr, true, false, true≢false, ℕ, suc, ◌+◌, ◌<◌, ◌≤◌, List, [], ◌∷◌, ◌++◌, length, map, set, slice_get, None, length-set, refl, sym, ap, subst, ◌∙◌, zero-add, arith}
+use Rattle.std.specs.Global.{Vec}
 use Rattle.std.specs.List.{enumerate_from}
 use Rattle.std.proofs.lemmas.Bool.{cases_eq, cases_lt}
+use Rattle.std.proofs.lemmas.List.{length_push}
 use Rattle.std.proofs.lemmas.List.FromFn.{get_or-enumerate_from, length-enumerate_from}
 use Rattle.std.proofs.lemmas.Option.{get_or_from_slice_get, none-some, slice_get_past, slice_get_within}
 use Rattle.emc_base.specs.Lists.{At}
 use Rattle.emc_base.proofs.Lists.{at_once}
+use Rattle.emc_base.proofs.Members.{at_push_cases}
 use Rattle.member_groups.specs.group_numbers.Numbers.{HoldsEach}
+use Rattle.symbolic_rows.specs.Grouped.{AreEmpty}
 use Rattle.groupings.proofs.linked_places.Lists.{at_before_set, at_set}
 
 module _ {X : Type 0} (P Q : ℕ → X → Type 0) (k : ℕ) (others : (i : ℕ) (y : X) → i ≢ k → P i y → Q i y) (n : ℕ) (xs : List X) (holds : HoldsEach P n xs) where
@@ -54,3 +58,25 @@ same_images f g (x ∷ xs) (y ∷ ys) size each =
     let longer : suc (length xs) ≡ suc (length ys) = size in
     let tail : map f xs ≡ map g ys = same_images f g xs ys (omega (arith, longer)) (λ i a b at_a at_b. each (suc i) a b at_a at_b) in
     λ k. head k ∷ tail k
+
+-- lists that are all empty: none yet, one more, and so many after the last turn
+module _ {X : Type 0} where
+  pub none_empty : (lists : List (Vec X)) → lists ≡ [] → AreEmpty 0 lists
+  none_empty lists none = let Empty : List (Vec X) → Type 0 = AreEmpty 0 in subst Empty (sym none) (record { size = refl; each = λ i one at. absurd cc })
+
+  pub one_more_empty : (n : ℕ) (lists after : List (Vec X)) (one : Vec X) → AreEmpty n lists → after ≡ lists ++ one ∷ [] → one.items ≡ [] → AreEmpty (n + 1) after
+  one_more_empty n lists after one so_far is bare =
+      let longer : AreEmpty (n + 1) (lists ++ one ∷ []) = record {
+        size = length_push lists one ∙ ap (λ m. m + 1) so_far.size;
+        each = λ i list at. elim (at_push_cases lists one i list at) [
+          | inl old ↦ so_far.each i list old
+          | inr last ↦ ap (λ (same : Vec X). same.items) last.1 ∙ bare
+        ];
+      } in
+      let Empty : List (Vec X) → Type 0 = AreEmpty (n + 1) in subst Empty (sym is) longer
+
+  pub all_empty : (n count : ℕ) (lists : List (Vec X)) → n ≤ count → count ≤ n → AreEmpty n lists → AreEmpty count lists
+  all_empty n count lists within past so_far =
+      let same : n ≡ count = omega (arith, within, past) in
+      let Empty : ℕ → Type 0 = λ m. AreEmpty m lists in
+      subst Empty same so_far

@@ -1,4 +1,4 @@
-ghost use Rattle.std.specs.Prelude.{◌≡◌, ◌<◌, All, IfOk, List, flat_map, length, map};
+ghost use Rattle.std.specs.Prelude.{◌≡◌, ◌<◌, [], All, IfOk, List, flat_map, length, map};
 ghost use Rattle.std.specs.List.{enumerate_from};
 ghost use Rattle.emc_base.specs.declared.ids.SetId.{SetId};
 ghost use Rattle.round_trip.specs.Words.{Hosted, IsLegal, TablesAre, Value, key_of};
@@ -38,8 +38,26 @@ impl UpdateViews {
         ensures tables { IfOk result (TablesAre (schema_in parts.now) state.now) }
     {
         let hosts = HostLinks::of(alloc, parts.model, parts.cells, state)?;
+        self.tables_by(alloc, parts, &hosts, state)
+    }
+
+    // The rows of all entities and of all links, in their tables.
+    fn tables_by(
+        &self,
+        alloc: Global,
+        parts: &Parts<'_>,
+        hosts: &HostLinks,
+        state: &EntityState,
+    ) -> Result<Tables, Memory>
+        requires parts { AreParts parts.now }
+        requires views { AreViewsOf (basis_of parts.now) self.now }
+        ensures { IfOk result (λ tables. tables ≡ with_rows
+            (with_rows (map (λ _. []) parts.now.store.now.tables)
+            (flat_map (rows_of_set parts.now.model.now (local_rows self.now) (joined_row self.now) (links_in hosts.now)) (enumerate_from 0 state.now.entities)))
+            (flat_map (rows_of_links parts.now.model.now (local_rows self.now) (joined_row self.now) (links_in hosts.now)) (enumerate_from 0 state.now.links))) }
+    {
         let mut tables = Tables::empty(alloc, parts.store)?;
-        self.add_sets(alloc, parts, &hosts, state.entity_lists(), &mut tables)?;
+        self.add_sets(alloc, parts, hosts, state.entity_lists(), &mut tables)?;
         self.add_links(alloc, parts, state.link_lists(), &mut tables)?;
         Ok(tables)
     }

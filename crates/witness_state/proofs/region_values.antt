@@ -1,3 +1,4 @@
+pub mod Made
 pub mod Dropped
 pub mod Passed
 pub mod Groups

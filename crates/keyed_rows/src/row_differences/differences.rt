@@ -1,6 +1,7 @@
-ghost use Rattle.std.specs.Prelude.{◌≡◌, ◌<◌, All, IfOk, length, map};
+ghost use Rattle.std.specs.Prelude.{◌≡◌, ◌<◌, [], All, IfOk, length, map};
 ghost use Rattle.std.specs.Option.{option_copied};
 ghost use Rattle.edm_types.specs.Rows.{AreTables};
+ghost use Rattle.round_trip.specs.Words.{place_at};
 ghost use Rattle.cells.specs.Cells.{is_free_in};
 ghost use Rattle.table_files.specs.InOrder.{AreToldApartBy, lent_rows};
 ghost use Rattle.keyed_rows.specs.row_differences.Differences.{TellsDifference};
@@ -121,14 +122,22 @@ fn difference_of(
 ) -> Result<Difference, Memory>
     ensures { IfOk result (IsDifferenceOf table.now (map (λ cell. cell.now) key.now) (option_copied held.entry) (option_copied demanded.entry)) }
 {
-    let place = Place {
-        name: table.name.copy(alloc)?,
-        key: copied_key(alloc, key)?,
-        part: Txt::of(alloc, "")?,
-    };
+    let place = place_of(alloc, table, key)?;
+    let held = copied_row(alloc, held)?;
+    let demanded = copied_row(alloc, demanded)?;
     Ok(Difference {
         place,
-        held: copied_row(alloc, held)?,
-        demanded: copied_row(alloc, demanded)?,
+        held,
+        demanded,
     })
+}
+
+// The place of the rows of a table at a key.
+fn place_of(alloc: Global, table: &Table, key: &[&Value]) -> Result<Place, Memory>
+    ensures { IfOk result (λ place. place ≡ place_at table.now.name (map (λ cell. cell.now) key.now) []) }
+{
+    let name = table.name.copy(alloc)?;
+    let key = copied_key(alloc, key)?;
+    let part = Txt::of(alloc, "")?;
+    Ok(Place { name, key, part })
 }

@@ -1,4 +1,7 @@
-ghost use Rattle.std.specs.Prelude.{◌≡◌, IfOk, IfSome, string_bytes};
+ghost use Rattle.std.specs.Prelude.{◌≡◌, ◌++◌, IfOk, IfSome, string_bytes};
+ghost use Rattle.serde_json.specs.Data.{Data};
+ghost use Rattle.json_form.specs.Documents.{printed};
+ghost use Rattle.entity_state.specs.Tells.{IsTreeInKeyOrder};
 ghost use Rattle.round_trip.specs.Words.{IsState};
 ghost use Rattle.witness_state.specs.Failures.{IsFailureOf};
 ghost use Rattle.texts.specs.command_texts.Texts.{IsFailText, IsOtherLine, IsStateLine, accepted_text, failing_text, file_text, file_word, kind_word, limit_text, limit_word, rule_text, usage_text};
@@ -104,6 +107,15 @@ fn kind_word(kind: FailKind) -> &'static str
     }
 }
 
+// The printed document of a state.
+fn state_bytes(alloc: Global, model: &EntityModel, state: &EntityState) -> Result<Bin, Memory>
+    requires { IsState model.now state.now }
+    ensures { IfOk result (λ text. (tree : Data) × IsTreeInKeyOrder model.now state.now tree × (text ≡ printed tree)) }
+{
+    let document = state.to_doc(alloc, model)?;
+    document.bytes(alloc)
+}
+
 // A word, and the printed document of a state.
 fn state_line(
     alloc: Global,
@@ -114,7 +126,7 @@ fn state_line(
     requires { IsState model.now state.now }
     ensures { IfOk result (IsStateLine word.now model.now state.now) }
 {
-    let document = state.to_doc(alloc, model)?.bytes(alloc)?;
+    let document = state_bytes(alloc, model, state)?;
     let mut text = format!(in alloc; "{word} ")?.into_bytes();
     text.extend_from_slice(document.as_slice())?;
     Ok(Bin::from_vec(text))
@@ -153,8 +165,17 @@ pub fn fail_text(alloc: Global, schema: &Schema, failure: &Failure) -> Result<Bi
     let model = &schema.model;
     let state = state_line(alloc, "state", model, &failure.state)?;
     let other = other_line(alloc, model, &failure.other)?;
-    let mut text = failing_text(alloc, failure)?.into_bytes();
-    text.extend_from_slice(state.as_slice())?;
-    text.extend_from_slice(other.as_slice())?;
-    Ok(Bin::from_vec(text))
+    let text = failing_text(alloc, failure)?;
+    let whole = with_lines(text, &state, &other)?;
+    Ok(whole)
+}
+
+// A text with two lines behind it.
+fn with_lines(text: String, state: &Bin, other: &Bin) -> Result<Bin, Memory>
+    ensures { IfOk result (λ whole. whole ≡ (string_bytes text ++ state.now) ++ other.now) }
+{
+    let mut bytes = text.into_bytes();
+    bytes.extend_from_slice(state.as_slice())?;
+    bytes.extend_from_slice(other.as_slice())?;
+    Ok(Bin::from_vec(bytes))
 }

@@ -30,11 +30,23 @@ pub fn rows_of_region(
     ensures { IfOk result (λ rows. rows ≡ rows_of_region (basis_of parts.now) region.now) }
 {
     let pattern = region_pattern(alloc, parts, region)?;
-    let mut rows = Seq::empty(alloc);
-    for row in pattern.rows.as_slice() {
-        rows.push(row_of(alloc, parts.model, region.ty, row)?)?;
+    rows_for(alloc, parts.model, region.ty, pattern.rows.as_slice())
+}
+
+// The rows that these rows of a pattern tell, for an entity of the type.
+fn rows_for(
+    alloc: Global,
+    model: &EntityModel,
+    ty: TypeId,
+    rows: &[PatternRow],
+) -> Result<Seq<ViewRow>, Memory>
+    ensures { IfOk result (λ made. made ≡ map (row_of model.now ty) rows.now) }
+{
+    let mut made = Seq::empty(alloc);
+    for row in rows {
+        made.push(row_of(alloc, model, ty, row)?)?;
     }
-    Ok(rows)
+    Ok(made)
 }
 
 // The row that a row of the pattern tells, for an entity of the type.

@@ -29,6 +29,14 @@ module _ {X : Type 0} (test : ℕ × X → Bool) (xs : List X) (i : ℕ) where
   pub none_there : length xs ≤ i → list_any test (take i (enumerate_from 0 xs)) ≡ false → false ≡ list_any test (enumerate_from 0 xs)
   none_there end none = sym none ∙ ap (list_any test) (take-enumerated xs i end)
 
+-- one item more fails
+pub none_further : {X : Type 0} (test : X → Bool) (xs : List X) (i : ℕ) (x : X) → At xs i x → list_any test (take i xs) ≡ false → test x ≡ false
+    → list_any test (take (i + 1) xs) ≡ false
+none_further test xs i x here none fails =
+    let passed = take i xs in
+    ap (list_any test) (take_item xs i x here) ∙ list_any-append test passed (x ∷ [])
+    ∙ or_from (list_any test passed) (test x || false) none (or_from (test x) false fails refl)
+
 module _ {X Y : Type 0} (f : X → Y) (test : Y → Bool) where
   abbrev passes_as : X → Bool
   passes_as x = test (f x)

@@ -1,4 +1,4 @@
-use Rattle.std.proofs.Common.{◌++◌, List, flat_map, map, refl, subst, ap, ◌∙◌}
+use Rattle.std.proofs.Common.{◌++◌, List, append-nil, flat_map, map, refl, subst, sym, ap, ◌∙◌}
 use Rattle.std.proofs.lemmas.Option.{slice_get_read}
 use Rattle.emc_base.specs.Lists.{At}
 use Rattle.round_trip.specs.Words.{Assoc}
@@ -6,6 +6,9 @@ use Rattle.region_states.specs.region_basis.BasisOf.{basis_of}
 use Rattle.symbolic_rows.specs.Written.{in_symbols, writings_by}
 use Rattle.symbolic_rows.proofs.Behind.{all_numbered, one_more}
 use Rattle.symbolic_rows.proofs.writings.add_hosted.Goals as goal
+
+pub loop-index-init : goal.loop-index-init
+loop-index-init c = sym (append-nil (map in_symbols c.args.writings.now.items))
 
 pub loop-index-preserved : goal.loop-index-preserved
 loop-index-preserved c =

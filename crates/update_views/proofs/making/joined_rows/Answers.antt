@@ -29,3 +29,11 @@ returns c =
     let assocs = parts.model.now.assocs in
     let past : length assocs ≤ c.loop-index.index = subst (λ (items : List Assoc). length items ≤ c.loop-index.index) c.as_slice-assoc-items.ensures.items c.loop-index-test.false in
     c.loop-index.invariant ∙ ap (map (joined_by (basis_of parts) parts.cells.now.places)) (take-enumerated assocs c.loop-index.index past)
+
+pub joined_row-requires-clause-here : goal.joined_row-requires-clause-here
+joined_row-requires-clause-here c =
+    let i = c.loop-index.index in
+    let assoc : Assoc = c.assoc-item.result in
+    let items = c.as_slice-assoc-items.result.now in
+    let stands : At items i assoc = slice_get-get_or items i assoc c.loop-index-test.true ∙ ap Some (sym c.assoc-item.is) in
+    subst (λ (list : List Assoc). At list i assoc) c.as_slice-assoc-items.ensures.items stands

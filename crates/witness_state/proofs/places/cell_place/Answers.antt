@@ -1,9 +1,24 @@
-use Rattle.std.proofs.Common.{inl, ap, ◌∙◌}
-use Rattle.round_trip.specs.Words.{values_of}
+use Rattle.std.proofs.Common.{◌<◌, length, inl, sym, ap, subst, ◌∙◌}
+use Rattle.std.proofs.lemmas.Option.{slice_get_within}
+use Rattle.emc_base.proofs.Lists.{at_once}
+use Rattle.round_trip.specs.Words.{Table, values_of}
 use Rattle.cells.specs.Parts.{schema_in}
 use Rattle.schema_laws.proofs.sound_demand.owners.Owned.{owned}
 use Rattle.witness_state.proofs.Pairing.{key_told}
 use Rattle.witness_state.proofs.places.cell_place.Goals as goal
+
+pub at-declared-requires : goal.at-declared-requires
+at-declared-requires c = slice_get_within c.args.parts.now.store.now.tables c.args.table.index c.requires.column.0 c.requires.column.2.is_table
+
+pub at-column-requires : goal.at-column-requires
+at-column-requires c =
+    let same = at_once c.args.parts.now.store.now.tables c.args.table.index c.requires.column.0 c.at-declared.result.now c.requires.column.2.is_table c.at-declared.ensures in
+    subst (λ (table : Table). c.args.col.index < length table.cols) same
+    (slice_get_within c.requires.column.0.cols c.args.col.index c.requires.column.1 c.requires.column.2.is_column)
+
+pub pairing-pairing-requires : goal.pairing-pairing-requires
+pairing-pairing-requires c = subst (λ n. c.args.table.index < n) (sym c.requires.parts.cells.pairings.size)
+    (slice_get_within c.args.parts.now.store.now.tables c.args.table.index c.requires.column.0 c.requires.column.2.is_table)
 
 pub returns : goal.returns
 returns c = λ s pairs writes.

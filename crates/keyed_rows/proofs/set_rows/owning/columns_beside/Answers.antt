@@ -1,6 +1,6 @@
 use Rattle.std.proofs.Common.{◌+◌, List, [], ◌∷◌, ◌++◌, take, get_or, sym, subst}
 use Rattle.std.specs.List.{AllZip}
-use Rattle.std.proofs.lemmas.List.{take_more}
+use Rattle.std.proofs.lemmas.List.{take_all, take_more}
 use Rattle.emc_base.proofs.facts.Zipped.{zip_push}
 use Rattle.edm_types.specs.Types.{PropId, ColId}
 use Rattle.keyed_rows.specs.set_rows.Owning.{IsBeside}
@@ -17,3 +17,12 @@ loop-prop-preserved c =
     subst (λ (cols : List ColId). AllZip R (take (c.loop-prop.prop-index + 1) wanted) cols) (sym pushed)
     (subst (λ (props : List PropId). AllZip R props (found ++ c.column_beside.result ∷ [])) (sym more)
     (zip_push R (take c.loop-prop.prop-index wanted) found (get_or wanted c.loop-prop.prop-index none) c.column_beside.result c.loop-prop.invariant c.column_beside.ensures))
+
+pub column_beside-requires : goal.column_beside-requires
+column_beside-requires c =
+    let none : PropId = record { index = 0 } in
+    record { long = c.requires.long; among = c.requires.among c.loop-prop.prop-index none c.loop-prop-test.true }
+
+pub returns : goal.returns
+returns c = subst (λ (props : List PropId). AllZip (IsBeside c.args.props.now c.args.cols.now) props c.loop-prop.found.items)
+    (take_all c.loop-prop.prop-index c.args.wanted.now c.loop-prop-test.false) c.loop-prop.invariant

@@ -1,23 +1,14 @@
-use Rattle.std.proofs.Common.{◌≡◌, [], flat_map, map, ◌∙◌}
-use Rattle.std.specs.List.{enumerate_from}
-use Rattle.cells.specs.host_links.Grouped.{links_in}
-use Rattle.case_laws.specs.filled_rows.Gathered.{rows_of_links, rows_of_set}
-use Rattle.update_views.specs.Placed.{with_rows}
-use Rattle.update_views.specs.Views.{joined_row, local_rows}
+use Rattle.std.proofs.Common.{Result, Ok, Err, IfOk}
 use Rattle.update_views.proofs.Whole.{whole}
 use Rattle.update_views.proofs.views.UpdateViews.tables_of.Goals as goal
 
+-- what follows from a result is so of it
+follows : {T E : Type 0} (P Q : T → Type 0) → ((value : T) → P value → Q value) → (result : Result T E) → IfOk result P → IfOk result Q
+follows P Q each (Ok value) is = each value is
+follows P Q each (Err fault) is = tt
+
 pub returns : goal.returns
-returns c =
-    let parts = c.args.parts.now in
-    let views = c.args.self.now in
-    let hosts = c.in_ok-hosts.hosts in
-    let state = c.args.state.now in
-    let of_set = rows_of_set parts.model.now (local_rows views) (joined_row views) (links_in hosts) in
-    let of_links = rows_of_links parts.model.now (local_rows views) (joined_row views) (links_in hosts) in
-    let sets : c.add_sets.new.tables ≡ with_rows (map (λ _. []) parts.store.now.tables) (flat_map of_set (enumerate_from 0 state.entities)) =
-    c.in_ok-add_sets.ensures.added ∙ (λ k. with_rows (c.in_ok-tables.ensures k) (flat_map of_set (enumerate_from 0 (c.entity_lists.ensures k)))) in
-    record {
-      tables = whole parts c.requires.parts views c.requires.views hosts state c.requires.few c.in_ok-hosts.ensures c.requires.legal c.requires.clear c.add_links.new.tables
-          (c.in_ok-add_links.ensures.added (links_in hosts) ∙ (λ k. with_rows (sets k) (flat_map of_links (enumerate_from 0 (c.link_lists.ensures k)))));
-    }
+returns c = record {
+  tables = follows _ _ (λ tables is. whole c.args.parts.now c.requires.parts c.args.self.now c.requires.views c.in_ok-hosts.hosts c.args.state.now c.requires.few
+      c.in_ok-hosts.ensures c.requires.legal c.requires.clear tables is) c.tables_by.result c.tables_by.ensures;
+}

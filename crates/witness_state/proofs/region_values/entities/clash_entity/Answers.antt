@@ -11,8 +11,23 @@ use Rattle.region_states.specs.Entities.{focus_entity}
 use Rattle.conflict_laws.specs.clash.ClashValues.{differ_under}
 use Rattle.witness_state.specs.declared.region_values.changes.Change.{Change}
 use Rattle.witness_state.specs.region_values.Changes.{by_change}
+use Rattle.witness_state.proofs.region_values.Passed.{none_further}
 use Rattle.witness_state.proofs.region_values.Tried.{first_differs, none_differs}
 use Rattle.witness_state.proofs.region_values.entities.clash_entity.Goals as goal
+
+pub loop-change-init : goal.loop-change-init
+loop-change-init c = refl
+
+pub loop-change-preserved : goal.loop-change-preserved
+loop-change-preserved c =
+    let basis = basis_of c.args.parts.now in
+    let region = c.args.region.now in
+    let one = c.args.one.now in
+    let two = c.args.two.now in
+    let change : Option Change = c.change-item.result in
+    let same = ap (λ one_change. differ_under one two (by_change basis region one_change)) (sym c.as_ref.ensures.value) ∙ sym c.in_ok-differ.ensures ∙ c.if-branch.false in
+    none_further (λ tried. differ_under one two (by_change basis region tried)) c.as_slice-change-items.result.now c.loop-change.change-index change
+    (slice_get_read _ _ c.loop-change.change-index _ refl c.loop-change-test.true c.change-item.is) c.loop-change.invariant same
 
 pub returns-then-branch : goal.returns-then-branch
 returns-then-branch c =

@@ -10,7 +10,23 @@ use Rattle.table_owners.specs.declared.places.LinkPlace.{LinkPlace}
 use Rattle.table_owners.specs.declared.places.LinkPlace.TheVariants as place
 use Rattle.cells.specs.HostedLinks.{hosted_at, hosted_by}
 use Rattle.cells.specs.host_links.Grouped.{links_of}
+use Rattle.cells.proofs.host_links.Placed.{ends_within, none_yet}
 use Rattle.cells.proofs.host_links.links.HostLinks.of.Goals as goal
+
+pub loop-index-init : goal.loop-index-init
+loop-index-init c = (
+  c.in_ok-by_set.ensures.size ∙ ap length c.as_slice.ensures.items,
+  none_yet c.in_ok-by_set.by_set.items c.in_ok-by_set.ensures.empty,
+)
+
+-- the sets of an association's ends are some of which there are maps
+pub add_hosted-requires-clause-first : goal.add_hosted-requires-clause-first
+add_hosted-requires-clause-first c = (ends_within c.args.model.now c.as_slice-assoc-items.result.now c.loop-index.index (length c.loop-index.by_set.items)
+    c.assoc-item.result c.requires.sound.ids c.as_slice-assoc-items.ensures.items c.loop-index-test.true c.assoc-item.is c.loop-index.invariant.0).0
+
+pub add_hosted-requires-clause-second : goal.add_hosted-requires-clause-second
+add_hosted-requires-clause-second c = (ends_within c.args.model.now c.as_slice-assoc-items.result.now c.loop-index.index (length c.loop-index.by_set.items)
+    c.assoc-item.result c.requires.sound.ids c.as_slice-assoc-items.ensures.items c.loop-index-test.true c.assoc-item.is c.loop-index.invariant.0).1
 
 pub loop-index-preserved : goal.loop-index-preserved
 loop-index-preserved c =
