@@ -6,9 +6,7 @@ mod chains;
 #[cfg(test)]
 mod disks;
 #[cfg(test)]
-mod fake_disk;
-#[cfg(test)]
-mod fake_output;
+mod fake_runtime;
 #[cfg(test)]
 mod memory;
 #[cfg(test)]

@@ -1,20 +1,21 @@
-use crate::fake_output::FakeOutput;
+use crate::fake_runtime::{Done, FakeRuntime};
 use emc_files::{OutSink, Sink, SinkFault};
-use std::cell::Cell;
+use std::io::ErrorKind;
 
-// What is told of nine bytes that are put to an output that takes so many, how often a call has failed then, and how many it took.
-fn put_to(most: usize) -> (Option<SinkFault>, u64, usize) {
-    let output = FakeOutput {
-        taken: Cell::new(0),
-        most,
-    };
-    let mut sink = OutSink::new(&output);
-    let answer = sink.put(b"accepted\n").err();
-    (answer, sink.faults(), output.taken.get())
+// Whether an output that takes so many bytes answers so to nine that are put to it, counts so many faults, and took so many.
+fn puts(good: u64, wanted: Option<SinkFault>, faults: u64, bytes: u64) -> bool {
+    let done = Done::nothing();
+    let mut sink = OutSink::new(FakeRuntime {
+        done: &done,
+        good,
+        kind: ErrorKind::Other,
+    });
+    let told = sink.put(b"accepted\n").err();
+    told == wanted && sink.faults() == faults && done.bytes.get() == bytes
 }
 
 #[test]
 fn an_output_that_takes_nothing_more_is_a_fault(rt: HostRuntime) {
-    assert_eq!(rt; put_to(1), (Some(SinkFault::Failed), 1u64, 1usize));
-    assert_eq!(rt; put_to(9), (None, 0u64, 9usize));
+    assert!(rt; puts(1, Some(SinkFault::Failed), 1, 1));
+    assert!(rt; puts(9, None, 0, 9));
 }

@@ -1,0 +1,85 @@
+ghost use Rattle.std.specs.Prelude.{◌≡◌, ◌≢◌};
+ghost use Rattle.cells.specs.Parts.{AreParts};
+ghost use Rattle.region_states.specs.region_basis.BasisOf.{basis_of};
+ghost use Rattle.regions.specs.Regions.{regions_of};
+ghost use Rattle.round_trip.specs.declared.FailKind.TheVariants as fails;
+
+mod all_pairs;
+
+use crate::region_counts::MOST_REGIONS;
+use all_pairs::has_same_tables;
+use cells::Parts;
+use containment::first_conflict;
+use emc_base::{Seq, SetId};
+use region_partition::regions;
+use region_states::Conflict;
+use regions::Region;
+use round_trip::FailKind;
+use std::alloc::Global;
+
+/// Puts a line for each set, with the conflict of each kind at its regions.
+pub fn put_conflicts(alloc: Global, text: &mut String, parts: &Parts<'_>) -> Option<()>
+    requires { AreParts parts.now }
+{
+    for place in 0..parts.model.sets.len() {
+        let set = SetId {
+            index: place as u32,
+        };
+        let found = regions(alloc, parts, set, MOST_REGIONS).ok()?;
+        put_set(alloc, text, parts, set, &found)?;
+        text.push_str("\n").ok()?;
+    }
+    Some(())
+}
+
+// Puts the conflict of each kind at the regions of a set. `None` where all pairs of regions tell otherwise whether there is one of kind same.
+fn put_set(
+    alloc: Global,
+    text: &mut String,
+    parts: &Parts<'_>,
+    set: SetId,
+    found: &Seq<Region>,
+) -> Option<()>
+    requires parts { AreParts parts.now }
+    requires regions { found.now ≡ regions_of (basis_of parts.now) set }
+{
+    put_conflict(alloc, text, parts, FailKind::Clash, set, found)?;
+    put_conflict(alloc, text, parts, FailKind::Null, set, found)?;
+    put_conflict(alloc, text, parts, FailKind::Disagrees, set, found)?;
+    let is_told = put_conflict(alloc, text, parts, FailKind::Same, set, found)?;
+    if has_same_tables(alloc, parts, found.as_slice()).ok()? != is_told {
+        return None;
+    }
+    Some(())
+}
+
+// Puts the conflict of a kind, and answers whether there is one.
+fn put_conflict(
+    alloc: Global,
+    text: &mut String,
+    parts: &Parts<'_>,
+    kind: FailKind,
+    set: SetId,
+    regions: &Seq<Region>,
+) -> Option<bool>
+    requires parts { AreParts parts.now }
+    requires kind { kind ≢ fails.Dangling }
+    requires regions { regions.now ≡ regions_of (basis_of parts.now) set }
+{
+    let found = first_conflict(alloc, parts, kind, set, regions).ok()?;
+    text.push_str(word_of(&found)).ok()?;
+    Some(found.is_some())
+}
+
+// A word for a conflict.
+fn word_of(found: &Option<Conflict>) -> &'static str {
+    match found {
+        None => "none;",
+        Some(Conflict::Clash { .. }) => "clash;",
+        Some(Conflict::NullIn { .. }) => "null;",
+        Some(Conflict::Disagree { .. }) => "disagree;",
+        Some(Conflict::Absent(_)) => "absent;",
+        Some(Conflict::Rival { .. }) => "rivals;",
+        Some(Conflict::Lost { .. }) => "lost;",
+    }
+}

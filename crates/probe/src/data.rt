@@ -1,0 +1,6 @@
+mod judge;
+mod refusal;
+mod text;
+
+pub use judge::{judge_entities, judge_tables};
+pub use text::{DataKind, text_of};

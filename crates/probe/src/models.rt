@@ -1,0 +1,126 @@
+ghost use Rattle.round_trip.specs.Words.{IsState};
+ghost use Rattle.round_trip.specs.soundness.models.Models.{IsSoundModel};
+
+use crate::asked::Asked;
+use crate::data::{DataKind, judge_entities, judge_tables, text_of};
+use crate::nodes::put_nodes;
+use crate::printing::{put, put_bytes};
+use csdl_model::read_csdl;
+use data_documents::state_of_doc;
+use edm_types::{EntityModel, Link, subtree};
+use emc_base::{AssocId, Seq, TypeId};
+use entity_state::EntityState;
+use json_form::Doc;
+use std::alloc::Global;
+
+/// Puts what is asked of a document of data.
+pub fn put_of_data(
+    alloc: Global,
+    text: &mut String,
+    asked: Asked,
+    vocabulary: &Doc,
+    data: &Doc,
+) -> Option<()> {
+    let judged = match asked {
+        Asked::Entities => text_of(
+            alloc,
+            DataKind::Entities,
+            judge_entities(alloc, vocabulary, data),
+        ),
+        Asked::Tables => text_of(
+            alloc,
+            DataKind::Tables,
+            judge_tables(alloc, vocabulary, data),
+        ),
+        _ => return put_read(alloc, text, asked, vocabulary, data),
+    };
+    text.push_str(judged.ok()?.as_str()).ok()
+}
+
+// Puts what is read of a document of data by a model.
+fn put_read(alloc: Global, text: &mut String, asked: Asked, csdl: &Doc, data: &Doc) -> Option<()> {
+    let model = read_csdl(alloc, csdl).ok()?;
+    match asked {
+        Asked::State => put_state(alloc, text, &model, data),
+        Asked::Nodes => put_nodes(alloc, text, &model, data),
+        _ => None,
+    }
+}
+
+/// Puts what is asked of a model.
+pub fn put_of_model(alloc: Global, text: &mut String, asked: Asked, csdl: &Doc) -> Option<()> {
+    let Ok(model) = read_csdl(alloc, csdl) else {
+        return None;
+    };
+    match asked {
+        Asked::Below => put_below(alloc, text, &model),
+        Asked::Added => put_added(alloc, text, &model),
+        _ => None,
+    }
+}
+
+// Puts the state that a document holds.
+fn put_state(alloc: Global, text: &mut String, model: &EntityModel, data: &Doc) -> Option<()> {
+    let state = state_of_doc(alloc, data, model).ok()?;
+    put_printed(alloc, text, model, &state)
+}
+
+// Puts a state as it is printed.
+fn put_printed(
+    alloc: Global,
+    text: &mut String,
+    model: &EntityModel,
+    state: &EntityState,
+) -> Option<()>
+    requires { IsState model.now state.now }
+{
+    let printed = state.to_doc(alloc, model).ok()?;
+    let bytes = printed.bytes(alloc).ok()?;
+    put_bytes(text, bytes.as_slice())
+}
+
+// Puts a line for each type, with the types that it is or that stand below it.
+fn put_below(alloc: Global, text: &mut String, model: &EntityModel) -> Option<()>
+    requires { IsSoundModel model.now }
+{
+    for place in 0..model.types.len() {
+        let ty = TypeId {
+            index: place as u32,
+        };
+        put_subtree(alloc, text, model, ty)?;
+    }
+    Some(())
+}
+
+// Puts a line for a type.
+fn put_subtree(alloc: Global, text: &mut String, model: &EntityModel, ty: TypeId) -> Option<()>
+    requires { IsSoundModel model.now }
+{
+    let found = subtree(alloc, model, ty).ok()?;
+    for below in found.as_slice() {
+        put(alloc, text, " ", u64::from(below.index))?;
+    }
+    text.push_str("\n").ok()
+}
+
+// Puts how many links each association set has, once a link is added to the second of an empty state.
+fn put_added(alloc: Global, text: &mut String, model: &EntityModel) -> Option<()> {
+    let mut state = EntityState::empty(alloc, model).ok()?;
+    if state.link_lists().len() < 2 {
+        return None;
+    }
+    let link = Link {
+        first: Seq::empty(alloc),
+        second: Seq::empty(alloc),
+    };
+    state.insert_link(AssocId { index: 1 }, link).ok()?;
+    put_lengths(alloc, text, &state)
+}
+
+// Puts how many links each association set has.
+fn put_lengths(alloc: Global, text: &mut String, state: &EntityState) -> Option<()> {
+    for links in state.link_lists() {
+        put(alloc, text, " ", links.len() as u64)?;
+    }
+    text.push_str("\n").ok()
+}

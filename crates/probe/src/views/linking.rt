@@ -1,0 +1,156 @@
+ghost use Rattle.cells.specs.Parts.{AreParts};
+ghost use Rattle.region_partition.specs.set_regions.Regions.{AreRegions};
+ghost use Rattle.region_states.specs.region_basis.BasisOf.{basis_of};
+
+use crate::printing::{put, put_bytes, put_values};
+use crate::views::all_regions;
+use case_laws::Case;
+use cells::{HostLinks, Parts};
+use edm_types::{Entity, Link, key_of};
+use emc_base::{AssocId, Seq, SetId, Steps};
+use entity_state::EntityState;
+use query_views::QueryViews;
+use regions::Region;
+use std::alloc::Global;
+use table_files::{LocalRows, TableRow};
+use texts::views_text;
+use update_views::UpdateViews;
+
+/// Puts the lines of the query views.
+pub fn put_views(alloc: Global, text: &mut String, parts: &Parts<'_>) -> Option<()>
+    requires { AreParts parts.now }
+{
+    let regions = all_regions(alloc, parts)?;
+    let views = QueryViews::of(alloc, parts, &regions).ok()?;
+    put_cases(alloc, text, parts, views.cases())
+}
+
+// Puts the lines of the cases of all sets.
+fn put_cases(alloc: Global, text: &mut String, parts: &Parts<'_>, cases: &[Seq<Case>]) -> Option<()>
+    requires { AreParts parts.now }
+{
+    if cases.len() != parts.model.sets.len() {
+        return None;
+    }
+    let lines = views_text(alloc, parts, cases).ok()?;
+    put_bytes(text, lines.as_slice())
+}
+
+/// Puts a line for each row of a state: those of each entity with the links that it hosts, and then those of each link by itself.
+pub fn put_rows(
+    alloc: Global,
+    text: &mut String,
+    parts: &Parts<'_>,
+    state: &EntityState,
+) -> Option<()>
+    requires { AreParts parts.now }
+{
+    let regions = all_regions(alloc, parts)?;
+    put_rows_of(alloc, text, parts, &regions, state)
+}
+
+// The same by the regions of all sets.
+fn put_rows_of(
+    alloc: Global,
+    text: &mut String,
+    parts: &Parts<'_>,
+    regions: &Seq<Seq<Region>>,
+    state: &EntityState,
+) -> Option<()>
+    requires parts { AreParts parts.now }
+    requires regions { AreRegions (basis_of parts.now) regions.now }
+{
+    let views = UpdateViews::of(alloc, parts, regions).ok()?;
+    let hosts = HostLinks::of(alloc, parts.model, parts.cells, state).ok()?;
+    put_sets(alloc, text, parts, &views, &hosts, state)?;
+    put_associations(alloc, text, parts, &views, state)
+}
+
+// Puts the rows of the entities of each set.
+fn put_sets(
+    alloc: Global,
+    text: &mut String,
+    parts: &Parts<'_>,
+    views: &UpdateViews,
+    hosts: &HostLinks,
+    state: &EntityState,
+) -> Option<()> {
+    for place in 0..parts.model.sets.len() {
+        let set = SetId {
+            index: place as u32,
+        };
+        let entities = state.entity_lists().get(place)?;
+        put_entities(alloc, text, parts, views, hosts, set, entities.as_slice())?;
+    }
+    Some(())
+}
+
+// Puts the rows of entities of a set.
+fn put_entities(
+    alloc: Global,
+    text: &mut String,
+    parts: &Parts<'_>,
+    views: &UpdateViews,
+    hosts: &HostLinks,
+    set: SetId,
+    entities: &[Entity],
+) -> Option<()> {
+    for entity in entities {
+        let key = key_of(alloc, parts.model, entity).ok()?;
+        let links = hosts.at(set, &key);
+        let rows = views
+            .local(alloc, set, entity, links, &mut Steps::new())
+            .ok()?;
+        put_lines(alloc, text, rows.as_slice())?;
+    }
+    Some(())
+}
+
+// Puts a line for each row.
+fn put_lines(alloc: Global, text: &mut String, rows: &[TableRow]) -> Option<()> {
+    for row in rows {
+        put_line(alloc, text, row)?;
+    }
+    Some(())
+}
+
+// Puts the line of a row: the number of its table, and its cells.
+fn put_line(alloc: Global, text: &mut String, placed: &TableRow) -> Option<()> {
+    put(alloc, text, "", u64::from(placed.table.index))?;
+    put_values(alloc, text, &placed.row.cells)?;
+    text.push_str("\n").ok()
+}
+
+// Puts the rows of the links of each association set.
+fn put_associations(
+    alloc: Global,
+    text: &mut String,
+    parts: &Parts<'_>,
+    views: &UpdateViews,
+    state: &EntityState,
+) -> Option<()> {
+    for place in 0..parts.model.assocs.len() {
+        let assoc = AssocId {
+            index: place as u32,
+        };
+        let links = state.link_lists().get(place)?;
+        put_links(alloc, text, views, assoc, links.as_slice())?;
+    }
+    Some(())
+}
+
+// Puts the rows of links.
+fn put_links(
+    alloc: Global,
+    text: &mut String,
+    views: &UpdateViews,
+    assoc: AssocId,
+    links: &[Link],
+) -> Option<()> {
+    for link in links {
+        if let Some(row) = views.joined(alloc, assoc, link).ok()? {
+            put_line(alloc, text, &row)?;
+        }
+    }
+    Some(())
+}

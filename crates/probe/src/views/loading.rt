@@ -1,0 +1,145 @@
+ghost use Rattle.std.specs.Prelude.{◌≡◌, IfSome, length};
+ghost use Rattle.cells.specs.Cells.{is_free_in};
+ghost use Rattle.cells.specs.Parts.{AreParts};
+ghost use Rattle.query_views.specs.Views.{AreQueryViewsOf};
+ghost use Rattle.region_states.specs.region_basis.BasisOf.{basis_of};
+ghost use Rattle.round_trip.specs.Words.{AreLegalTables, AreTables};
+ghost use Rattle.round_trip.specs.soundness.Lookups.{set_key};
+
+use crate::printing::{put, put_value, put_values};
+use crate::views::all_regions;
+use cells::Parts;
+use edm_types::{Entity, EntityModel};
+use emc_base::{Key, PropId, Seq, SetId, TypeId, Value, ValueRef};
+use query_views::{EntityFault, Loaded, QueryViews, StateFault};
+use std::alloc::Global;
+use table_files::{Tables, is_legal};
+
+const FIRST: SetId = SetId { index: 0 };
+
+/// Puts a line for each of the keys 1 to 3, with the entity of the first set that legal tables tell there: its type and its values; or that there
+/// is none, or that the rows there meet no case.
+pub fn put_keys(alloc: Global, text: &mut String, parts: &Parts<'_>, tables: &Tables) -> Option<()>
+    requires parts { AreParts parts.now }
+    requires tables { AreTables parts.now.store.now tables.now }
+{
+    if !is_legal(tables.as_slice(), parts.store) {
+        return None;
+    }
+    let views = views_of(alloc, parts)?;
+    put_key(alloc, text, parts, &views, tables, 1)?;
+    put_key(alloc, text, parts, &views, tables, 2)?;
+    put_key(alloc, text, parts, &views, tables, 3)
+}
+
+/// Puts a line for each entity of the first set that legal tables tell, in the order of keys, with its type and its second property; or that the
+/// rows at a key meet no case.
+pub fn put_lent(alloc: Global, text: &mut String, parts: &Parts<'_>, tables: &Tables) -> Option<()>
+    requires parts { AreParts parts.now }
+    requires tables { AreTables parts.now.store.now tables.now }
+{
+    if !is_legal(tables.as_slice(), parts.store) {
+        return None;
+    }
+    let views = views_of(alloc, parts)?;
+    put_lent_by(alloc, text, parts, &views, tables)
+}
+
+// The same by the views.
+fn put_lent_by(
+    alloc: Global,
+    text: &mut String,
+    parts: &Parts<'_>,
+    views: &QueryViews,
+    tables: &Tables,
+) -> Option<()>
+    requires parts { AreParts parts.now }
+    requires views { AreQueryViewsOf (basis_of parts.now) (is_free_in parts.now.cells.now) views.now }
+    requires legal { AreLegalTables parts.now.store.now tables.now }
+{
+    match Loaded::of(alloc, views, parts, tables) {
+        Ok(loaded) => put_loaded(alloc, text, &loaded),
+        Err(StateFault::NoCase(_)) => text.push_str("no case\n").ok(),
+        Err(StateFault::Memory) => None,
+    }
+}
+
+// The query views of a mapping.
+fn views_of(alloc: Global, parts: &Parts<'_>) -> Option<QueryViews>
+    requires parts { AreParts parts.now }
+    ensures { IfSome result (AreQueryViewsOf (basis_of parts.now) (is_free_in parts.now.cells.now)) }
+{
+    let regions = all_regions(alloc, parts)?;
+    QueryViews::of(alloc, parts, &regions).ok()
+}
+
+// How many parts the key of a set has.
+fn key_length(model: &EntityModel, set: SetId) -> usize
+    ensures { result ≡ length (set_key model.now set) }
+{
+    match model.sets.get(set.index as usize) {
+        Some(entry) => match model.types.get(entry.element.index as usize) {
+            Some(declared) => declared.key.len(),
+            None => 0,
+        },
+        None => 0,
+    }
+}
+
+// Puts the line of a key.
+fn put_key(
+    alloc: Global,
+    text: &mut String,
+    parts: &Parts<'_>,
+    views: &QueryViews,
+    tables: &Tables,
+    number: i64,
+) -> Option<()>
+    requires parts { AreParts parts.now }
+    requires views { AreQueryViewsOf (basis_of parts.now) (is_free_in parts.now.cells.now) views.now }
+    requires legal { AreLegalTables parts.now.store.now tables.now }
+{
+    let mut key: Key = Seq::empty(alloc);
+    key.push(Value::Whole(number)).ok()?;
+    if FIRST.index as usize >= parts.model.sets.len()
+        || key.len() != key_length(parts.model, FIRST)
+    {
+        return None;
+    }
+    match views.entity_at(alloc, parts, tables, FIRST, &key) {
+        Ok(found) => put_entity(alloc, text, &found.entity),
+        Err(EntityFault::Absent) => text.push_str("absent\n").ok(),
+        Err(EntityFault::NoCase) => text.push_str("no case\n").ok(),
+        Err(EntityFault::Memory) => None,
+    }
+}
+
+// Puts the line of an entity: its type and its values.
+fn put_entity(alloc: Global, text: &mut String, entity: &Entity) -> Option<()> {
+    put(alloc, text, "", u64::from(entity.ty.index))?;
+    put_values(alloc, text, &entity.values)?;
+    text.push_str("\n").ok()
+}
+
+// Puts the lines of entities that are lent.
+fn put_loaded(alloc: Global, text: &mut String, loaded: &Loaded<'_>) -> Option<()> {
+    for place in 0..loaded.len(FIRST) {
+        let ty = loaded.type_of(FIRST, place);
+        let value = loaded.property(FIRST, place, PropId { index: 1 });
+        put_lent_entity(alloc, text, ty, &value)?;
+    }
+    Some(())
+}
+
+// Puts the line of an entity that is lent: its type and a value.
+fn put_lent_entity(
+    alloc: Global,
+    text: &mut String,
+    ty: TypeId,
+    value: &ValueRef<'_>,
+) -> Option<()> {
+    put(alloc, text, "", u64::from(ty.index))?;
+    text.push_str(" ").ok()?;
+    put_value(alloc, text, &value.copy(alloc).ok()?)?;
+    text.push_str("\n").ok()
+}
