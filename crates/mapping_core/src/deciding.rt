@@ -42,7 +42,10 @@ pub fn decide(alloc: Global, schema: Schema) -> Result<Compiled, Refusal>
 {
     match Cells::of(alloc, &schema.model, &schema.store, &schema.mapping) {
         Ok(cells) => decide_by(alloc, schema, cells),
-        Err(Memory) => Err(Refusal::Memory),
+        Err(Memory) => {
+            drop(schema);
+            Err(Refusal::Memory)
+        }
     }
 }
 
@@ -54,9 +57,19 @@ fn decide_by(alloc: Global, schema: Schema, cells: Cells) -> Result<Compiled, Re
 {
     match judge(alloc, &schema, &cells) {
         Ok(Judgement::Keeps(regions, views)) => Ok(Compiled::new(schema, cells, regions, views)),
-        Ok(Judgement::Limit(fault)) => Err(Refusal::Limit(schema, fault)),
-        Ok(Judgement::Fails(failure)) => Err(Refusal::Fails(schema, failure)),
-        Err(Memory) => Err(Refusal::Memory),
+        Ok(Judgement::Limit(fault)) => {
+            drop(cells);
+            Err(Refusal::Limit(schema, fault))
+        }
+        Ok(Judgement::Fails(failure)) => {
+            drop(cells);
+            Err(Refusal::Fails(schema, failure))
+        }
+        Err(Memory) => {
+            drop(cells);
+            drop(schema);
+            Err(Refusal::Memory)
+        }
     }
 }
 

@@ -37,6 +37,7 @@ pub fn read(alloc: Global, csdl: &Bin, ssdl: &Bin, msl: &Bin) -> Result<Schema, 
     if is_decided(&schema) {
         Ok(schema)
     } else {
+        drop(schema);
         Err(unbuilt(alloc))
     }
 }
