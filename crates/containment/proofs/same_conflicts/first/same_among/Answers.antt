@@ -6,7 +6,6 @@ use Rattle.regions.specs.declared.region.Region.{Region}
 use Rattle.region_states.specs.region_basis.BasisOf.{basis_of}
 use Rattle.region_states.specs.conflicts.Conflicts.{IsConflictAt}
 use Rattle.region_states.specs.conflicts.SameFacts.{are_rivals}
-use Rattle.region_states.specs.declared.conflicts.conflict.Conflict.{Conflict}
 use Rattle.region_states.specs.declared.conflicts.conflict.Conflict.TheVariants as conflict
 use Rattle.containment.specs.declared.same_conflicts.rivals.Rivals.{Rivals}
 use Rattle.containment.specs.declared.same_conflicts.written.Written.{Written}
