@@ -1,11 +1,13 @@
-ghost use Rattle.std.specs.Prelude.{◌≡◌, ◌<◌, [], All, IfOk, length, map};
+ghost use Rattle.std.specs.Prelude.{◌≡◌, ◌<◌, List, [], All, IfOk, length, map};
 ghost use Rattle.std.specs.Option.{option_copied};
 ghost use Rattle.edm_types.specs.Rows.{AreTables};
-ghost use Rattle.round_trip.specs.Words.{place_at};
+ghost use Rattle.emc_base.specs.Lists.{At};
+ghost use Rattle.round_trip.specs.Words.{Row, place_at, rows_in};
 ghost use Rattle.cells.specs.Cells.{is_free_in};
 ghost use Rattle.table_files.specs.InOrder.{AreToldApartBy, lent_rows};
 ghost use Rattle.keyed_rows.specs.row_differences.Differences.{TellsDifference};
 ghost use Rattle.keyed_rows.specs.row_differences.InTable.{IsDifferenceOf, TellsInTable, TellsOfGroup};
+ghost use Rattle.keyed_rows.specs.row_differences.Sides.{AreRowGroups};
 ghost use Rattle.keyed_rows.specs.row_differences.SameButFree.{HasKeysWithin, HaveNullFreeCells, HaveRowsApart};
 
 use crate::row_differences::alike::are_alike;
@@ -53,14 +55,35 @@ pub fn first_difference(
             index: index as u32,
         };
         let table = store.tables.at(index);
-        let held = KeyOrder::of(alloc, store, tables, id, &table.key)?;
-        let demanded = KeyOrder::of(alloc, store, fresh, id, &table.key)?;
-        let found = first_in_table(alloc, cells, id, table, &held, &demanded)?;
+        let found = difference_in(alloc, store, cells, tables, fresh, id, table)?;
         if found.is_some() {
             return Ok(found);
         }
     }
     Ok(None)
+}
+
+// The first row in which a table differs from the fresh one, by the order of keys.
+fn difference_in(
+    alloc: Global,
+    store: &StoreModel,
+    cells: &Cells,
+    tables: &Tables,
+    fresh: &Tables,
+    id: TableId,
+    table: &Table,
+) -> Result<Option<Difference>, Memory>
+    requires tables { AreTables store.now tables.now }
+    requires fresh { AreTables store.now fresh.now }
+    requires within { HasKeysWithin store.now }
+    requires keys { HaveRowsApart store.now tables.now }
+    requires fresh_keys { HaveRowsApart store.now fresh.now }
+    requires table { At store.now.tables id.index table.now }
+    ensures { IfOk result (TellsInTable (is_free_in cells.now id) table.now (rows_in tables.now id) (rows_in fresh.now id)) }
+{
+    let held = KeyOrder::of(alloc, store, tables, id, &table.key)?;
+    let demanded = KeyOrder::of(alloc, store, fresh, id, &table.key)?;
+    first_in_table(alloc, cells, id, table, &held, &demanded)
 }
 
 // The first row in which a table differs from the fresh one. The rows are compared side by side first; they are grouped by their keys only where some pair isn't alike.
@@ -83,7 +106,24 @@ fn first_in_table(
         return Ok(None);
     }
     let groups = row_groups(alloc, table.key.as_slice(), held, demanded)?;
-    for group in groups.as_slice() {
+    let found = first_of_groups(alloc, cells, id, table, groups.as_slice());
+    drop(groups);
+    found
+}
+
+// The rows of the first of these keys whose rows differ.
+fn first_of_groups(
+    alloc: Global,
+    cells: &Cells,
+    id: TableId,
+    table: &Table,
+    groups: &[KeyGroup<'_, SidedRow<'_>>],
+) -> Result<Option<Difference>, Memory>
+    requires { All (λ group. All (λ one. length one.row.now.cells ≡ length table.now.cols) group.items.items) groups.now }
+    ensures { IfOk result (λ found. (held demanded : List Row) → AreToldApartBy table.now.key held → AreToldApartBy table.now.key demanded
+        → AreRowGroups table.now.key held demanded groups.now → TellsInTable (is_free_in cells.now id) table.now held demanded found) }
+{
+    for group in groups {
         let found = of_group(alloc, cells, id, table, group)?;
         if found.is_some() {
             return Ok(found);

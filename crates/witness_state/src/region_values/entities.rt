@@ -1,4 +1,6 @@
-ghost use Rattle.std.specs.Prelude.{◌≡◌, IfOk};
+ghost use Rattle.std.specs.Prelude.{◌≡◌, IfOk, Ok};
+ghost use Rattle.regions.specs.Patterns.{pattern_of};
+ghost use Rattle.regions.specs.declared.pattern.Focus.TheVariants as focus;
 ghost use Rattle.cells.specs.Parts.{AreParts};
 ghost use Rattle.region_states.specs.defaults.Defaults.{alone, changed, default_valuation};
 ghost use Rattle.region_states.specs.region_basis.BasisOf.{basis_of};
@@ -14,7 +16,7 @@ use crate::region_values::usual::{one_value, other_value};
 use cells::Parts;
 use edm_types::Entity;
 use emc_base::{Memory, PropId, Value};
-use regions::{Region, Symbol};
+use regions::{Pattern, Region, Symbol};
 use std::alloc::Global;
 use symbolic_rows::region_pattern;
 
@@ -58,16 +60,49 @@ pub fn lost_entities(
     ensures one { IfOk result (λ pair. pair.0 ≡ focus_entity (basis_of parts.now) region.now (with_one (basis_of parts.now) region.now property)) }
     ensures other { IfOk result (λ pair. pair.1 ≡ focus_entity (basis_of parts.now) region.now (with_other (basis_of parts.now) region.now property)) }
 {
+    let one = one_entity(alloc, parts, region, property)?;
+    both(one, other_entity(alloc, parts, region, property))
+}
+
+// Both of two things, where there is the second.
+fn both<A: Drop, B>(first: A, second: Result<B, Memory>) -> Result<(A, B), Memory>
+    ensures { IfOk result (λ pair. (pair.0 ≡ first) × (second ≡ Ok pair.1)) }
+{
+    Ok((first, second?))
+}
+
+// The entity of a region with the usual values, but for one property, of which it has the one value.
+fn one_entity(
+    alloc: Global,
+    parts: &Parts<'_>,
+    region: &Region,
+    property: PropId,
+) -> Result<Entity, Memory>
+    requires { AreParts parts.now }
+    ensures { IfOk result (λ entity. entity ≡ focus_entity (basis_of parts.now) region.now (with_one (basis_of parts.now) region.now property)) }
+{
     let Some(declared) = parts.model.props.get(property.index as usize) else {
-        let one = usual_entity(alloc, parts, region)?;
-        let other = usual_entity(alloc, parts, region)?;
-        return Ok((one, other));
+        return usual_entity(alloc, parts, region);
     };
-    let one = one_value(alloc, parts, property, declared)?;
-    let one = entity_with(alloc, parts, region, property, one)?;
-    let other = other_value(alloc, parts, property, declared)?;
-    let other = entity_with(alloc, parts, region, property, other)?;
-    Ok((one, other))
+    let value = one_value(alloc, parts, property, declared)?;
+    entity_with(alloc, parts, region, property, value)
+}
+
+// The entity of a region with the usual values, but for one property, of which it has the other value.
+fn other_entity(
+    alloc: Global,
+    parts: &Parts<'_>,
+    region: &Region,
+    property: PropId,
+) -> Result<Entity, Memory>
+    requires { AreParts parts.now }
+    ensures { IfOk result (λ entity. entity ≡ focus_entity (basis_of parts.now) region.now (with_other (basis_of parts.now) region.now property)) }
+{
+    let Some(declared) = parts.model.props.get(property.index as usize) else {
+        return usual_entity(alloc, parts, region);
+    };
+    let value = other_value(alloc, parts, property, declared)?;
+    entity_with(alloc, parts, region, property, value)
 }
 
 // The entity of a region with the usual values, but for one property, of which it has this.
@@ -97,25 +132,44 @@ pub fn rival_entities(
     ensures first { IfOk result (λ pair. pair.0 ≡ focus_entity (basis_of parts.now) one.now (first_values (basis_of parts.now) one.now two.now)) }
     ensures second { IfOk result (λ pair. pair.1 ≡ focus_entity (basis_of parts.now) two.now (second_values (basis_of parts.now) one.now two.now)) }
 {
-    let one_pattern = region_pattern(alloc, parts, one)?;
-    let two_pattern = region_pattern(alloc, parts, two)?;
+    let pattern = region_pattern(alloc, parts, one)?;
+    let patterns = both(pattern, region_pattern(alloc, parts, two))?;
+    let entities = entities_by(alloc, parts, one, two, &patterns.0, &patterns.1);
+    drop(patterns);
+    entities
+}
+
+// The entities of two regions, by the rows that these regions' entities write.
+fn entities_by(
+    alloc: Global,
+    parts: &Parts<'_>,
+    one: &Region,
+    two: &Region,
+    one_pattern: &Pattern,
+    two_pattern: &Pattern,
+) -> Result<(Entity, Entity), Memory>
+    requires parts { AreParts parts.now }
+    requires pattern { one_pattern.now ≡ pattern_of (basis_of parts.now) (focus.Entity one.now) }
+    requires other_pattern { two_pattern.now ≡ pattern_of (basis_of parts.now) (focus.Entity two.now) }
+    ensures first { IfOk result (λ pair. pair.0 ≡ focus_entity (basis_of parts.now) one.now (first_values (basis_of parts.now) one.now two.now)) }
+    ensures second { IfOk result (λ pair. pair.1 ≡ focus_entity (basis_of parts.now) two.now (second_values (basis_of parts.now) one.now two.now)) }
+{
     let first = Rival {
         first: one,
         second: two,
         region: one,
-        pattern: &one_pattern,
+        pattern: one_pattern,
         other: two,
-        facing: &two_pattern,
+        facing: two_pattern,
     };
     let second = Rival {
         first: one,
         second: two,
         region: two,
-        pattern: &two_pattern,
+        pattern: two_pattern,
         other: one,
-        facing: &one_pattern,
+        facing: one_pattern,
     };
-    let first_entity = rival_entity(alloc, parts, &first)?;
-    let second_entity = rival_entity(alloc, parts, &second)?;
-    Ok((first_entity, second_entity))
+    let entity = rival_entity(alloc, parts, &first)?;
+    both(entity, rival_entity(alloc, parts, &second))
 }
