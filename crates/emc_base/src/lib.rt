@@ -19,7 +19,7 @@ pub use ids::{
     AssocId, ColId, FkId, FragId, GroupId, LinkFragId, PropId, SetId, TableId, TypeId, narrow,
 };
 pub use ledger::{Ledger, Steps};
-pub use memory::Memory;
+pub use memory::{Memory, both};
 pub use order::{compare, compare_keys, order_is_total};
 pub use place::Place;
 pub use seq::{MOST_ITEMS, Seq};

@@ -5,4 +5,3 @@ pub mod LookUps
 pub mod NearPlaces
 pub mod Rests
 pub mod Places
-pub mod OfBoth

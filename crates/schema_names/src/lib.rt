@@ -7,11 +7,9 @@ mod lent_names;
 mod local_names;
 mod names;
 mod own_props;
-mod pairs;
 mod tables;
 
 pub use ends::WhichEnd;
 pub use lent_names::places_by;
 pub use local_names::local_name;
 pub use names::SchemaNames;
-pub use pairs::both;

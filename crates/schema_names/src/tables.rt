@@ -6,9 +6,8 @@ ghost use Rattle.schema_names.specs.Columns.{AreColumnsOf};
 use crate::columns::{TableColumns, columns_of};
 use crate::lent_names::places_by;
 use crate::own_props::{OwnProps, own_props_of};
-use crate::pairs::both;
 use edm_types::{EntityModel, StoreModel};
-use emc_base::{Memory, Seq};
+use emc_base::{Memory, Seq, both};
 use groupings::Places;
 use std::alloc::Global;
 

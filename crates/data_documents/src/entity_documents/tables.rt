@@ -5,9 +5,9 @@ ghost use Rattle.entity_state.specs.StateTree.{name_of};
 ghost use Rattle.data_documents.specs.entity_documents.Tables.{name_or};
 
 use edm_types::EntityModel;
-use emc_base::{Memory, PropId, Seq, Txt};
+use emc_base::{Memory, PropId, Seq, Txt, both};
 use groupings::Places;
-use schema_names::{both, places_by};
+use schema_names::places_by;
 use std::alloc::Global;
 
 /// Where the names in an entity model are given first.

@@ -15,7 +15,7 @@ use crate::region_values::rivals::{Rival, rival_entity};
 use crate::region_values::usual::{one_value, other_value};
 use cells::Parts;
 use edm_types::Entity;
-use emc_base::{Memory, PropId, Value};
+use emc_base::{Memory, PropId, Value, both};
 use regions::{Pattern, Region, Symbol};
 use std::alloc::Global;
 use symbolic_rows::region_pattern;
@@ -62,13 +62,6 @@ pub fn lost_entities(
 {
     let one = one_entity(alloc, parts, region, property)?;
     both(one, other_entity(alloc, parts, region, property))
-}
-
-// Both of two things, where there is the second.
-fn both<A: Drop, B>(first: A, second: Result<B, Memory>) -> Result<(A, B), Memory>
-    ensures { IfOk result (λ pair. (pair.0 ≡ first) × (second ≡ Ok pair.1)) }
-{
-    Ok((first, second?))
 }
 
 // The entity of a region with the usual values, but for one property, of which it has the one value.

@@ -3,7 +3,7 @@ use Rattle.std.proofs.lemmas.Result.{IfOk-weaker}
 use Rattle.groupings.specs.declared.name_places.places.Places.{Places}
 use Rattle.groupings.specs.name_places.GivenNames.{first_place}
 use Rattle.groupings.specs.name_places.PlacesIn.{place_in}
-use Rattle.schema_names.proofs.OfBoth.{first_of, second_of}
+use Rattle.emc_base.proofs.OfBoth.{first_of, second_of}
 use Rattle.schema_names.proofs.tables.entity_places.Goals as goal
 
 pub returns-clause-types : goal.returns-clause-types

@@ -5,7 +5,7 @@ use Rattle.groupings.specs.name_places.PlacesIn.{place_in}
 use Rattle.round_trip.specs.Words.{Table}
 use Rattle.schema_names.specs.Columns.{AreColumnsOf}
 use Rattle.schema_names.specs.declared.columns.TableColumns.{TableColumns}
-use Rattle.schema_names.proofs.OfBoth.{first_of, second_of}
+use Rattle.emc_base.proofs.OfBoth.{first_of, second_of}
 use Rattle.schema_names.proofs.tables.table_places.Goals as goal
 
 pub returns-clause-tables : goal.returns-clause-tables

@@ -4,7 +4,7 @@ use Rattle.groupings.specs.name_places.GivenNames.{first_place}
 use Rattle.groupings.specs.name_places.PlacesIn.{place_in}
 use Rattle.edm_types.specs.declared.model.EntityType.{EntityType}
 use Rattle.entity_state.specs.StateTree.{name_of}
-use Rattle.schema_names.proofs.OfBoth.{first_of, second_of}
+use Rattle.emc_base.proofs.OfBoth.{first_of, second_of}
 use Rattle.data_documents.proofs.entity_documents.tables.type_places.Goals as goal
 
 pub returns-clause-types : goal.returns-clause-types
