@@ -11,7 +11,7 @@ ghost use Rattle.csdl_names.specs.Repeated.{IsRepeated, IsRepeatedInBoth, IsRepe
 use crate::csdl_lists::{RawAssociation, RawContainer, RawEnum, RawModel, RawType, Scope};
 use crate::lookups::Lookups;
 use emc_base::{Memory, Seq};
-use groupings::{Finder, Named, Places, earlier, earlier_of, places_of};
+use groupings::{Finder, Named, Places, earlier_of, places_of};
 use layouts::{Again, Fault, behind_member, first_at, first_twice};
 use std::alloc::Global;
 
@@ -110,22 +110,22 @@ fn first_in_schema(alloc: Global, model: &RawModel, scope: &Scope) -> Result<Opt
         "Name",
         &model.associations,
         &scope.associations,
-    )?;
+    );
     let types = Again {
         others: &[&scope.associations],
         items: &model.types,
         own: &scope.types,
         last: "Name",
     };
-    let of_types = types.first_again(alloc, "EntityType")?;
+    let of_types = types.first_again(alloc, "EntityType");
     let enums = Again {
         others: &[&scope.associations, &scope.types],
         items: &model.enums,
         own: &scope.enums,
         last: "Name",
     };
-    let of_enums = enums.first_again(alloc, "EnumType")?;
-    Ok(earlier(of_associations, earlier(of_types, of_enums)))
+    let of_enums = enums.first_again(alloc, "EnumType");
+    earlier_of(of_associations, earlier_of(of_types, of_enums))
 }
 
 // The least of the names of sets that are given twice, seen from the model.
