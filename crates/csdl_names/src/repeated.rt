@@ -52,8 +52,9 @@ impl Finder<RawEnum, Fault> for Inside {
 
     fn find(&self, alloc: Global, _: usize, item: &RawEnum) -> Result<Option<Fault>, Memory> {
         let places = places_of(alloc, &item.members)?;
-        let found = first_twice(alloc, "Member", "Name", &item.members, &places)?;
-        Ok(found)
+        let found = first_twice(alloc, "Member", "Name", &item.members, &places);
+        drop(places);
+        found
     }
 }
 
@@ -69,8 +70,9 @@ impl Finder<RawAssociation, Fault> for Inside {
         item: &RawAssociation,
     ) -> Result<Option<Fault>, Memory> {
         let places = places_of(alloc, &item.ends)?;
-        let found = first_twice(alloc, "End", "Role", &item.ends, &places)?;
-        Ok(found)
+        let found = first_twice(alloc, "End", "Role", &item.ends, &places);
+        drop(places);
+        found
     }
 }
 
@@ -96,7 +98,9 @@ fn first_in_both<T: Named, U: Named>(
         last: "Name",
     };
     let other = search.first_again(alloc, second);
-    earlier_of(found, other)
+    let least = earlier_of(found, other);
+    drop(known);
+    least
 }
 
 // The least of the names of associations, types and enumeration types that are given twice.
