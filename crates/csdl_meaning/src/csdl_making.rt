@@ -6,6 +6,7 @@ mod ids;
 mod kinds;
 mod lists;
 mod model;
+mod pairs;
 mod props;
 mod sets;
 mod sizes;

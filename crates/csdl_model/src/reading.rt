@@ -21,7 +21,7 @@ use csdl_types::first_type_fault;
 use edm_types::{EntityModel, VocabFault, VocabFile};
 use emc_base::Memory;
 use graphs::{Walk, chain_roots, walk_bases};
-use groupings::earlier;
+use groupings::earlier_of;
 use json_form::{Doc, FromNode};
 use layouts::{Fault, Form, Shape, Stop, first_fault, told};
 use std::alloc::Global;
@@ -48,7 +48,9 @@ fn read_document(alloc: Global, doc: &Doc) -> Result<EntityModel, Stop>
         Some(fault) => Err(Stop::Fault(fault)),
         None => {
             let model = RawModel::read(alloc, doc.root())?;
-            read_lists(alloc, &model)
+            let made = read_lists(alloc, &model);
+            drop(model);
+            made
         }
     }
 }
@@ -116,9 +118,17 @@ fn read_associations(alloc: Global, lookups: &Lookups<'_>) -> Result<EntityModel
     ensures { Reads (BreaksAssociationRules lookups.now.model.now) (meaning lookups.now.model.now) result }
 {
     let order = bases_first(alloc, lookups)?;
-    match first_association_fault(alloc, lookups, order.as_slice())? {
+    read_in_order(alloc, lookups, order.as_slice())
+}
+
+// The same, in an order of the types in which each follows its base.
+fn read_in_order(alloc: Global, lookups: &Lookups<'_>, order: &[usize]) -> Result<EntityModel, Stop>
+    requires { IsBasesFirst (base_at lookups.now.bases.now) (length lookups.now.bases.now) order.now }
+    ensures { Reads (BreaksAssociationRules lookups.now.model.now) (meaning lookups.now.model.now) result }
+{
+    match first_association_fault(alloc, lookups, order)? {
         Some(fault) => Err(Stop::Fault(fault)),
-        None => Ok(make_model(alloc, lookups, order.as_slice())?),
+        None => Ok(make_model(alloc, lookups, order)?),
     }
 }
 
@@ -147,7 +157,7 @@ fn first_association_fault(
         lookups,
         roots: roots.as_slice(),
     };
-    let constraint = first_constraint_fault(alloc, &sides)?;
-    let set = first_set_fault(alloc, &sides, order)?;
-    Ok(earlier(constraint, set))
+    let constraint = first_constraint_fault(alloc, &sides);
+    let set = first_set_fault(alloc, &sides, order);
+    earlier_of(constraint, set)
 }

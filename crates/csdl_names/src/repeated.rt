@@ -11,7 +11,7 @@ ghost use Rattle.csdl_names.specs.Repeated.{IsRepeated, IsRepeatedInBoth, IsRepe
 use crate::csdl_lists::{RawAssociation, RawContainer, RawEnum, RawModel, RawType, Scope};
 use crate::lookups::Lookups;
 use emc_base::{Memory, Seq};
-use groupings::{Finder, Named, Places, earlier, earlier_of, places_of};
+use groupings::{Finder, Named, Places, earlier_of, places_of};
 use layouts::{Again, Fault, behind_member, first_at, first_twice};
 use std::alloc::Global;
 
@@ -52,8 +52,9 @@ impl Finder<RawEnum, Fault> for Inside {
 
     fn find(&self, alloc: Global, _: usize, item: &RawEnum) -> Result<Option<Fault>, Memory> {
         let places = places_of(alloc, &item.members)?;
-        let found = first_twice(alloc, "Member", "Name", &item.members, &places)?;
-        Ok(found)
+        let found = first_twice(alloc, "Member", "Name", &item.members, &places);
+        drop(places);
+        found
     }
 }
 
@@ -69,8 +70,9 @@ impl Finder<RawAssociation, Fault> for Inside {
         item: &RawAssociation,
     ) -> Result<Option<Fault>, Memory> {
         let places = places_of(alloc, &item.ends)?;
-        let found = first_twice(alloc, "End", "Role", &item.ends, &places)?;
-        Ok(found)
+        let found = first_twice(alloc, "End", "Role", &item.ends, &places);
+        drop(places);
+        found
     }
 }
 
@@ -96,7 +98,9 @@ fn first_in_both<T: Named, U: Named>(
         last: "Name",
     };
     let other = search.first_again(alloc, second);
-    earlier_of(found, other)
+    let least = earlier_of(found, other);
+    drop(known);
+    least
 }
 
 // The least of the names of associations, types and enumeration types that are given twice.
@@ -110,22 +114,22 @@ fn first_in_schema(alloc: Global, model: &RawModel, scope: &Scope) -> Result<Opt
         "Name",
         &model.associations,
         &scope.associations,
-    )?;
+    );
     let types = Again {
         others: &[&scope.associations],
         items: &model.types,
         own: &scope.types,
         last: "Name",
     };
-    let of_types = types.first_again(alloc, "EntityType")?;
+    let of_types = types.first_again(alloc, "EntityType");
     let enums = Again {
         others: &[&scope.associations, &scope.types],
         items: &model.enums,
         own: &scope.enums,
         last: "Name",
     };
-    let of_enums = enums.first_again(alloc, "EnumType")?;
-    Ok(earlier(of_associations, earlier(of_types, of_enums)))
+    let of_enums = enums.first_again(alloc, "EnumType");
+    earlier_of(of_associations, earlier_of(of_types, of_enums))
 }
 
 // The least of the names of sets that are given twice, seen from the model.

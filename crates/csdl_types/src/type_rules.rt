@@ -15,7 +15,7 @@ use crate::sizes::keep_small;
 use csdl_names::{RawEnum, RawModel, RawType, Scope, bases_of};
 use emc_base::Memory;
 use graphs::{Walk, walk_bases};
-use groupings::{Finder, earlier};
+use groupings::{Finder, earlier, earlier_of};
 use layouts::{Fault, Rule, fault_at_item, first_in_list};
 use std::alloc::Global;
 
@@ -39,15 +39,13 @@ impl<'a> Finder<RawType, Fault> for LaterRules<'a> {
 
     fn find(&self, alloc: Global, place: usize, item: &RawType) -> Result<Option<Fault>, Memory> {
         let types = self.model.types.as_slice();
-        let key = first_key_fault(alloc, item)?;
-        let key_prop = first_key_prop_fault(alloc, item)?;
-        let inherited = first_inherited_fault(alloc, types, self.bases, place, item)?;
-        let prop_type = first_prop_type_fault(alloc, self.scope, item)?;
-        let bound = first_bound_fault(alloc, item)?;
-        Ok(earlier(
-            key,
-            earlier(key_prop, earlier(inherited, earlier(prop_type, bound))),
-        ))
+        let key = first_key_fault(alloc, item);
+        let key_prop = first_key_prop_fault(alloc, item);
+        let inherited = first_inherited_fault(alloc, types, self.bases, place, item);
+        let prop_type = first_prop_type_fault(alloc, self.scope, item);
+        let bound = first_bound_fault(alloc, item);
+        let of_props = earlier_of(inherited, earlier_of(prop_type, bound));
+        earlier_of(key, earlier_of(key_prop, of_props))
     }
 }
 

@@ -1,8 +1,8 @@
-ghost use Rattle.std.specs.Prelude.{◌≡◌, IfOk, map, string_bytes};
+ghost use Rattle.std.specs.Prelude.{◌≡◌, ◌∷◌, [], IfOk, OnOk, codes, map, string_bytes};
 ghost use Rattle.serde_json.specs.Data.{string, array, object};
 ghost use Rattle.serde_json.specs.Written.{compact_text};
 ghost use Rattle.serde_json.specs.View.{items_of, items_view, members_view, view};
-ghost use Rattle.json_form.specs.Trees.{key_tree, place_tree, quoted, value_tree};
+ghost use Rattle.json_form.specs.Trees.{key_tree, place_tree, put_all, quoted, value_tree};
 
 use emc_base::{Key, Memory, Place, Value};
 use serde_json::{Map, Value as Tree};
@@ -76,11 +76,19 @@ fn place_tree(alloc: Global, place: &Place) -> Result<Tree, Memory>
     ensures { IfOk result (λ tree. view tree ≡ place_tree place.now) }
 {
     let mut members = Map::new(alloc);
-    let key = key_tree(alloc, &place.key)?;
-    serde_json::put(&mut members, alloc, "key", key)?;
-    let name = text_tree(alloc, place.name.as_str())?;
-    serde_json::put(&mut members, alloc, "name", name)?;
-    let part = text_tree(alloc, place.part.as_str())?;
-    serde_json::put(&mut members, alloc, "part", part)?;
+    put_parts(alloc, &mut members, place)?;
     Ok(object_tree(members))
+}
+
+// Puts the three parts of a place into an object.
+fn put_parts(alloc: Global, members: &mut Map<String, Tree>, place: &Place) -> Result<(), Memory>
+    ensures { OnOk result (members_view members.new.entries ≡ put_all (members_view members.old.entries) ((codes "key", key_tree place.now.key) ∷ (codes "name", string place.now.name) ∷ (codes "part", string place.now.part) ∷ [])) }
+{
+    let key = key_tree(alloc, &place.key)?;
+    serde_json::put(members, alloc, "key", key)?;
+    let name = text_tree(alloc, place.name.as_str())?;
+    serde_json::put(members, alloc, "name", name)?;
+    let part = text_tree(alloc, place.part.as_str())?;
+    serde_json::put(members, alloc, "part", part)?;
+    Ok(())
 }

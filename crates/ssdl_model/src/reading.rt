@@ -46,7 +46,9 @@ fn read_document(alloc: Global, doc: &Doc) -> Result<StoreModel, Stop>
         Some(fault) => Err(Stop::Fault(fault)),
         None => {
             let store = read_store(alloc, doc.root())?;
-            read_lists(alloc, &store)
+            let made = read_lists(alloc, &store);
+            drop(store);
+            made
         }
     }
 }

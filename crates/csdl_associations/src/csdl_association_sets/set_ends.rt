@@ -9,7 +9,7 @@ use crate::csdl_association_sets::constraints::Constraints;
 use csdl_names::{Lookups, RawAssociation, RawAssociationSet, RawSetEnd};
 use emc_base::Memory;
 use graphs::Ancestry;
-use groupings::{Finder, earlier, holds_each_once};
+use groupings::{Finder, earlier_of, holds_each_once};
 use layouts::{Fault, Rule, fault_here_if, fault_if};
 use std::alloc::Global;
 use std::marker::Model;
@@ -45,11 +45,11 @@ impl<'a> Finder<RawAssociationSet, Fault> for SetEnds<'a> {
         item: &RawAssociationSet,
     ) -> Result<Option<Fault>, Memory> {
         let has_other_roles = has_other_roles(alloc, self.lookups, item)?;
-        let roles = fault_if(alloc, has_other_roles, Rule::EndRoles, "End")?;
+        let roles = fault_if(alloc, has_other_roles, Rule::EndRoles, "End");
         let has_other_dependent = self.constraints.has_other_dependent(item);
-        let dependent = fault_here_if(alloc, has_other_dependent, Rule::DependentKey)?;
-        let types = fault_if(alloc, self.has_other_type(item), Rule::EndType, "End")?;
-        Ok(earlier(roles, earlier(dependent, types)))
+        let dependent = fault_here_if(alloc, has_other_dependent, Rule::DependentKey);
+        let types = fault_if(alloc, self.has_other_type(item), Rule::EndType, "End");
+        earlier_of(roles, earlier_of(dependent, types))
     }
 }
 

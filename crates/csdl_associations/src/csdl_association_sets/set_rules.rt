@@ -1,4 +1,6 @@
-ghost use Rattle.std.specs.Prelude.{◌≡◌, length, IfOk};
+ghost use Rattle.std.specs.Prelude.{◌≡◌, codes, length, IfOk};
+ghost use Rattle.json_form.specs.declared.pointer.Step.TheVariants.{Member};
+ghost use Rattle.layouts.specs.Inside.{Under};
 ghost use Rattle.groupings.specs.least_fault.Least.{IsLeast};
 ghost use Rattle.layouts.specs.Faults.{fault_cmp};
 ghost use Rattle.graphs.specs.base_chains.Chains.{base_at};
@@ -13,7 +15,7 @@ use crate::csdl_association_sets::set_ends::SetEnds;
 use crate::csdl_constraints::Sides;
 use csdl_names::Lookups;
 use emc_base::Memory;
-use groupings::earlier;
+use groupings::earlier_of;
 use layouts::{Fault, behind_member, first_at};
 use std::alloc::Global;
 
@@ -28,13 +30,12 @@ pub fn first_set_fault(
     ensures { IfOk result (λ found. IsLeast fault_cmp (BreaksSetRules sides.now.lookups.now.model.now) found) }
 {
     let types = ConcreteTypes::of(alloc, sides.lookups, order)?;
-    let inside = first_in_container(alloc, sides, order, &types)?;
-    let container = behind_member(alloc, "EntityContainer", inside)?;
-    let ends = first_end_type_fault(alloc, sides.lookups, &types)?;
-    Ok(earlier(container, ends))
+    let container = first_in_container(alloc, sides, order, &types);
+    let ends = first_end_type_fault(alloc, sides.lookups, &types);
+    earlier_of(container, ends)
 }
 
-// The least fault in the container.
+// The least fault in the container, seen from the model.
 fn first_in_container(
     alloc: Global,
     sides: &Sides<'_>,
@@ -43,12 +44,13 @@ fn first_in_container(
 ) -> Result<Option<Fault>, Memory>
     requires same { types.now ≡ sides.now.lookups.now.model.now }
     requires order { IsBasesFirst (base_at sides.now.lookups.now.bases.now) (length sides.now.lookups.now.bases.now) order.now }
-    ensures { IfOk result (λ found. IsLeast fault_cmp (BreaksContainer sides.now.lookups.now.model.now) found) }
+    ensures { IfOk result (IsLeast fault_cmp (Under (Member (codes "EntityContainer")) (BreaksContainer sides.now.lookups.now.model.now))) }
 {
     let sets = &sides.lookups.model.container.sets;
-    let elements = first_at(alloc, "EntitySet", types, sets)?;
-    let association_sets = first_in_association_sets(alloc, sides, order)?;
-    Ok(earlier(elements, association_sets))
+    let elements = first_at(alloc, "EntitySet", types, sets);
+    let association_sets = first_in_association_sets(alloc, sides, order);
+    let found = earlier_of(elements, association_sets)?;
+    behind_member(alloc, "EntityContainer", found)
 }
 
 // The least fault of association sets.
@@ -61,9 +63,9 @@ fn first_in_association_sets(
     ensures { IfOk result (λ found. IsLeast fault_cmp (BreaksSets sides.now.lookups.now.model.now) found) }
 {
     let constraints = Constraints::of(alloc, sides)?;
-    let ends = first_end_fault(alloc, sides.lookups, &constraints, order)?;
-    let arrows = first_arrow_fault(alloc, sides.lookups.model, &constraints)?;
-    Ok(earlier(ends, arrows))
+    let ends = first_end_fault(alloc, sides.lookups, &constraints, order);
+    let arrows = first_arrow_fault(alloc, sides.lookups.model, &constraints);
+    earlier_of(ends, arrows)
 }
 
 // The least fault of association sets against V15, V18 and V20.
@@ -79,6 +81,7 @@ fn first_end_fault(
 {
     let search = SetEnds::of(alloc, lookups, constraints, order)?;
     let sets = &lookups.model.container.association_sets;
-    let found = first_at(alloc, "AssociationSet", &search, sets)?;
-    Ok(found)
+    let found = first_at(alloc, "AssociationSet", &search, sets);
+    drop(search);
+    found
 }

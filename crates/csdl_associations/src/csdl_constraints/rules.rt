@@ -12,7 +12,7 @@ use crate::csdl_constraints::named::named_associations;
 use crate::csdl_constraints::sides::Sides;
 use csdl_names::{Lookups, RawAssociation, RawAssociationSet};
 use emc_base::Memory;
-use groupings::{Finder, earlier};
+use groupings::{Finder, earlier_of};
 use layouts::{Fault, Rule, fault_if, first_at};
 use std::alloc::Global;
 
@@ -110,10 +110,10 @@ fn first_in(
     ensures { IfOk result (λ found. IsLeast fault_cmp (IsFaultBy sides.now.lookups.now.model.now association.now (IsTrue has_other)) found) }
 {
     let is_broken = breaks_mults(alloc, sides, association)?;
-    let mults = fault_if(alloc, is_broken, Rule::Multiplicities, "End")?;
     let is_unlike = breaks_constraint(alloc, sides, association, has_other)?;
-    let lists = fault_if(alloc, is_unlike, Rule::Constraint, "ReferentialConstraint")?;
-    Ok(earlier(mults, lists))
+    let mults = fault_if(alloc, is_broken, Rule::Multiplicities, "End");
+    let lists = fault_if(alloc, is_unlike, Rule::Constraint, "ReferentialConstraint");
+    earlier_of(mults, lists)
 }
 
 // Whether the association has a constraint, and its lists don't match.

@@ -4,6 +4,7 @@ ghost use Rattle.csdl_meaning.specs.ModelMeaning.{assoc_between, assoc_of, const
 ghost use Rattle.csdl_meaning.specs.csdl_making.Making.{AreStarts};
 
 use crate::csdl_making::ids::{found_id, set_id, type_id};
+use crate::csdl_making::pairs::both;
 use csdl_names::{Lookups, RawAssociation, RawAssociationSet, RawConstraint, RawEnd, RawRole};
 use edm_types::{Assoc, Constraint, End, Mult};
 use emc_base::{Memory, PropId, Seq, Txt, put_found};
@@ -58,9 +59,10 @@ fn assoc_between(
     requires starts { AreStarts lookups.now.model.now starts.now }
     ensures { IfOk result (λ assoc. Some assoc ≡ assoc_between lookups.now.model.now set.now association.now (first.now ∷ second.now ∷ [])) }
 {
-    let (set_name, assoc_name) = names_of(alloc, set, association)?;
-    let (one, other) = ends_of(alloc, lookups, set, first, second)?;
-    let constraint = constraint_in(alloc, lookups, starts, association, first)?;
+    let names = names_of(alloc, set, association);
+    let ends = ends_of(alloc, lookups, set, first, second);
+    let constraint = constraint_in(alloc, lookups, starts, association, first);
+    let ((set_name, assoc_name), ((one, other), constraint)) = both(names, both(ends, constraint))?;
     Ok(Assoc {
         set_name,
         assoc_name,
@@ -78,9 +80,7 @@ fn names_of(
 ) -> Result<(Txt, Txt), Memory>
     ensures { IfOk result (λ names. names ≡ (set.now.name, association.now.name)) }
 {
-    let set_name = set.name.copy(alloc)?;
-    let assoc_name = association.name.copy(alloc)?;
-    Ok((set_name, assoc_name))
+    both(set.name.copy(alloc), association.name.copy(alloc))
 }
 
 // Both ends of an association, with the entity sets that the association set has there.
@@ -93,9 +93,10 @@ fn ends_of(
 ) -> Result<(End, End), Memory>
     ensures { IfOk result (λ ends. ends ≡ (end_of lookups.now.model.now set.now first.now, end_of lookups.now.model.now set.now second.now)) }
 {
-    let one = end_of(alloc, lookups, set, first)?;
-    let other = end_of(alloc, lookups, set, second)?;
-    Ok((one, other))
+    both(
+        end_of(alloc, lookups, set, first),
+        end_of(alloc, lookups, set, second),
+    )
 }
 
 // An end of an association, with the entity set that the association set has there.
@@ -161,10 +162,14 @@ fn constraint_of(
     requires starts { AreStarts lookups.now.model.now starts.now }
     ensures { IfOk result (λ made. made ≡ constraint_of lookups.now.model.now association.now first.now constraint.now) }
 {
+    let dependent_first = constraint.dependent.role.as_str() == first.role.as_str();
+    let principal = props_of_side(alloc, lookups, starts, association, &constraint.principal);
+    let dependent = props_of_side(alloc, lookups, starts, association, &constraint.dependent);
+    let (principal, dependent) = both(principal, dependent)?;
     Ok(Constraint {
-        dependent_first: constraint.dependent.role.as_str() == first.role.as_str(),
-        principal: props_of_side(alloc, lookups, starts, association, &constraint.principal)?,
-        dependent: props_of_side(alloc, lookups, starts, association, &constraint.dependent)?,
+        dependent_first,
+        principal,
+        dependent,
     })
 }
 

@@ -10,6 +10,7 @@ use crate::csdl_making::associations::assocs_in;
 use crate::csdl_making::forest::forest_in;
 use crate::csdl_making::ids::starts_of;
 use crate::csdl_making::kinds::enum_kinds;
+use crate::csdl_making::pairs::both;
 use crate::csdl_making::props::props_in;
 use crate::csdl_making::sets::sets_in;
 use crate::csdl_making::sizes::keep_kinds_small;
@@ -49,10 +50,13 @@ fn model_of(
     requires enums { enums.now ≡ map enum_kind lookups.now.model.now.enums }
     ensures { IfOk result (λ made. made ≡ meaning lookups.now.model.now) }
 {
-    let (namespace, alias, container) = names_of(alloc, lookups.model)?;
-    let (types, props) = members_of(alloc, lookups, order, starts, enums)?;
-    let (sets, assocs) = sets_of(alloc, lookups, starts)?;
-    let forest = forest_in(alloc, lookups)?;
+    let names = names_of(alloc, lookups.model);
+    let members = members_of(alloc, lookups, order, starts, enums);
+    let sets = sets_of(alloc, lookups, starts);
+    let forest = forest_in(alloc, lookups);
+    let (head, tail) = both(both(names, members), both(sets, forest))?;
+    let ((namespace, alias, container), (types, props)) = head;
+    let ((sets, assocs), forest) = tail;
     Ok(EntityModel {
         namespace,
         alias,

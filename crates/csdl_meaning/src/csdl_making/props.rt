@@ -4,6 +4,7 @@ ghost use Rattle.csdl_meaning.specs.Meaning.{prop_of, props_in};
 
 use crate::csdl_making::ids::type_id;
 use crate::csdl_making::kinds::kind_of;
+use crate::csdl_making::pairs::both;
 use csdl_names::{Lookups, RawProp};
 use edm_types::Prop;
 use emc_base::{Kind, Memory, Seq};
@@ -53,10 +54,14 @@ fn make_prop(
     requires enums { enums.now ≡ map enum_kind lookups.now.model.now.enums }
     ensures { IfOk result (λ made. made ≡ prop_of lookups.now.model.now owner prop.now) }
 {
+    let owner = type_id(owner)?;
+    let name = prop.name.copy(alloc);
+    let kind = kind_of(alloc, lookups, enums, prop);
+    let (name, kind) = both(name, kind)?;
     Ok(Prop {
-        owner: type_id(owner)?,
-        name: prop.name.copy(alloc)?,
-        kind: kind_of(alloc, lookups, enums, prop)?,
+        owner,
+        name,
+        kind,
         nullable: prop.nullable,
     })
 }

@@ -8,6 +8,7 @@ ghost use Rattle.csdl_meaning.specs.csdl_making.Making.{AddInherited, AreInherit
 
 use crate::csdl_making::ids::{base_id, found_id, prop_id};
 use crate::csdl_making::lists::{inherited, take_at};
+use crate::csdl_making::pairs::both;
 use csdl_names::{Lookups, PropPlace, RawModel, RawNav, RawType};
 use edm_types::{EntityType, Nav};
 use emc_base::{Memory, PropId, Seq, Txt, put_found};
@@ -214,13 +215,16 @@ fn make_nav(alloc: Global, lookups: &Lookups<'_>, nav: &RawNav) -> Result<Nav, M
     ensures { IfOk result (λ made. made ≡ nav_of lookups.now.model.now nav.now) }
 {
     let assoc_name = match lookups.association_of(&nav.relationship) {
-        None => Txt::of(alloc, "")?,
-        Some(association) => association.name.copy(alloc)?,
+        None => Txt::of(alloc, ""),
+        Some(association) => association.name.copy(alloc),
     };
+    let names = both(nav.name.copy(alloc), assoc_name);
+    let roles = both(nav.from_role.copy(alloc), nav.to_role.copy(alloc));
+    let ((name, assoc_name), (from_role, to_role)) = both(names, roles)?;
     Ok(Nav {
-        name: nav.name.copy(alloc)?,
+        name,
         assoc_name,
-        from_role: nav.from_role.copy(alloc)?,
-        to_role: nav.to_role.copy(alloc)?,
+        from_role,
+        to_role,
     })
 }

@@ -1,4 +1,4 @@
-ghost use Rattle.std.specs.Prelude.{◌≡◌, IfOk, map};
+ghost use Rattle.std.specs.Prelude.{◌≡◌, IfOk, Ok, map};
 ghost use Rattle.json_form.specs.Nodes.{part_of};
 ghost use Rattle.json_form.specs.from_nodes.Reading.{items_at, optional_text_at, text_at};
 
@@ -46,4 +46,14 @@ pub fn two_lists_at<T: FromNode, U: FromNode>(
     let first = list_at(alloc, node, one)?;
     let second = list_at(alloc, node, other)?;
     Ok((first, second))
+}
+
+/// Both of two things, where there are both.
+pub fn both<A: Drop, B: Drop>(
+    first: Result<A, Memory>,
+    second: Result<B, Memory>,
+) -> Result<(A, B), Memory>
+    ensures { IfOk result (λ pair. (first ≡ Ok pair.0) × (second ≡ Ok pair.1)) }
+{
+    Ok((first?, second?))
 }

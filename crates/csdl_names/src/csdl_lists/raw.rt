@@ -2,7 +2,7 @@ ghost use Rattle.std.specs.Prelude.{◌≡◌, IfOk};
 ghost use Rattle.json_form.specs.Nodes.{part_of};
 ghost use Rattle.csdl_names.specs.csdl_lists.Raw.{bound_at, key_at};
 
-use crate::csdl_lists::pairs::{text_and_optional_at, two_lists_at, two_texts_at};
+use crate::csdl_lists::pairs::{both, text_and_optional_at, two_lists_at, two_texts_at};
 use emc_base::{Memory, Seq, Txt};
 use json_form::{
     FromNode, Node, flag_at, list_at, object_at, optional_object_at, text_at, texts_at, whole_at,
@@ -46,8 +46,9 @@ impl FromNode for RawAssociationSet {
     ghost of = { raw_association_set };
 
     fn read(alloc: Global, node: Node<'_>) -> Result<RawAssociationSet, Memory> {
-        let (name, association) = two_texts_at(alloc, node, "Name", "Association")?;
-        let ends = list_at(alloc, node, "End")?;
+        let names = two_texts_at(alloc, node, "Name", "Association");
+        let ends = list_at(alloc, node, "End");
+        let ((name, association), ends) = both(names, ends)?;
         Ok(RawAssociationSet {
             name,
             association,
@@ -93,8 +94,9 @@ impl FromNode for RawEnd {
     ghost of = { raw_end };
 
     fn read(alloc: Global, node: Node<'_>) -> Result<RawEnd, Memory> {
-        let (role, ty) = two_texts_at(alloc, node, "Role", "Type")?;
-        let multiplicity = text_at(alloc, node, "Multiplicity")?;
+        let texts = two_texts_at(alloc, node, "Role", "Type");
+        let multiplicity = text_at(alloc, node, "Multiplicity");
+        let ((role, ty), multiplicity) = both(texts, multiplicity)?;
         Ok(RawEnd {
             role,
             ty,
@@ -162,8 +164,9 @@ impl FromNode for RawEnum {
     ghost of = { raw_enum };
 
     fn read(alloc: Global, node: Node<'_>) -> Result<RawEnum, Memory> {
-        let (name, underlying) = text_and_optional_at(alloc, node, "Name", "UnderlyingType")?;
-        let members = list_at(alloc, node, "Member")?;
+        let texts = text_and_optional_at(alloc, node, "Name", "UnderlyingType");
+        let members = list_at(alloc, node, "Member");
+        let ((name, underlying), members) = both(texts, members)?;
         Ok(RawEnum {
             name,
             underlying,
@@ -191,8 +194,9 @@ impl FromNode for RawNav {
     ghost of = { raw_nav };
 
     fn read(alloc: Global, node: Node<'_>) -> Result<RawNav, Memory> {
-        let (name, relationship) = two_texts_at(alloc, node, "Name", "Relationship")?;
-        let (from_role, to_role) = two_texts_at(alloc, node, "FromRole", "ToRole")?;
+        let names = two_texts_at(alloc, node, "Name", "Relationship");
+        let roles = two_texts_at(alloc, node, "FromRole", "ToRole");
+        let ((name, relationship), (from_role, to_role)) = both(names, roles)?;
         Ok(RawNav {
             name,
             relationship,
@@ -256,10 +260,11 @@ impl FromNode for RawType {
     ghost of = { raw_type };
 
     fn read(alloc: Global, node: Node<'_>) -> Result<RawType, Memory> {
-        let (name, base) = text_and_optional_at(alloc, node, "Name", "BaseType")?;
+        let names = text_and_optional_at(alloc, node, "Name", "BaseType");
         let is_abstract = flag_at(node, "Abstract", false);
-        let key = key_at(alloc, node)?;
-        let (props, navs) = two_lists_at(alloc, node, "Property", "NavigationProperty")?;
+        let key = key_at(alloc, node);
+        let lists = two_lists_at(alloc, node, "Property", "NavigationProperty");
+        let ((name, base), (key, (props, navs))) = both(names, both(key, lists))?;
         Ok(RawType {
             name,
             base,
@@ -312,9 +317,10 @@ impl FromNode for RawAssociation {
     ghost of = { raw_association };
 
     fn read(alloc: Global, node: Node<'_>) -> Result<RawAssociation, Memory> {
-        let name = text_at(alloc, node, "Name")?;
-        let ends = list_at(alloc, node, "End")?;
-        let constraint = optional_object_at(alloc, node, "ReferentialConstraint")?;
+        let name = text_at(alloc, node, "Name");
+        let ends = list_at(alloc, node, "End");
+        let constraint = optional_object_at(alloc, node, "ReferentialConstraint");
+        let (name, (ends, constraint)) = both(name, both(ends, constraint))?;
         Ok(RawAssociation {
             name,
             ends,
@@ -340,8 +346,9 @@ impl FromNode for RawContainer {
     ghost of = { raw_container };
 
     fn read(alloc: Global, node: Node<'_>) -> Result<RawContainer, Memory> {
-        let name = text_at(alloc, node, "Name")?;
-        let (sets, association_sets) = two_lists_at(alloc, node, "EntitySet", "AssociationSet")?;
+        let name = text_at(alloc, node, "Name");
+        let lists = two_lists_at(alloc, node, "EntitySet", "AssociationSet");
+        let (name, (sets, association_sets)) = both(name, lists)?;
         Ok(RawContainer {
             name,
             sets,
@@ -373,10 +380,13 @@ impl FromNode for RawModel {
     ghost of = { raw_model };
 
     fn read(alloc: Global, node: Node<'_>) -> Result<RawModel, Memory> {
-        let (namespace, alias) = text_and_optional_at(alloc, node, "Namespace", "Alias")?;
-        let container = object_at(alloc, node, "EntityContainer")?;
-        let (types, enums) = two_lists_at(alloc, node, "EntityType", "EnumType")?;
-        let associations = list_at(alloc, node, "Association")?;
+        let names = text_and_optional_at(alloc, node, "Namespace", "Alias");
+        let container = object_at(alloc, node, "EntityContainer");
+        let lists = two_lists_at(alloc, node, "EntityType", "EnumType");
+        let associations = list_at(alloc, node, "Association");
+        let (head, tail) = both(both(names, container), both(lists, associations))?;
+        let ((namespace, alias), container) = head;
+        let ((types, enums), associations) = tail;
         Ok(RawModel {
             namespace,
             alias,

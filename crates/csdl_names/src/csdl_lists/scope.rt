@@ -3,6 +3,7 @@ ghost use Rattle.groupings.specs.name_places.GivenNames.{first_place};
 ghost use Rattle.groupings.specs.name_places.PlacesIn.{place_in};
 ghost use Rattle.csdl_names.specs.csdl_lists.Scopes.{IsScopeOf, local_in, names_of};
 
+use crate::csdl_lists::pairs::both;
 use crate::csdl_lists::raw::RawModel;
 use emc_base::{Memory, Seq, Txt};
 use groupings::{Named, Places, places_of, rest_after};
@@ -30,13 +31,11 @@ impl Scope {
     pub fn of(alloc: Global, model: &RawModel) -> Result<Scope, Memory>
         ensures { IfOk result (IsScopeOf model.now) }
     {
-        let (namespace, alias) = dotted_names(alloc, &model.namespace, &model.alias)?;
-        let (types, enums) = two_places_of(alloc, &model.types, &model.enums)?;
-        let (associations, sets) = two_places_of(
-            alloc,
-            &model.associations,
-            &model.container.sets,
-        )?;
+        let dotted = dotted_names(alloc, &model.namespace, &model.alias);
+        let types = two_places_of(alloc, &model.types, &model.enums);
+        let sets = two_places_of(alloc, &model.associations, &model.container.sets);
+        let ((namespace, alias), places) = both(dotted, both(types, sets))?;
+        let ((types, enums), (associations, sets)) = places;
         Ok(Scope {
             namespace,
             alias,

@@ -14,7 +14,9 @@ pub fn are_apart<T: Named>(alloc: Global, items: &[T]) -> Result<bool, Memory>
     ensures { IfOk result (λ answer. IsTrue answer ↔ AreApart (map T.name_in items.now)) }
 {
     let places = first_places(alloc, items)?;
-    Ok(stand_first(&places, items))
+    let answer = stand_first(&places, items);
+    drop(places);
+    Ok(answer)
 }
 
 /// Whether the list names each of these once, in any order, and nothing else. One that stands twice among these is one. `Memory` comes
@@ -27,8 +29,25 @@ pub fn holds_each_once<T: Named, U: Named>(
     ensures { IfOk result (λ answer. IsTrue answer ↔ HoldsEachOnce (map T.name_in these.now) (map U.name_in list.now)) }
 {
     let wanted = first_places(alloc, these)?;
+    let answer = holds_wanted(alloc, &wanted, these, list);
+    drop(wanted);
+    answer
+}
+
+// The same, where the places of those are known.
+fn holds_wanted<T: Named, U: Named>(
+    alloc: Global,
+    wanted: &Places,
+    these: &[T],
+    list: &[U],
+) -> Result<bool, Memory>
+    requires { place_in wanted.now ≡ first_place T.name_in these.now }
+    ensures { IfOk result (λ answer. IsTrue answer ↔ HoldsEachOnce (map T.name_in these.now) (map U.name_in list.now)) }
+{
     let held = first_places(alloc, list)?;
-    Ok(holds_each(&wanted, &held, these, list))
+    let answer = holds_each(wanted, &held, these, list);
+    drop(held);
+    Ok(answer)
 }
 
 // The same, where the places of both lists are known.

@@ -3,6 +3,7 @@ ghost use Rattle.json_form.specs.Nodes.{part_of};
 ghost use Rattle.json_form.specs.from_nodes.Reading.{items_at, object_at, optional_text_at, text_at};
 ghost use Rattle.ssdl_model.specs.ssdl_lists.RawStore.{raw_store, raw_table, raw_tables};
 
+use crate::pairs::both;
 use csdl_names::{RawContainer, RawModel, RawType};
 use emc_base::{Memory, Seq, Txt};
 use json_form::{Node, items_at, list_at, optional_text_at, text_at, texts_at};
@@ -13,10 +14,13 @@ use std::alloc::Global;
 pub fn read_store(alloc: Global, node: Node<'_>) -> Result<RawModel, Memory>
     ensures { IfOk result (λ store. store ≡ raw_store (part_of node.entry)) }
 {
-    let (namespace, alias) = read_names(alloc, node)?;
-    let container = read_container(alloc, node)?;
-    let types = read_types(alloc, node)?;
-    let associations = list_at(alloc, node, "Association")?;
+    let names = read_names(alloc, node);
+    let container = read_container(alloc, node);
+    let types = read_types(alloc, node);
+    let associations = list_at(alloc, node, "Association");
+    let (head, tail) = both(both(names, container), both(types, associations))?;
+    let ((namespace, alias), container) = head;
+    let (types, associations) = tail;
     Ok(RawModel {
         namespace,
         alias,
@@ -74,9 +78,10 @@ fn read_types(alloc: Global, node: Node<'_>) -> Result<Seq<RawType>, Memory>
 fn read_type(alloc: Global, node: Node<'_>) -> Result<RawType, Memory>
     ensures { IfOk result (λ table. table ≡ raw_table (part_of node.entry)) }
 {
-    let name = text_at(alloc, node, "Name")?;
-    let key = texts_at(alloc, node, "Key")?;
-    let props = list_at(alloc, node, "Property")?;
+    let name = text_at(alloc, node, "Name");
+    let key = texts_at(alloc, node, "Key");
+    let props = list_at(alloc, node, "Property");
+    let (name, (key, props)) = both(name, both(key, props))?;
     Ok(RawType {
         name,
         base: None,

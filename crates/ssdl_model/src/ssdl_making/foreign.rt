@@ -5,6 +5,7 @@ ghost use Rattle.csdl_names.specs.csdl_lists.References.{names_in};
 ghost use Rattle.ssdl_model.specs.ssdl_lists.Tables.{table_in, table_of};
 ghost use Rattle.ssdl_model.specs.ssdl_making.StoreMeaning.{key_meant, key_of_association, table_at};
 
+use crate::pairs::both;
 use crate::ssdl_lists::table_at;
 use crate::ssdl_making::ids::{cols_named, table_id};
 use csdl_names::{Lookups, RawAssociation, RawConstraint};
@@ -58,16 +59,19 @@ fn key_with(
     requires { table_in tables.now ≡ table_of (names_in lookups.now.model.now) lookups.now.model.now }
     ensures { IfOk result (λ key. key ≡ key_meant lookups.now.model.now association.now constraint.now) }
 {
-    let name = association.name.copy(alloc)?;
     let dependent = lookups.type_of_role(association, &constraint.dependent.role);
     let principal = lookups.type_of_role(association, &constraint.principal.role);
-    let from_cols = cols_named(alloc, lookups, dependent, &constraint.dependent.props)?;
-    let to_cols = cols_named(alloc, lookups, principal, &constraint.principal.props)?;
+    let from = table_of_type(lookups, tables, dependent)?;
+    let to = table_of_type(lookups, tables, principal)?;
+    let name = association.name.copy(alloc);
+    let from_cols = cols_named(alloc, lookups, dependent, &constraint.dependent.props);
+    let to_cols = cols_named(alloc, lookups, principal, &constraint.principal.props);
+    let (name, (from_cols, to_cols)) = both(name, both(from_cols, to_cols))?;
     Ok(ForeignKey {
         name,
-        from: table_of_type(lookups, tables, dependent)?,
+        from,
         from_cols,
-        to: table_of_type(lookups, tables, principal)?,
+        to,
         to_cols,
     })
 }

@@ -3,6 +3,7 @@ ghost use Rattle.csdl_names.specs.csdl_lists.References.{names_in};
 ghost use Rattle.ssdl_model.specs.ssdl_lists.Tables.{table_in, table_of};
 ghost use Rattle.ssdl_model.specs.ssdl_making.StoreMeaning.{store_meaning};
 
+use crate::pairs::both;
 use crate::ssdl_making::foreign::keys_in;
 use crate::ssdl_making::tables::tables_in;
 use csdl_names::Lookups;
@@ -20,10 +21,17 @@ pub fn make_store(
     requires { table_in tables.now ≡ table_of (names_in lookups.now.model.now) lookups.now.model.now }
     ensures { IfOk result (λ made. made ≡ store_meaning lookups.now.model.now) }
 {
+    let model = lookups.model;
+    let names = both(
+        model.namespace.copy(alloc),
+        model.container.name.copy(alloc),
+    );
+    let lists = both(tables_in(alloc, lookups), keys_in(alloc, lookups, tables));
+    let ((namespace, container), (tables, keys)) = both(names, lists)?;
     Ok(StoreModel {
-        namespace: lookups.model.namespace.copy(alloc)?,
-        container: lookups.model.container.name.copy(alloc)?,
-        tables: tables_in(alloc, lookups)?,
-        keys: keys_in(alloc, lookups, tables)?,
+        namespace,
+        container,
+        tables,
+        keys,
     })
 }

@@ -22,7 +22,7 @@ returns-in-Some c =
 pub returns-in_ok-model-in-None : goal.returns-in_ok-model-in-None
 returns-in_ok-model-in-None c =
     let d = tree_of c.args.doc.now in
-    let Q : RawModel → Type 0 = λ raw. Reads (IsListFault raw) (meaning raw) c.read_lists.result in
+    let Q : RawModel → Type 0 = λ raw. Reads (IsListFault raw) (meaning raw) c.read_lists-made.result in
     let R : Data → Type 0 = λ e. Q (raw_model e) in
-    passes_layout (Object Model) d (IsListFault (raw_model d)) (meaning (raw_model d)) (part_of c.root.result) c.root.ensures c.in_ok-fault.field-0 c.in_ok-fault.ensures c.read_lists.result c.in-None.is
-    (subst R c.root-in-None.ensures (subst Q c.in_ok-model-in-None.ensures c.read_lists.ensures))
+    passes_layout (Object Model) d (IsListFault (raw_model d)) (meaning (raw_model d)) (part_of c.root.result) c.root.ensures c.in_ok-fault.field-0 c.in_ok-fault.ensures c.read_lists-made.result c.in-None.is
+    (subst R c.root-in-None.ensures (subst Q c.in_ok-model-in-None.ensures c.read_lists-made.ensures))

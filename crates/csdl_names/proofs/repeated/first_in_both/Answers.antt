@@ -12,6 +12,6 @@ returns g c =
     let names = map g.T.Named.name_in firsts in
     least_searches (IsRepeatedIn g.T.Named.name_in [] c.args.first.now (codes "Name") firsts)
     (IsRepeatedIn g.U.Named.name_in names c.args.second.now (codes "Name") c.args.seconds.now)
-    c.first_twice-found.result c.first_again-other.result c.earlier_of.result c.earlier_of.ensures c.first_twice-found.ensures
+    c.first_twice-found.result c.first_again-other.result c.earlier_of-least.result c.earlier_of-least.ensures c.first_twice-found.ensures
     (searched (IsLeast fault_cmp (IsRepeatedIn g.U.Named.name_in names c.args.second.now (codes "Name") c.args.seconds.now)) c.first_again-other.result c.first_again-other.ensures
     (λ found again. again names (of_one g.T.Named.name_in firsts _ c.in_ok-known.ensures)))

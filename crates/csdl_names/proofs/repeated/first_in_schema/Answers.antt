@@ -1,7 +1,9 @@
 use Rattle.std.proofs.Common.{◌⊎◌, [], ◌++◌, map, codes}
+use Rattle.groupings.specs.least_fault.Least.{IsLeast}
+use Rattle.layouts.specs.Faults.{fault_cmp}
 use Rattle.layouts.specs.rule_places.Names.{IsRepeatedIn}
 use Rattle.layouts.proofs.rule_places.Known.{of_one, of_two}
-use Rattle.layouts.proofs.rule_places.Rules.{least_joined}
+use Rattle.layouts.proofs.rule_places.Rules.{least_searches, searched}
 use Rattle.csdl_names.proofs.repeated.first_in_schema.Goals as goal
 
 pub returns : goal.returns
@@ -14,8 +16,9 @@ returns c =
     let Three = IsRepeatedIn (λ enum. enum.name) (associations ++ types) (codes "EnumType") (codes "Name") model.enums in
     let first = of_one (λ association. association.name) model.associations _ c.requires.associations in
     let second = of_one (λ type. type.name) model.types _ c.requires.types in
-    least_joined One (λ fault. Two fault ⊎ Three fault) c.in_ok-of_associations.of_associations c.earlier.result c.earlier-2.result c.earlier-2.ensures
-    c.in_ok-of_associations.ensures
-    (least_joined Two Three c.in_ok-of_types.of_types c.in_ok-of_enums.of_enums c.earlier.result c.earlier.ensures
-    (c.in_ok-of_types.ensures associations first)
-    (c.in_ok-of_enums.ensures (associations ++ types) (of_two _ _ associations types first second)))
+    least_searches One (λ fault. Two fault ⊎ Three fault) c.first_twice-of_associations.result c.earlier_of.result c.earlier_of-2.result c.earlier_of-2.ensures
+    c.first_twice-of_associations.ensures
+    (least_searches Two Three c.first_again-of_types.result c.first_again-of_enums.result c.earlier_of.result c.earlier_of.ensures
+    (searched (IsLeast fault_cmp Two) c.first_again-of_types.result c.first_again-of_types.ensures (λ found again. again associations first))
+    (searched (IsLeast fault_cmp Three) c.first_again-of_enums.result c.first_again-of_enums.ensures
+    (λ found again. again (associations ++ types) (of_two _ _ associations types first second))))

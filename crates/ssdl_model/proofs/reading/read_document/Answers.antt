@@ -14,8 +14,8 @@ use Rattle.ssdl_model.proofs.RuleNumbers.{list_number}
 use Rattle.ssdl_model.proofs.SoundReading.{store_unbased}
 use Rattle.ssdl_model.proofs.reading.read_document.Goals as goal
 
-pub read_lists-requires : goal.read_lists-requires
-read_lists-requires c = subst IsUnbased (sym c.in_ok-store-in-None.ensures) (store_unbased (part_of c.root-in-None.result))
+pub read_lists-made-requires : goal.read_lists-made-requires
+read_lists-made-requires c = subst IsUnbased (sym c.in_ok-store-in-None.ensures) (store_unbased (part_of c.root-in-None.result))
 
 pub returns-in-Some : goal.returns-in-Some
 returns-in-Some c =
@@ -26,7 +26,7 @@ returns-in-Some c =
 pub returns-in_ok-store-in-None : goal.returns-in_ok-store-in-None
 returns-in_ok-store-in-None c =
     let d = tree_of c.args.doc.now in
-    let Q : RawModel → Type 0 = λ raw. Reads (IsStoreListFault raw) (store_meaning raw) c.read_lists.result in
+    let Q : RawModel → Type 0 = λ raw. Reads (IsStoreListFault raw) (store_meaning raw) c.read_lists-made.result in
     let R : Data → Type 0 = λ e. Q (raw_store e) in
-    passes_layout (Object Store) d (IsStoreListFault (raw_store d)) (store_meaning (raw_store d)) (part_of c.root.result) c.root.ensures c.in_ok-fault.field-0 c.in_ok-fault.ensures c.read_lists.result c.in-None.is
-    (subst R c.root-in-None.ensures (subst Q c.in_ok-store-in-None.ensures c.read_lists.ensures))
+    passes_layout (Object Store) d (IsStoreListFault (raw_store d)) (store_meaning (raw_store d)) (part_of c.root.result) c.root.ensures c.in_ok-fault.field-0 c.in_ok-fault.ensures c.read_lists-made.result c.in-None.is
+    (subst R c.root-in-None.ensures (subst Q c.in_ok-store-in-None.ensures c.read_lists-made.ensures))

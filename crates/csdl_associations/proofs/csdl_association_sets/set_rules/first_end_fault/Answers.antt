@@ -1,4 +1,4 @@
-use Rattle.std.proofs.Common.{codes, subst}
+use Rattle.std.proofs.Common.{IfOk, codes, subst}
 use Rattle.groupings.specs.least_fault.Least.{IsLeast}
 use Rattle.layouts.specs.Faults.{fault_cmp}
 use Rattle.layouts.specs.rule_places.Places.{InList}
@@ -9,5 +9,5 @@ use Rattle.csdl_associations.proofs.csdl_association_sets.set_rules.first_end_fa
 pub returns : goal.returns
 returns c =
     let sets = c.args.lookups.now.model.now.container.association_sets in
-    let Told : RawModel → Type 0 = λ one. IsLeast fault_cmp (InList (codes "AssociationSet") (IsEndFault one) sets) c.in_ok-found.found in
-    subst Told c.in_ok-search.ensures c.in_ok-found.ensures
+    let Told : RawModel → Type 0 = λ one. IfOk c.first_at-found.result (IsLeast fault_cmp (InList (codes "AssociationSet") (IsEndFault one) sets)) in
+    subst Told c.in_ok-search.ensures c.first_at-found.ensures

@@ -1,8 +1,7 @@
 use Rattle.std.proofs.Common.{codes}
 use Rattle.json_form.specs.declared.pointer.Step.TheVariants.{Member}
 use Rattle.layouts.specs.Inside.{Under}
-use Rattle.layouts.proofs.rule_places.Rules.{least_joined}
-use Rattle.layouts.proofs.rule_places.Seen.{least_behind}
+use Rattle.layouts.proofs.rule_places.Rules.{least_searches}
 use Rattle.csdl_associations.specs.csdl_association_sets.Told.{BreaksContainer, BreaksEnds}
 use Rattle.csdl_associations.proofs.csdl_association_sets.set_rules.first_set_fault.Goals as goal
 
@@ -10,6 +9,5 @@ pub returns : goal.returns
 returns c =
     let model = c.args.sides.now.lookups.now.model.now in
     let container = Member (codes "EntityContainer") in
-    least_joined (Under container (BreaksContainer model)) (BreaksEnds model) c.in_ok-container.container c.in_ok-ends.ends c.earlier.result c.earlier.ensures
-    (least_behind container (BreaksContainer model) c.in_ok-inside.inside c.in_ok-container.container c.in_ok-container.ensures c.in_ok-inside.ensures)
-    c.in_ok-ends.ensures
+    least_searches (Under container (BreaksContainer model)) (BreaksEnds model) c.first_in_container-container.result c.first_end_type_fault-ends.result c.earlier_of.result c.earlier_of.ensures
+    c.first_in_container-container.ensures c.first_end_type_fault-ends.ensures

@@ -6,6 +6,26 @@ use Rattle.csdl_names.specs.declared.csdl_lists.raw.RawEnd.{RawEnd}
 use Rattle.csdl_associations.proofs.csdl_constraints.InModel.{last_of_five}
 use Rattle.csdl_associations.proofs.csdl_constraints.matching.breaks_lists.Goals as goal
 
+pub returns-then-not-branch : goal.returns-then-not-branch
+returns-then-not-branch g c =
+    let constraint = c.args.constraint.now in
+    let Roles : List RawEnd → Type 0 = λ ends. HoldsEachOnce (map (λ (end : RawEnd). end.role) ends) (constraint.principal.role ∷ constraint.dependent.role ∷ []) in (
+      λ _. inl (λ held. both_ways c.in_ok-holds_each_once.field-0 c.if-not-branch.true (c.in_ok-holds_each_once.ensures.1 (subst Roles (sym c.as_slice.ensures.items) held))),
+      λ _. refl,
+    )
+
+pub returns-then-not-branch-2 : goal.returns-then-not-branch-2
+returns-then-not-branch-2 g c = (
+  λ _. inr (inl (λ whole. both_ways c.in_ok-is_whole_key.field-0 c.if-not-branch-2.true (c.in_ok-is_whole_key.ensures.1 whole))),
+  λ _. refl,
+)
+
+pub returns-then-not-have_same_types : goal.returns-then-not-have_same_types
+returns-then-not-have_same_types g c = (
+  λ _. inr (inr (inr (inl (λ same. both_ways c.have_same_types.result c.if-not-have_same_types.true (c.have_same_types.ensures.1 same))))),
+  λ _. refl,
+)
+
 pub returns-then-not-branch-3 : goal.returns-then-not-branch-3
 returns-then-not-branch-3 g c =
     let Apart : List (List ℕ) → Type 0 = λ names. AreApart names in
