@@ -6,7 +6,6 @@ mod ids;
 mod kinds;
 mod lists;
 mod model;
-mod pairs;
 mod props;
 mod sets;
 mod sizes;

@@ -9,4 +9,3 @@ pub mod Joined
 pub mod FoundItems
 pub mod Turns
 pub mod Stable
-pub mod OfBoth

@@ -9,3 +9,4 @@ pub mod Standing
 pub mod Tests
 pub mod Zipped
 pub mod Texts
+pub mod Beside

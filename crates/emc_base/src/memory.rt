@@ -1,5 +1,3 @@
-ghost use Rattle.std.specs.Prelude.{◌≡◌, IfOk, Ok};
-
 use std::alloc::{AllocError, AllocFailed};
 
 /// Want of memory: an allocation failed, or a list is full.
@@ -16,12 +14,4 @@ impl<T: Drop> From<AllocFailed<T>> for Memory {
     fn from(_error: AllocFailed<T>) -> Memory {
         Memory
     }
-}
-
-/// Both of two things, where there is the second; where there is none, the first is dropped. So what is made second leaves nothing behind in the function that
-/// makes both.
-pub fn both<A: Drop, B>(first: A, second: Result<B, Memory>) -> Result<(A, B), Memory>
-    ensures { IfOk result (λ pair. (pair.0 ≡ first) × (second ≡ Ok pair.1)) }
-{
-    Ok((first, second?))
 }

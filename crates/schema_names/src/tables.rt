@@ -7,7 +7,7 @@ use crate::columns::{TableColumns, columns_of};
 use crate::lent_names::places_by;
 use crate::own_props::{OwnProps, own_props_of};
 use edm_types::{EntityModel, StoreModel};
-use emc_base::{Memory, Seq, both};
+use emc_base::{Memory, Seq, beside};
 use groupings::Places;
 use std::alloc::Global;
 
@@ -37,12 +37,12 @@ impl NameTables {
     pub fn of(alloc: Global, model: &EntityModel, store: &StoreModel) -> Result<NameTables, Memory>
         ensures { IfOk result (AreTablesOf model.now store.now) }
     {
-        let in_model = both(
+        let in_model = beside(
             entity_places(alloc, model)?,
             association_places(alloc, model),
         )?;
-        let names = both(in_model, table_places(alloc, store))?;
-        let (names, own_props) = both(names, own_props_of(alloc, model))?;
+        let names = beside(in_model, table_places(alloc, store))?;
+        let (names, own_props) = beside(names, own_props_of(alloc, model))?;
         let (((types, sets), (association_sets, associations)), (tables, columns)) = names;
         Ok(NameTables {
             types,
@@ -62,7 +62,7 @@ fn entity_places(alloc: Global, model: &EntityModel) -> Result<(Places, Places),
     ensures sets { IfOk result (λ places. place_in places.1 ≡ first_place (λ set. set.name) model.now.sets) }
 {
     let types = places_by(alloc, model.types.as_slice(), |ty| &ty.name)?;
-    both(
+    beside(
         types,
         places_by(alloc, model.sets.as_slice(), |set| &set.name),
     )
@@ -75,7 +75,7 @@ fn association_places(alloc: Global, model: &EntityModel) -> Result<(Places, Pla
 {
     let assocs = model.assocs.as_slice();
     let sets = places_by(alloc, assocs, |assoc| &assoc.set_name)?;
-    both(sets, places_by(alloc, assocs, |assoc| &assoc.assoc_name))
+    beside(sets, places_by(alloc, assocs, |assoc| &assoc.assoc_name))
 }
 
 // Where the names of tables are given first, and those of the columns of each.
@@ -84,5 +84,5 @@ fn table_places(alloc: Global, store: &StoreModel) -> Result<(Places, Seq<TableC
     ensures columns { IfOk result (λ places. AreColumnsOf store.now.tables places.1) }
 {
     let tables = places_by(alloc, store.tables.as_slice(), |table| &table.name)?;
-    both(tables, columns_of(alloc, store.tables.as_slice()))
+    beside(tables, columns_of(alloc, store.tables.as_slice()))
 }

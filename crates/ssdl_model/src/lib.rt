@@ -1,7 +1,6 @@
 //! The reader of SSDL documents: the store that a document means, or the least rule that it breaks, at its first place.
 #![tactic(auto)]
 
-mod pairs;
 mod reading;
 mod roots;
 mod ssdl_lists;

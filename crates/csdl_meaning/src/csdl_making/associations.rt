@@ -4,10 +4,9 @@ ghost use Rattle.csdl_meaning.specs.ModelMeaning.{assoc_between, assoc_of, const
 ghost use Rattle.csdl_meaning.specs.csdl_making.Making.{AreStarts};
 
 use crate::csdl_making::ids::{found_id, set_id, type_id};
-use crate::csdl_making::pairs::both;
 use csdl_names::{Lookups, RawAssociation, RawAssociationSet, RawConstraint, RawEnd, RawRole};
 use edm_types::{Assoc, Constraint, End, Mult};
-use emc_base::{Memory, PropId, Seq, Txt, put_found};
+use emc_base::{Memory, PropId, Seq, Txt, both, put_found};
 use std::alloc::Global;
 
 /// The association sets whose associations are found, by where the properties of each type begin.

@@ -10,14 +10,13 @@ use crate::csdl_making::associations::assocs_in;
 use crate::csdl_making::forest::forest_in;
 use crate::csdl_making::ids::starts_of;
 use crate::csdl_making::kinds::enum_kinds;
-use crate::csdl_making::pairs::both;
 use crate::csdl_making::props::props_in;
 use crate::csdl_making::sets::sets_in;
 use crate::csdl_making::sizes::keep_kinds_small;
 use crate::csdl_making::types::types_in;
 use csdl_names::{Lookups, RawModel};
 use edm_types::{Assoc, EntityModel, EntitySet, EntityType, Prop};
-use emc_base::{Kind, Memory, Seq, Txt};
+use emc_base::{Kind, Memory, Seq, Txt, both};
 use std::alloc::Global;
 
 /// The model that a document means, from its lists, and an order of its types in which each follows its base. `Memory` comes where memory

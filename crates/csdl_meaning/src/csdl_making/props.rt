@@ -4,10 +4,9 @@ ghost use Rattle.csdl_meaning.specs.Meaning.{prop_of, props_in};
 
 use crate::csdl_making::ids::type_id;
 use crate::csdl_making::kinds::kind_of;
-use crate::csdl_making::pairs::both;
 use csdl_names::{Lookups, RawProp};
 use edm_types::Prop;
-use emc_base::{Kind, Memory, Seq};
+use emc_base::{Kind, Memory, Seq, both};
 use std::alloc::Global;
 
 /// The declared properties of all types, by the kinds of all enumerations.

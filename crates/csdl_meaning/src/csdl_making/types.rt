@@ -8,10 +8,9 @@ ghost use Rattle.csdl_meaning.specs.csdl_making.Making.{AddInherited, AreInherit
 
 use crate::csdl_making::ids::{base_id, found_id, prop_id};
 use crate::csdl_making::lists::{inherited, take_at};
-use crate::csdl_making::pairs::both;
 use csdl_names::{Lookups, PropPlace, RawModel, RawNav, RawType};
 use edm_types::{EntityType, Nav};
-use emc_base::{Memory, PropId, Seq, Txt, put_found};
+use emc_base::{Memory, PropId, Seq, Txt, both, put_found};
 use std::alloc::Global;
 
 /// The types, by where the properties of each begin, and by an order in which each follows its base.

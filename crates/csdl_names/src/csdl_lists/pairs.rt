@@ -47,13 +47,3 @@ pub fn two_lists_at<T: FromNode, U: FromNode>(
     let second = list_at(alloc, node, other)?;
     Ok((first, second))
 }
-
-/// Both of two things, where there are both.
-pub fn both<A: Drop, B: Drop>(
-    first: Result<A, Memory>,
-    second: Result<B, Memory>,
-) -> Result<(A, B), Memory>
-    ensures { IfOk result (λ pair. (first ≡ Ok pair.0) × (second ≡ Ok pair.1)) }
-{
-    Ok((first?, second?))
-}

@@ -2,8 +2,8 @@ ghost use Rattle.std.specs.Prelude.{◌≡◌, IfOk};
 ghost use Rattle.json_form.specs.Nodes.{part_of};
 ghost use Rattle.csdl_names.specs.csdl_lists.Raw.{bound_at, key_at};
 
-use crate::csdl_lists::pairs::{both, text_and_optional_at, two_lists_at, two_texts_at};
-use emc_base::{Memory, Seq, Txt};
+use crate::csdl_lists::pairs::{text_and_optional_at, two_lists_at, two_texts_at};
+use emc_base::{Memory, Seq, Txt, both};
 use json_form::{
     FromNode, Node, flag_at, list_at, object_at, optional_object_at, text_at, texts_at, whole_at,
 };

@@ -3,9 +3,8 @@ ghost use Rattle.groupings.specs.name_places.GivenNames.{first_place};
 ghost use Rattle.groupings.specs.name_places.PlacesIn.{place_in};
 ghost use Rattle.csdl_names.specs.csdl_lists.Scopes.{IsScopeOf, local_in, names_of};
 
-use crate::csdl_lists::pairs::both;
 use crate::csdl_lists::raw::RawModel;
-use emc_base::{Memory, Seq, Txt};
+use emc_base::{Memory, Seq, Txt, both};
 use groupings::{Named, Places, places_of, rest_after};
 use std::alloc::Global;
 

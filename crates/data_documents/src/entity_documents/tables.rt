@@ -5,7 +5,7 @@ ghost use Rattle.entity_state.specs.StateTree.{name_of};
 ghost use Rattle.data_documents.specs.entity_documents.Tables.{name_or};
 
 use edm_types::EntityModel;
-use emc_base::{Memory, PropId, Seq, Txt, both};
+use emc_base::{Memory, PropId, Seq, Txt, beside};
 use groupings::Places;
 use schema_names::places_by;
 use std::alloc::Global;
@@ -31,7 +31,7 @@ impl NameTables {
         ensures { IfOk result (AreTablesOf model.now) }
     {
         let sets = set_places(alloc, model)?;
-        let (sets, types) = both(sets, type_places(alloc, model))?;
+        let (sets, types) = beside(sets, type_places(alloc, model))?;
         let (sets, association_sets) = sets;
         let (types, props) = types;
         Ok(NameTables {
@@ -50,7 +50,7 @@ fn set_places(alloc: Global, model: &EntityModel) -> Result<(Places, Places), Me
 {
     let sets = places_by(alloc, model.sets.as_slice(), |set| &set.name)?;
     let assocs = model.assocs.as_slice();
-    both(sets, places_by(alloc, assocs, |assoc| &assoc.set_name))
+    beside(sets, places_by(alloc, assocs, |assoc| &assoc.set_name))
 }
 
 // Where the names of entity types are given first, and those of the properties of each.
@@ -59,7 +59,7 @@ fn type_places(alloc: Global, model: &EntityModel) -> Result<(Places, Seq<Places
     ensures props { IfOk result (λ places. map place_in places.1 ≡ map (λ type. first_place (name_of model.now) type.props) model.now.types) }
 {
     let types = places_by(alloc, model.types.as_slice(), |ty| &ty.name)?;
-    both(types, props_in(alloc, model))
+    beside(types, props_in(alloc, model))
 }
 
 // Where the properties of each type are, by their names in the model.

@@ -3,9 +3,8 @@ ghost use Rattle.json_form.specs.Nodes.{part_of};
 ghost use Rattle.json_form.specs.from_nodes.Reading.{items_at, object_at, optional_text_at, text_at};
 ghost use Rattle.ssdl_model.specs.ssdl_lists.RawStore.{raw_store, raw_table, raw_tables};
 
-use crate::pairs::both;
 use csdl_names::{RawContainer, RawModel, RawType};
-use emc_base::{Memory, Seq, Txt};
+use emc_base::{Memory, Seq, Txt, both};
 use json_form::{Node, items_at, list_at, optional_text_at, text_at, texts_at};
 use serde_json::Value;
 use std::alloc::Global;

@@ -5,12 +5,11 @@ ghost use Rattle.csdl_names.specs.csdl_lists.References.{names_in};
 ghost use Rattle.ssdl_model.specs.ssdl_lists.Tables.{table_in, table_of};
 ghost use Rattle.ssdl_model.specs.ssdl_making.StoreMeaning.{key_meant, key_of_association, table_at};
 
-use crate::pairs::both;
 use crate::ssdl_lists::table_at;
 use crate::ssdl_making::ids::{cols_named, table_id};
 use csdl_names::{Lookups, RawAssociation, RawConstraint};
 use edm_types::ForeignKey;
-use emc_base::{Memory, Seq, TableId, put_found};
+use emc_base::{Memory, Seq, TableId, both, put_found};
 use std::alloc::Global;
 
 /// The foreign keys, in the order of the document.

@@ -3,12 +3,11 @@ ghost use Rattle.csdl_names.specs.csdl_lists.References.{names_in};
 ghost use Rattle.ssdl_model.specs.ssdl_lists.Tables.{table_in, table_of};
 ghost use Rattle.ssdl_model.specs.ssdl_making.StoreMeaning.{store_meaning};
 
-use crate::pairs::both;
 use crate::ssdl_making::foreign::keys_in;
 use crate::ssdl_making::tables::tables_in;
 use csdl_names::Lookups;
 use edm_types::StoreModel;
-use emc_base::Memory;
+use emc_base::{Memory, both};
 use std::alloc::Global;
 
 /// The store that a document means, from its lists, and the first table of each type. `Memory` comes where memory ran out, and where a

@@ -15,7 +15,7 @@ use crate::region_values::rivals::{Rival, rival_entity};
 use crate::region_values::usual::{one_value, other_value};
 use cells::Parts;
 use edm_types::Entity;
-use emc_base::{Memory, PropId, Value, both};
+use emc_base::{Memory, PropId, Value, beside};
 use regions::{Pattern, Region, Symbol};
 use std::alloc::Global;
 use symbolic_rows::region_pattern;
@@ -61,7 +61,7 @@ pub fn lost_entities(
     ensures other { IfOk result (λ pair. pair.1 ≡ focus_entity (basis_of parts.now) region.now (with_other (basis_of parts.now) region.now property)) }
 {
     let one = one_entity(alloc, parts, region, property)?;
-    both(one, other_entity(alloc, parts, region, property))
+    beside(one, other_entity(alloc, parts, region, property))
 }
 
 // The entity of a region with the usual values, but for one property, of which it has the one value.
@@ -126,7 +126,7 @@ pub fn rival_entities(
     ensures second { IfOk result (λ pair. pair.1 ≡ focus_entity (basis_of parts.now) two.now (second_values (basis_of parts.now) one.now two.now)) }
 {
     let pattern = region_pattern(alloc, parts, one)?;
-    let patterns = both(pattern, region_pattern(alloc, parts, two))?;
+    let patterns = beside(pattern, region_pattern(alloc, parts, two))?;
     let entities = entities_by(alloc, parts, one, two, &patterns.0, &patterns.1);
     drop(patterns);
     entities
@@ -164,5 +164,5 @@ fn entities_by(
         facing: one_pattern,
     };
     let entity = rival_entity(alloc, parts, &first)?;
-    both(entity, rival_entity(alloc, parts, &second))
+    beside(entity, rival_entity(alloc, parts, &second))
 }
