@@ -1,5 +1,5 @@
 -- Names that are given again, by the first repeat in a list of names.
-use Rattle.std.proofs.Common.{◌≡◌, ◌⊎◌, inl, inr, ⊎_elim, ℕ, List, [], length, map, codes, get_or, slice_get, Option, Some, None, IsTrue, refl, sym, ap, subst, ◌∙◌}
+use Rattle.std.proofs.Common.{◌≡◌, ◌⊎◌, inl, inr, ⊎_elim, ℕ, List, [], map, codes, get_or, slice_get, Option, Some, None, IsTrue, refl, sym, ap, subst, ◌∙◌}
 use Rattle.std.specs.Borrow.{Bor}
 use Rattle.std.specs.Option.{option_map}
 use Rattle.std.specs.Ordering.{eq_by_cmp, is_eq, nat_cmp}

@@ -1,6 +1,6 @@
 -- What is wrong with a condition, by what it is on.
-use Rattle.std.proofs.Common.{◌↔◌, ◌⊎◌, ⊎_elim, List, [], ◌∷◌, codes, MatchOption, Option, Some, None}
-use Rattle.std.specs.Option.{option_and_then, option_map}
+use Rattle.std.proofs.Common.{◌↔◌, ⊎_elim, List, MatchOption, Option, Some, None}
+use Rattle.std.specs.Option.{option_map}
 use Rattle.layouts.specs.declared.fault.Fault.{Fault}
 use Rattle.round_trip.specs.Words.{Cond, CondOn, PropId}
 use Rattle.round_trip.specs.soundness.mappings.Joined.{ComparesNoBarred}

@@ -1,17 +1,15 @@
 -- Where what pairs stand for rises, no property and no column is written twice.
-use Rattle.std.proofs.Common.{◌≡◌, ◌≢◌, ⊎_elim, ℕ, zero, suc, ◌+◌, ◌<◌, ◌≤◌, List, [], length, map, codes, get_or, slice_get, Option, Some, None, refl, sym, ap, subst, ◌∙◌, arith}
+use Rattle.std.proofs.Common.{◌≡◌, ◌≢◌, ⊎_elim, ℕ, zero, suc, ◌+◌, ◌<◌, List, [], length, map, codes, get_or, slice_get, Option, Some, None, ap, subst, ◌∙◌, arith}
 use Rattle.std.proofs.lemmas.Bool.{cases_eq}
 use Rattle.std.specs.Option.{option_and_then, option_map}
 use Rattle.std.proofs.lemmas.Option.{slice_get-get_or, slice_get-map, slice_get_within}
 use Rattle.emc_base.specs.Lists.{At}
 use Rattle.groupings.specs.least_fault.Least.{IsLeast}
-use Rattle.layouts.specs.declared.fault.Fault.{Fault}
 use Rattle.layouts.specs.declared.rule.Rule.TheVariants.{WrittenOnce}
 use Rattle.layouts.specs.Faults.{fault_cmp}
 use Rattle.layouts.specs.rule_places.Places.{InList, IsAt}
 use Rattle.groupings.specs.name_places.GivenNames.{IsGivenBefore}
 use Rattle.round_trip.specs.Words.{PropId, Pair}
-use Rattle.schema_names.specs.SchemaNames.{column_named}
 use Rattle.msl_rules.specs.declared.msl_lists.raw.RawPair.{RawPair}
 use Rattle.msl_rules.specs.Found.{col_numbered}
 use Rattle.msl_rules.specs.FragmentRules.{IsWrittenBefore}

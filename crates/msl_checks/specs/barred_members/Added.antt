@@ -41,3 +41,8 @@ HostsAt schema table own partner member = IsHostedAt schema table own × Each (I
 -- it is a column to which this link fragment writes a partner's key
 abbrev pub Hosts : Schema → LinkFragment → Member → Type 0
 Hosts schema fragment member = HostsAt schema fragment.table fragment.first fragment.second member ⊎ HostsAt schema fragment.table fragment.second fragment.first member
+
+-- what is barred in a schema has come, the dependent properties first
+abbrev pub AddsAll : Schema → Barred → Barred → Type 0
+AddsAll schema before after =
+    (between : Barred) × Adds (Each Constrains schema.model.assocs) before between × Adds (Each (Hosts schema) schema.mapping.links) between after

@@ -3,7 +3,7 @@ ghost use Rattle.round_trip.specs.Words.{EntityModel, Mapping};
 ghost use Rattle.round_trip.specs.soundness.mappings.Joined.{Member, prop, col};
 ghost use Rattle.round_trip.specs.Between.{schema_of};
 ghost use Rattle.msl_checks.specs.barred_members.Told.{TellsBarred, is_told};
-ghost use Rattle.msl_checks.specs.barred_members.Added.{Adds, Each, IsProp, IsColumn, Constrains, HostsAt, Hosts};
+ghost use Rattle.msl_checks.specs.barred_members.Added.{Adds, AddsAll, Each, IsProp, IsColumn, Constrains, HostsAt, Hosts};
 
 use edm_types::{Assoc, EntityModel, LinkFragment, Mapping, Pair, StoreModel};
 use emc_base::{ColId, Memory, PropId, TableId};
@@ -35,9 +35,26 @@ impl Barred {
             groups: Groups::of(alloc, model, store, mapping.fragments.as_slice())?,
             labels: BTreeSet::new(alloc),
         };
-        barred.add_dependents(model.assocs.as_slice())?;
-        barred.add_partners(store, mapping.links.as_slice())?;
-        Ok(barred)
+        match barred.add_all(model, store, mapping) {
+            Ok(()) => Ok(barred),
+            Err(memory) => {
+                drop(barred);
+                Err(memory)
+            }
+        }
+    }
+
+    // Adds what is barred: the dependent properties, and then the columns to which partners' keys are written.
+    fn add_all(
+        &mut self,
+        model: &EntityModel,
+        store: &StoreModel,
+        mapping: &Mapping,
+    ) -> Result<(), Memory>
+        ensures { IfOk result (λ _. AddsAll (schema_of model.now store.now mapping.now) self.old self.new) }
+    {
+        self.add_dependents(model.assocs.as_slice())?;
+        self.add_partners(store, mapping.links.as_slice())
     }
 
     /// Whether a property is barred.

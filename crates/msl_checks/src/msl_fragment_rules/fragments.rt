@@ -1,11 +1,13 @@
-ghost use Rattle.std.specs.Prelude.{◌≡◌, IfOk};
+ghost use Rattle.std.specs.Prelude.{◌≡◌, [], IfOk};
 ghost use Rattle.groupings.specs.least_fault.Least.{IsLeast};
 ghost use Rattle.layouts.specs.Faults.{fault_cmp};
+ghost use Rattle.layouts.specs.declared.rule.Rule.TheVariants.{WritesKey};
+ghost use Rattle.layouts.specs.rule_places.Places.{IsAt};
 ghost use Rattle.msl_meaning.specs.msl_found.NamedAt.{named_at};
 ghost use Rattle.msl_rules.specs.Found.{prop_of_picks};
 ghost use Rattle.msl_rules.specs.FragmentRules.{IsInFragments};
 ghost use Rattle.msl_checks.specs.msl_written.Within.{named_in, schema_in};
-ghost use Rattle.msl_checks.specs.msl_fragment_rules.FragmentFaults.{IsBroken};
+ghost use Rattle.msl_checks.specs.msl_fragment_rules.FragmentFaults.{IsBroken, LeavesKey};
 
 use crate::msl_fragment_rules::key::{leaves_key, set_key};
 use crate::msl_written::{Between, MeantPairs, Writing, first_condition_fault};
@@ -58,15 +60,27 @@ fn first_broken(
     ensures { IfOk result (λ found. IsLeast fault_cmp (IsBroken (schema_in writing.now.between) (named_in writing.now) set writing.now.table fragment.now) found) }
 {
     let pairs = MeantPairs::of(alloc, writing, &fragment.pairs)?;
-    let leaves_key = leaves_key(alloc, &pairs, set)?;
-    let key = set_key(writing.between.names.model, set);
     let unfit = pairs.first_unfit(alloc);
-    let unwritten = fault_here_if(alloc, leaves_key, Rule::WritesKey);
-    let cond = first_condition_fault(alloc, writing, key, &fragment.conds);
+    let unwritten = first_unwritten(alloc, &pairs, set);
     let foreign = pairs.first_enum(alloc);
     let again = pairs.first_again(alloc);
+    drop(pairs);
+    let key = set_key(writing.between.names.model, set);
+    let cond = first_condition_fault(alloc, writing, key, &fragment.conds);
     let behind = earlier_of(cond, earlier_of(foreign, again));
     earlier_of(unfit, earlier_of(unwritten, behind))
+}
+
+// The key of the set at a place, where no pairs match it with the primary key of the table (V30).
+fn first_unwritten(
+    alloc: Global,
+    pairs: &MeantPairs<'_>,
+    set: usize,
+) -> Result<Option<Fault>, Memory>
+    ensures { IfOk result (λ found. IsLeast fault_cmp (λ fault. LeavesKey (schema_in pairs.now.writing.now.between) (named_in pairs.now.writing.now) set pairs.now.writing.now.table pairs.now.pairs.now × IsAt WritesKey [] fault) found) }
+{
+    let leaves_key = leaves_key(alloc, pairs, set)?;
+    fault_here_if(alloc, leaves_key, Rule::WritesKey)
 }
 
 /// Searches the type mappings of a set.

@@ -66,9 +66,10 @@ impl<'a> InEnds<'a> {
             ty: Some(known.ty.index as usize),
             table: self.table,
         };
-        let pairs = MeantPairs::of(alloc, &writing, &end.pairs)?;
         let is_unwritten = is_key_unwritten(alloc, &self.of.between, self.table, known, end)?;
+        let pairs = MeantPairs::of(alloc, &writing, &end.pairs)?;
         let unfit = pairs.first_unfit(alloc);
+        drop(pairs);
         let key = fault_here_if(alloc, is_unwritten, Rule::WritesKey);
         let search = AtEnd {
             columns: self.columns,

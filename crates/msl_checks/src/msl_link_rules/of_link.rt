@@ -72,14 +72,15 @@ impl<'a> OfLink<'a> {
     fn first_in_table(&self, alloc: Global, table: usize) -> Result<Option<Fault>, Memory>
         ensures { IfOk result (λ found. IsLeast fault_cmp (BreaksTableRules (schema_in self.now.between) self.now.link.now self.now.set self.now.assoc.now table) found) }
     {
+        let is_unplaced = self.is_unplaced(alloc, table)?;
         let columns = WrittenColumns::of(alloc, self.link.ends.as_slice())?;
         let search = InEnds {
             of: *self,
             table,
             columns: &columns,
         };
-        let is_unplaced = self.is_unplaced(alloc, table)?;
         let ends = first_at(alloc, "EndProperty", &search, &self.link.ends);
+        drop(columns);
         let conds = first_link_condition_fault(alloc, &self.between, table, &self.link.conds);
         let placing = fault_here_if(alloc, is_unplaced, Rule::LinkPlace);
         earlier_of(ends, earlier_of(conds, placing))
@@ -92,6 +93,8 @@ impl<'a> OfLink<'a> {
         let names = self.between.names;
         let here = Txt::of(alloc, "")?;
         let made = make_link(alloc, names, here, self.link, self.set, self.assoc, table)?;
-        Ok(!is_placed(names.store, &made, self.assoc))
+        let is_placed = is_placed(names.store, &made, self.assoc);
+        drop(made);
+        Ok(!is_placed)
     }
 }

@@ -1,5 +1,5 @@
 -- A type and what stands above it: by a climb over base types, each type is asked whether it is the wanted one.
-use Rattle.std.proofs.Common.{◌≡◌, ◌≢◌, ◌⊎◌, ⊎_elim, ◌↔◌, ℕ, MatchOption, Option, Some, None, refl, sym, subst}
+use Rattle.std.proofs.Common.{◌≡◌, ◌≢◌, ⊎_elim, ◌↔◌, ℕ, MatchOption, Option, Some, None, refl, sym, subst}
 use Rattle.edm_types.specs.Forest.{type_numbered}
 use Rattle.edm_types.specs.IsA.{same, base, chain}
 use Rattle.edm_types.proofs.Lookups.{first_step}

@@ -11,7 +11,7 @@ use crate::msl_names::in_table::InTable;
 use crate::msl_names::lacking::first_of_none;
 use edm_types::{Assoc, End};
 use emc_base::{Memory, Seq};
-use groupings::{Finder, earlier};
+use groupings::{Finder, earlier, earlier_of};
 use layouts::{Fault, Rule, behind_member, fault_if, first_at};
 use msl_rules::{
     RawEndMapping, RawFragment, RawLinkMapping, RawMapping, RawPair, RawSetMapping, RawTypeMapping,
@@ -153,14 +153,14 @@ impl<'a> Finder<RawLinkMapping, Fault> for InMapping<'a> {
         let names = self.names;
         let set = names.association_set_named(item.name.as_str());
         let table = names.table_named(item.table.as_str());
-        let of_set = first_of_none(alloc, set, "Name")?;
+        let of_set = first_of_none(alloc, set, "Name");
         let is_lacking = !names.names_association(item.association.as_str());
-        let of_association = fault_if(alloc, is_lacking, Rule::Resolves, "TypeName")?;
-        let of_table = first_of_none(alloc, table, "StoreEntitySet")?;
-        let in_ends = first_in_ends(alloc, names, set, &item.ends)?;
-        let in_columns = first_in_columns(alloc, names, table, item)?;
-        let inside = earlier(of_table, earlier(in_ends, in_columns));
-        Ok(earlier(of_set, earlier(of_association, inside)))
+        let of_association = fault_if(alloc, is_lacking, Rule::Resolves, "TypeName");
+        let of_table = first_of_none(alloc, table, "StoreEntitySet");
+        let in_ends = first_in_ends(alloc, names, set, &item.ends);
+        let in_columns = first_in_columns(alloc, names, table, item);
+        let inside = earlier_of(of_table, earlier_of(in_ends, in_columns));
+        earlier_of(of_set, earlier_of(of_association, inside))
     }
 }
 

@@ -14,7 +14,7 @@ use crate::link_legality::side::Side;
 use edm_types::{Assoc, Entity, EntityModel, Link};
 use emc_base::{AssocId, Memory, Seq};
 use entity_state::{Found, entities_at, links_at};
-use groupings::earlier;
+use groupings::{earlier, earlier_of};
 use std::alloc::Global;
 
 /// The first breach of the rules of links and principals, S5 to S8: the least rule that is broken, at its first place. The entities and
@@ -70,10 +70,10 @@ fn first_of_links(
     requires known { At model.now.assocs a.index assoc.now }
     ensures { IfOk result (IsLeast found_cmp (BreaksIndependent model.now (state_of entities.now links.now) a assoc.now)) }
 {
-    let first = first_at_side(alloc, model, entities, links, a, assoc, Side::First)?;
-    let second = first_at_side(alloc, model, entities, links, a, assoc, Side::Second)?;
-    let double = first_double_link(alloc, links_at(links, a), a, assoc)?;
-    Ok(earlier(earlier(first, second), double))
+    let first = first_at_side(alloc, model, entities, links, a, assoc, Side::First);
+    let second = first_at_side(alloc, model, entities, links, a, assoc, Side::Second);
+    let double = first_double_link(alloc, links_at(links, a), a, assoc);
+    earlier_of(earlier_of(first, second), double)
 }
 
 // The first breach of S5 and S7 at one side of it.
@@ -92,9 +92,9 @@ fn first_at_side(
 {
     let standing = entities_at(entities, side.end_of(assoc).set);
     let links = links_at(links, a);
-    let loose = first_loose_link(alloc, model, standing, links, a, assoc, side)?;
-    let miscounted = first_miscounted(alloc, model, standing, links, a, assoc, side)?;
-    Ok(earlier(loose, miscounted))
+    let loose = first_loose_link(alloc, model, standing, links, a, assoc, side);
+    let miscounted = first_miscounted(alloc, model, standing, links, a, assoc, side);
+    earlier_of(loose, miscounted)
 }
 
 /// The law that the rules S5 to S8 are kept exactly where no breach of them is found, in a sound model.

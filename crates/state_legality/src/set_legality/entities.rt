@@ -8,7 +8,7 @@ use crate::set_legality::values::broken_rule;
 use edm_types::{Entity, EntityModel, EntitySet};
 use emc_base::{Memory, PropId, Txt};
 use entity_state::{Found, StateRule, place_of};
-use groupings::{Finder, earlier, first_among};
+use groupings::{Finder, earlier_of, first_among};
 use std::alloc::Global;
 
 /// Looks at the values of an entity, property by property.
@@ -69,9 +69,9 @@ impl<'a> Finder<Entity, Found> for SetEntities<'a> {
             i,
             entity,
         };
-        let at_type = find_type(alloc, self, i, entity)?;
-        let at_props = first_among(alloc, &props, props_at(self.model, entity.ty))?;
-        Ok(earlier(at_type, at_props))
+        let at_type = find_type(alloc, self, i, entity);
+        let at_props = first_among(alloc, &props, props_at(self.model, entity.ty));
+        earlier_of(at_type, at_props)
     }
 }
 

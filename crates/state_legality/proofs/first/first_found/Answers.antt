@@ -1,8 +1,8 @@
-use Rattle.std.proofs.Common.{List, Option, subst, subst₂}
+use Rattle.std.proofs.Common.{List, subst, subst₂}
 use Rattle.groupings.specs.least_fault.Least.{IsLeast}
 use Rattle.round_trip.specs.Words.{Entity, Link}
 use Rattle.entity_state.specs.breach_order.Founds.{found_cmp}
-use Rattle.state_legality.specs.set_legality.Tells.{BreaksSets, IsFirstInSets, state_of}
+use Rattle.state_legality.specs.set_legality.Tells.{BreaksSets, state_of}
 use Rattle.state_legality.specs.link_legality.Tells.{BreaksLinks}
 use Rattle.state_legality.proofs.Joined.{least_of_all}
 use Rattle.state_legality.proofs.first.first_found.Goals as goal

@@ -1,10 +1,10 @@
-use Rattle.std.proofs.Common.{◌⊎◌, ◌↔◌, List, [], codes, IfOk, IsTrue, subst, subst₂}
+use Rattle.std.proofs.Common.{◌⊎◌, List, [], codes, IfOk, subst, subst₂}
 use Rattle.groupings.specs.least_fault.Least.{IsLeast}
 use Rattle.layouts.specs.declared.fault.Fault.{Fault}
 use Rattle.layouts.specs.declared.rule.Rule.TheVariants.{WritesKey, WrittenOnce}
 use Rattle.layouts.specs.Faults.{fault_cmp}
 use Rattle.layouts.specs.rule_places.Places.{IsAt, InList}
-use Rattle.layouts.proofs.rule_places.Rules.{least_searched, least_searches}
+use Rattle.layouts.proofs.rule_places.Rules.{least_searches}
 use Rattle.round_trip.specs.Words.{PropId}
 use Rattle.round_trip.specs.soundness.Lookups.{set_key}
 use Rattle.msl_rules.specs.declared.msl_lists.raw.RawPair.{RawPair}
@@ -34,16 +34,16 @@ returns c =
     let ForeignIn : Writing → List RawPair → Type 0 =
     λ within pairs. IfOk c.first_enum-foreign.result (IsLeast fault_cmp (InList (codes "ScalarProperty") (IsEnumFault (schema_in within.between) (named_in within) within.table) pairs)) in
     let foreign = subst₂ ForeignIn same.writing same.pairs c.first_enum-foreign.ensures in
-    let LeavesIn : Writing → List RawPair → Type 0 = λ within pairs. IsTrue c.in_ok-leaves_key.leaves_key ↔ LeavesKey (schema_in within.between) (named_in within) c.args.set within.table pairs in
-    let leaves = subst₂ LeavesIn same.writing same.pairs c.in_ok-leaves_key.ensures in
-    let unwritten = least_searched (IsAt WritesKey []) c.fault_here_if-unwritten.result leaves c.fault_here_if-unwritten.ensures in
+    let UnwrittenIn : Writing → List RawPair → Type 0 =
+    λ within pairs. IfOk c.first_unwritten-unwritten.result (IsLeast fault_cmp (λ fault. LeavesKey (schema_in within.between) (named_in within) c.args.set within.table pairs × IsAt WritesKey [] fault)) in
+    let unwritten = subst₂ UnwrittenIn same.writing same.pairs c.first_unwritten-unwritten.ensures in
     let Found : List PropId → Type 0 = λ props. IfOk c.first_condition_fault-cond.result (IsLeast fault_cmp (Cond props)) in
     let cond = subst Found c.set_key-key.ensures c.first_condition_fault-cond.ensures in
     let AgainIn : List RawPair → Type 0 = λ pairs. IfOk c.first_again-again.result (IsLeast fault_cmp (InList (codes "ScalarProperty") (λ k pair inside. IsWrittenBefore pairs k pair × IsAt WrittenOnce [] inside) pairs)) in
     let again = subst AgainIn same.pairs c.first_again-again.ensures in
     least_searches Unfit (λ fault. Unwritten fault ⊎ Cond key fault ⊎ Foreign fault ⊎ Again fault) c.first_unfit-unfit.result c.earlier_of-2.result c.earlier_of-3.result
     c.earlier_of-3.ensures unfit
-    (least_searches Unwritten (λ fault. Cond key fault ⊎ Foreign fault ⊎ Again fault) c.fault_here_if-unwritten.result c.earlier_of-behind.result c.earlier_of-2.result
+    (least_searches Unwritten (λ fault. Cond key fault ⊎ Foreign fault ⊎ Again fault) c.first_unwritten-unwritten.result c.earlier_of-behind.result c.earlier_of-2.result
     c.earlier_of-2.ensures unwritten
     (least_searches (Cond key) (λ fault. Foreign fault ⊎ Again fault) c.first_condition_fault-cond.result c.earlier_of.result c.earlier_of-behind.result
     c.earlier_of-behind.ensures cond

@@ -10,8 +10,8 @@ pub returns : goal.returns
 returns c =
     let self = c.args.self.now in
     let schema = schema_in self.between in
-    let placed = c.is_placed.result in
+    let placed = c.is_placed-is_placed.result in
     let P : LinkFragment → Type 0 = λ made. IsTrue placed ↔ IsPlaced schema made self.assoc.now in
     let Q : List ℕ → Type 0 = λ place. P (link_with schema.model schema.store place self.link.now self.set self.assoc.now c.args.table) in
-    let tells = subst Q c.in_ok-here.ensures (subst P c.in_ok-made.ensures (c.is_placed.ensures schema.model schema.mapping)) in
+    let tells = subst Q c.in_ok-here.ensures (subst P c.in_ok-made.ensures (c.is_placed-is_placed.ensures schema.model schema.mapping)) in
     denies (not placed) placed tells refl

@@ -1,9 +1,11 @@
 use Rattle.std.proofs.Common.{◌↔◌, ◌⊎◌, ℕ, List, ◌∷◌, [], MatchOption, IsTrue, not, codes, ap, subst, refl, ◌∙◌}
 use Rattle.json_form.specs.declared.pointer.Step.TheVariants.{Member}
+use Rattle.groupings.specs.least_fault.Least.{IsLeast}
+use Rattle.layouts.specs.Faults.{fault_cmp}
 use Rattle.layouts.specs.declared.fault.Fault.{Fault}
 use Rattle.layouts.specs.declared.rule.Rule.TheVariants.{Resolves}
 use Rattle.layouts.specs.rule_places.Places.{IsAt}
-use Rattle.layouts.proofs.rule_places.Rules.{least_joined, least_where}
+use Rattle.layouts.proofs.rule_places.Rules.{least_searched, least_searches, searched}
 use Rattle.layouts.specs.rule_places.Names.{NamesNothing}
 use Rattle.schema_names.specs.SchemaNames.{association_set_named, table_named, NamesAssociation}
 use Rattle.msl_meaning.specs.msl_names.LinkNames.{IsUnresolvedInEnds, LacksLinkColumns}
@@ -29,12 +31,16 @@ returns c =
     let AtTable : ℕ → Fault → Type 0 = LacksLinkColumns model store link in
     let Ends : Fault → Type 0 = λ fault. MatchOption set ⊥ (λ a. AtSet a fault) in
     let Columns : Fault → Type 0 = λ fault. MatchOption table ⊥ (λ t. AtTable t fault) in
-    least_joined Set (λ fault. Association fault ⊎ Table fault ⊎ Ends fault ⊎ Columns fault) c.in_ok-of_set.of_set c.earlier-2.result c.earlier-3.result c.earlier-3.ensures
-    (names_nothing c.association_set_named-set.result set (codes "Name") c.in_ok-of_set.of_set set_is c.in_ok-of_set.ensures)
-    (least_joined Association (λ fault. Table fault ⊎ Ends fault ⊎ Columns fault) c.in_ok-of_association.of_association c.earlier-inside.result c.earlier-2.result c.earlier-2.ensures
-    (least_where (IsAt Resolves (Member (codes "TypeName") ∷ [])) c.in_ok-of_association.of_association (denies (not names) names tells refl) c.in_ok-of_association.ensures)
-    (least_joined Table (λ fault. Ends fault ⊎ Columns fault) c.in_ok-of_table.of_table c.earlier.result c.earlier-inside.result c.earlier-inside.ensures
-    (names_nothing c.table_named-table.result table (codes "StoreEntitySet") c.in_ok-of_table.of_table table_is c.in_ok-of_table.ensures)
-    (least_joined Ends Columns c.in_ok-in_ends.in_ends c.in_ok-in_columns.in_columns c.earlier.result c.earlier.ensures
-    (least_named AtSet c.association_set_named-set.result set c.in_ok-in_ends.in_ends set_is c.in_ok-in_ends.ensures)
-    (least_named AtTable c.table_named-table.result table c.in_ok-in_columns.in_columns table_is c.in_ok-in_columns.ensures))))
+    least_searches Set (λ fault. Association fault ⊎ Table fault ⊎ Ends fault ⊎ Columns fault) c.first_of_none-of_set.result c.earlier_of-2.result c.earlier_of-3.result c.earlier_of-3.ensures
+    (searched (IsLeast fault_cmp Set) c.first_of_none-of_set.result c.first_of_none-of_set.ensures
+    (λ found least. names_nothing c.association_set_named-set.result set (codes "Name") found set_is least))
+    (least_searches Association (λ fault. Table fault ⊎ Ends fault ⊎ Columns fault) c.fault_if-of_association.result c.earlier_of-inside.result c.earlier_of-2.result c.earlier_of-2.ensures
+    (least_searched (IsAt Resolves (Member (codes "TypeName") ∷ [])) c.fault_if-of_association.result (denies (not names) names tells refl) c.fault_if-of_association.ensures)
+    (least_searches Table (λ fault. Ends fault ⊎ Columns fault) c.first_of_none-of_table.result c.earlier_of.result c.earlier_of-inside.result c.earlier_of-inside.ensures
+    (searched (IsLeast fault_cmp Table) c.first_of_none-of_table.result c.first_of_none-of_table.ensures
+    (λ found least. names_nothing c.table_named-table.result table (codes "StoreEntitySet") found table_is least))
+    (least_searches Ends Columns c.first_in_ends-in_ends.result c.first_in_columns-in_columns.result c.earlier_of.result c.earlier_of.ensures
+    (searched (IsLeast fault_cmp Ends) c.first_in_ends-in_ends.result c.first_in_ends-in_ends.ensures
+    (λ found least. least_named AtSet c.association_set_named-set.result set found set_is least))
+    (searched (IsLeast fault_cmp Columns) c.first_in_columns-in_columns.result c.first_in_columns-in_columns.ensures
+    (λ found least. least_named AtTable c.table_named-table.result table found table_is least)))))
