@@ -5,7 +5,7 @@ use crate::printing::put_flag;
 use cells::Parts;
 use condition_logic::{Expr, holds_entity, holds_row, select_expr, show_expr};
 use edm_types::{Entity, EntityModel, Fragment, Row};
-use emc_base::Seq;
+use emc_base::{ColId, Seq};
 use entity_state::EntityState;
 use std::alloc::Global;
 
@@ -37,7 +37,9 @@ fn put_selected_by(
 {
     let entities = state.entity_lists().get(fragment.set.index as usize)?;
     let expr = select_expr(alloc, fragment).ok()?;
-    put_holding(text, model, &expr, entities.as_slice())
+    let put = put_holding(text, model, &expr, entities.as_slice());
+    drop(expr);
+    put
 }
 
 // Puts whether an expression holds of each of some entities.
@@ -65,11 +67,24 @@ pub fn put_shown(
     for fragment in parts.mapping.fragments.as_slice() {
         let table = parts.store.tables.get(fragment.table.index as usize)?;
         let rows = tables.get(fragment.table.index as usize)?;
-        let expr = show_expr(alloc, &fragment.conds, &table.key).ok()?;
-        put_holding_rows(text, &expr, rows.as_slice())?;
+        put_shown_by(alloc, text, fragment, &table.key, rows.as_slice())?;
         text.push_str("\n").ok()?;
     }
     Some(())
+}
+
+// Puts whether a fragment shows each of some rows, where columns of the primary key aren't null.
+fn put_shown_by(
+    alloc: Global,
+    text: &mut String,
+    fragment: &Fragment,
+    key: &Seq<ColId>,
+    rows: &[Row],
+) -> Option<()> {
+    let expr = show_expr(alloc, &fragment.conds, key).ok()?;
+    let put = put_holding_rows(text, &expr, rows);
+    drop(expr);
+    put
 }
 
 // Puts whether an expression holds of each of some rows.

@@ -26,7 +26,9 @@ pub fn put_conflicts(alloc: Global, text: &mut String, parts: &Parts<'_>) -> Opt
             index: place as u32,
         };
         let found = regions(alloc, parts, set, MOST_REGIONS).ok()?;
-        put_set(alloc, text, parts, set, &found)?;
+        let put = put_set(alloc, text, parts, set, &found);
+        drop(found);
+        put?;
         text.push_str("\n").ok()?;
     }
     Some(())
@@ -67,8 +69,11 @@ fn put_conflict(
     requires regions { regions.now ≡ regions_of (basis_of parts.now) set }
 {
     let found = first_conflict(alloc, parts, kind, set, regions).ok()?;
-    text.push_str(word_of(&found)).ok()?;
-    Some(found.is_some())
+    let word = word_of(&found);
+    let is_some = found.is_some();
+    drop(found);
+    text.push_str(word).ok()?;
+    Some(is_some)
 }
 
 // A word for a conflict.

@@ -32,29 +32,44 @@ pub fn put_of_data(
             DataKind::Tables,
             judge_tables(alloc, vocabulary, data),
         ),
-        _ => return put_read(alloc, text, asked, vocabulary, data),
+        _ => return put_of_model(alloc, text, asked, vocabulary, Some(data)),
     };
     text.push_str(judged.ok()?.as_str()).ok()
 }
 
-// Puts what is read of a document of data by a model.
-fn put_read(alloc: Global, text: &mut String, asked: Asked, csdl: &Doc, data: &Doc) -> Option<()> {
-    let model = read_csdl(alloc, csdl).ok()?;
-    match asked {
-        Asked::State => put_state(alloc, text, &model, data),
-        Asked::Nodes => put_nodes(alloc, text, &model, data),
-        _ => None,
+/// Puts what is asked of a model, and of a document of data where there is one.
+pub fn put_of_model(
+    alloc: Global,
+    text: &mut String,
+    asked: Asked,
+    csdl: &Doc,
+    data: Option<&Doc>,
+) -> Option<()> {
+    match read_csdl(alloc, csdl) {
+        Ok(model) => {
+            let put = put_by_model(alloc, text, asked, &model, data);
+            drop(model);
+            put
+        }
+        Err(_) => None,
     }
 }
 
-/// Puts what is asked of a model.
-pub fn put_of_model(alloc: Global, text: &mut String, asked: Asked, csdl: &Doc) -> Option<()> {
-    let Ok(model) = read_csdl(alloc, csdl) else {
-        return None;
-    };
-    match asked {
-        Asked::Below => put_below(alloc, text, &model),
-        Asked::Added => put_added(alloc, text, &model),
+// The same by what the model's document means.
+fn put_by_model(
+    alloc: Global,
+    text: &mut String,
+    asked: Asked,
+    model: &EntityModel,
+    data: Option<&Doc>,
+) -> Option<()>
+    requires { IsSoundModel model.now }
+{
+    match (asked, data) {
+        (Asked::State, Some(data)) => put_state(alloc, text, model, data),
+        (Asked::Nodes, Some(data)) => put_nodes(alloc, text, model, data),
+        (Asked::Below, None) => put_below(alloc, text, model),
+        (Asked::Added, None) => put_added(alloc, text, model),
         _ => None,
     }
 }
@@ -62,7 +77,9 @@ pub fn put_of_model(alloc: Global, text: &mut String, asked: Asked, csdl: &Doc) 
 // Puts the state that a document holds.
 fn put_state(alloc: Global, text: &mut String, model: &EntityModel, data: &Doc) -> Option<()> {
     let state = state_of_doc(alloc, data, model).ok()?;
-    put_printed(alloc, text, model, &state)
+    let put = put_printed(alloc, text, model, &state);
+    drop(state);
+    put
 }
 
 // Puts a state as it is printed.
@@ -75,8 +92,12 @@ fn put_printed(
     requires { IsState model.now state.now }
 {
     let printed = state.to_doc(alloc, model).ok()?;
-    let bytes = printed.bytes(alloc).ok()?;
-    put_bytes(text, bytes.as_slice())
+    let bytes = printed.bytes(alloc).ok();
+    drop(printed);
+    let bytes = bytes?;
+    let put = put_bytes(text, bytes.as_slice());
+    drop(bytes);
+    put
 }
 
 // Puts a line for each type, with the types that it is or that stand below it.
@@ -114,7 +135,9 @@ fn put_added(alloc: Global, text: &mut String, model: &EntityModel) -> Option<()
         second: Seq::empty(alloc),
     };
     state.insert_link(AssocId { index: 1 }, link).ok()?;
-    put_lengths(alloc, text, &state)
+    let put = put_lengths(alloc, text, &state);
+    drop(state);
+    put
 }
 
 // Puts how many links each association set has.

@@ -77,8 +77,13 @@ fn put_sizes(alloc: Global, text: &mut String, parts: &Parts<'_>, set: SetId) ->
     requires { AreParts parts.now }
 {
     let found = regions(alloc, parts, set, MOST_REGIONS).ok()?;
-    put(alloc, text, "", found.len() as u64)?;
-    let rows = rows_in(&patterns_of(alloc, parts, &found)?);
+    let counted = found.len();
+    let patterns = patterns_of(alloc, parts, &found);
+    drop(found);
+    let patterns = patterns?;
+    let rows = rows_in(&patterns);
+    drop(patterns);
+    put(alloc, text, "", counted as u64)?;
     put(alloc, text, " regions, ", rows as u64)
 }
 
@@ -113,7 +118,9 @@ pub fn put_links(alloc: Global, text: &mut String, parts: &Parts<'_>) -> Option<
             index: place as u32,
         };
         let made = pattern(alloc, parts, &Focus::Link(assoc)).ok()?;
-        put_pattern(alloc, text, &made)?;
+        let put = put_pattern(alloc, text, &made);
+        drop(made);
+        put?;
         text.push_str("\n").ok()?;
     }
     Some(())
@@ -142,7 +149,9 @@ pub fn put_found(
             index: place as u32,
         };
         let found = regions(alloc, parts, set, MOST_REGIONS).ok()?;
-        put_set(alloc, text, parts, set, state, &found)?;
+        let put = put_set(alloc, text, parts, set, state, &found);
+        drop(found);
+        put?;
     }
     Some(())
 }
