@@ -76,15 +76,22 @@ fn put_conflict(
     Some(is_some)
 }
 
-// A word for a conflict.
+// A word for a conflict, or for none.
 fn word_of(found: &Option<Conflict>) -> &'static str {
     match found {
         None => "none;",
-        Some(Conflict::Clash { .. }) => "clash;",
-        Some(Conflict::NullIn { .. }) => "null;",
-        Some(Conflict::Disagree { .. }) => "disagree;",
-        Some(Conflict::Absent(_)) => "absent;",
-        Some(Conflict::Rival { .. }) => "rivals;",
-        Some(Conflict::Lost { .. }) => "lost;",
+        Some(conflict) => word_of_conflict(conflict),
+    }
+}
+
+// The same where there is one.
+fn word_of_conflict(conflict: &Conflict) -> &'static str {
+    match conflict {
+        Conflict::Clash { .. } => "clash;",
+        Conflict::NullIn { .. } => "null;",
+        Conflict::Disagree { .. } => "disagree;",
+        Conflict::Absent(_) => "absent;",
+        Conflict::Rival { .. } => "rivals;",
+        Conflict::Lost { .. } => "lost;",
     }
 }

@@ -130,13 +130,7 @@ fn put_by_mapping(
 {
     match Cells::of(alloc, model, store, mapping) {
         Ok(cells) => {
-            let parts = Parts {
-                model,
-                store,
-                mapping,
-                cells: &cells,
-            };
-            let put = put_by_parts(alloc, text, asked, &parts, data);
+            let put = put_by_cells(alloc, text, asked, model, store, mapping, &cells, data);
             drop(cells);
             put
         }
@@ -145,20 +139,29 @@ fn put_by_mapping(
 }
 
 // The same by the cells too.
-fn put_by_parts(
+fn put_by_cells(
     alloc: Global,
     text: &mut String,
     asked: Asked,
-    parts: &Parts<'_>,
+    model: &EntityModel,
+    store: &StoreModel,
+    mapping: &Mapping,
+    cells: &Cells,
     data: Option<&Doc>,
 ) -> Option<()>
-    requires sound { IsSoundSchema (schema_in parts.now) }
-    requires cells { TellsCells (schema_in parts.now) parts.now.cells.now }
+    requires sound { IsSoundSchema (schema_of model.now store.now mapping.now) }
+    requires cells { TellsCells (schema_of model.now store.now mapping.now) cells.now }
 {
+    let parts = Parts {
+        model,
+        store,
+        mapping,
+        cells,
+    };
     match asked {
         Asked::Cells => text.push_str("cells\n").ok(),
-        Asked::CellsAgain => put_again(alloc, text, parts),
-        _ => put_within(alloc, text, asked, parts, data),
+        Asked::CellsAgain => put_again(alloc, text, &parts),
+        _ => put_within(alloc, text, asked, &parts, data),
     }
 }
 

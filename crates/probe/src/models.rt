@@ -2,12 +2,12 @@ ghost use Rattle.round_trip.specs.Words.{IsState};
 ghost use Rattle.round_trip.specs.soundness.models.Models.{IsSoundModel};
 
 use crate::asked::Asked;
-use crate::data::{DataKind, judge_entities, judge_tables, text_of};
+use crate::data::{DataKind, Refusal, judge_entities, judge_tables, text_of};
 use crate::nodes::put_nodes;
 use crate::printing::{put, put_bytes};
 use csdl_model::read_csdl;
 use data_documents::state_of_doc;
-use edm_types::{EntityModel, Link, subtree};
+use edm_types::{Breach, EntityModel, Link, subtree};
 use emc_base::{AssocId, Seq, TypeId};
 use entity_state::EntityState;
 use json_form::Doc;
@@ -21,20 +21,29 @@ pub fn put_of_data(
     vocabulary: &Doc,
     data: &Doc,
 ) -> Option<()> {
-    let judged = match asked {
-        Asked::Entities => text_of(
-            alloc,
-            DataKind::Entities,
-            judge_entities(alloc, vocabulary, data),
-        ),
-        Asked::Tables => text_of(
-            alloc,
-            DataKind::Tables,
-            judge_tables(alloc, vocabulary, data),
-        ),
-        _ => return put_of_model(alloc, text, asked, vocabulary, Some(data)),
-    };
-    text.push_str(judged.ok()?.as_str()).ok()
+    match asked {
+        Asked::Entities => {
+            let judged = judge_entities(alloc, vocabulary, data);
+            put_judged(alloc, text, DataKind::Entities, judged)
+        }
+        Asked::Tables => {
+            let judged = judge_tables(alloc, vocabulary, data);
+            put_judged(alloc, text, DataKind::Tables, judged)
+        }
+        _ => put_of_model(alloc, text, asked, vocabulary, Some(data)),
+    }
+}
+
+// Puts what is judged of a document of data.
+fn put_judged(
+    alloc: Global,
+    text: &mut String,
+    kind: DataKind,
+    judged: Result<Option<Breach>, Refusal>,
+) -> Option<()> {
+    let told = text_of(alloc, kind, &judged);
+    drop(judged);
+    text.push_str(told.ok()?.as_str()).ok()
 }
 
 /// Puts what is asked of a model, and of a document of data where there is one.
