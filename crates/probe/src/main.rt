@@ -49,19 +49,9 @@ fn print(rt: &HostRuntime, text: &str) -> ExitCode {
 fn put_answer(rt: &HostRuntime, text: &mut String) -> Option<()> {
     let mut words = env::args(rt).ok()?;
     words.next()?;
-    let asked = asked_by(&mut words)?;
+    let asked = Asked::of(words.next()?.as_str())?;
     let documents = documents_in(rt.alloc(), &mut DiskFiles::new(rt), words)?;
-    let put = put_of_documents(rt.alloc(), text, asked, documents.as_slice());
-    drop(documents);
-    put
-}
-
-// What the next word asks.
-fn asked_by(words: &mut Args) -> Option<Asked> {
-    let word = words.next()?;
-    let asked = Asked::of(word.as_str());
-    drop(word);
-    asked
+    put_of_documents(rt.alloc(), text, asked, documents.as_slice())
 }
 
 // The documents in files.

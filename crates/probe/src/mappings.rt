@@ -17,7 +17,6 @@ use cells::{Cells, Parts, is_within_limits};
 use csdl_model::read_csdl;
 use data_documents::{state_of_doc, tables_of_doc};
 use edm_types::{EntityModel, Mapping, StoreModel};
-use emc_base::Memory;
 use entity_state::EntityState;
 use json_form::Doc;
 use msl_fragments::read_msl;
@@ -128,14 +127,10 @@ fn put_by_mapping(
 ) -> Option<()>
     requires { IsSoundSchema (schema_of model.now store.now mapping.now) }
 {
-    match Cells::of(alloc, model, store, mapping) {
-        Ok(cells) => {
-            let put = put_by_cells(alloc, text, asked, model, store, mapping, &cells, data);
-            drop(cells);
-            put
-        }
-        Err(Memory) => None,
-    }
+    let cells = Cells::of(alloc, model, store, mapping).ok()?;
+    let put = put_by_cells(alloc, text, asked, model, store, mapping, &cells, data);
+    drop(cells);
+    put
 }
 
 // The same by the cells too.

@@ -25,8 +25,6 @@ pub fn has_same_tables(alloc: Global, parts: &Parts<'_>, regions: &[Region]) -> 
         let pattern = region_pattern(alloc, parts, region)?;
         let shown = Shown { region, pattern };
         if is_same(parts.model, &shown, before.as_slice()) {
-            drop(shown);
-            drop(before);
             return Ok(true);
         }
         before.push(shown)?;

@@ -5,7 +5,7 @@ use crate::views::all_regions;
 use crate::views::loading::views_of;
 use case_laws::Case;
 use cells::{HostLinks, Parts};
-use edm_types::{Entity, Hosted, Link, key_of};
+use edm_types::{Entity, Link, key_of};
 use emc_base::{AssocId, Seq, SetId, Steps};
 use entity_state::EntityState;
 use std::alloc::Global;
@@ -102,28 +102,13 @@ fn put_entities(
 ) -> Option<()> {
     for entity in entities {
         let key = key_of(alloc, parts.model, entity).ok()?;
-        let put = put_entity(alloc, text, views, set, entity, hosts.at(set, &key));
-        drop(key);
-        put?;
+        let links = hosts.at(set, &key);
+        let rows = views
+            .local(alloc, set, entity, links, &mut Steps::new())
+            .ok()?;
+        put_lines(alloc, text, rows.as_slice())?;
     }
     Some(())
-}
-
-// Puts the rows of an entity with the links that it hosts.
-fn put_entity(
-    alloc: Global,
-    text: &mut String,
-    views: &UpdateViews,
-    set: SetId,
-    entity: &Entity,
-    links: &Seq<Hosted>,
-) -> Option<()> {
-    let rows = views
-        .local(alloc, set, entity, links, &mut Steps::new())
-        .ok()?;
-    let put = put_lines(alloc, text, rows.as_slice());
-    drop(rows);
-    put
 }
 
 // Puts a line for each row.

@@ -137,30 +137,12 @@ fn put_key(
 {
     let mut key: Key = Seq::empty(alloc);
     key.push(Value::Whole(number)).ok()?;
-    let put = put_at(alloc, text, parts, views, tables, &key);
-    drop(key);
-    put
-}
-
-// Puts the line of a key, where it has as many parts as a key of the first set.
-fn put_at(
-    alloc: Global,
-    text: &mut String,
-    parts: &Parts<'_>,
-    views: &QueryViews,
-    tables: &Tables,
-    key: &Key,
-) -> Option<()>
-    requires parts { AreParts parts.now }
-    requires views { AreQueryViewsOf (basis_of parts.now) (is_free_in parts.now.cells.now) views.now }
-    requires legal { AreLegalTables parts.now.store.now tables.now }
-{
     if FIRST.index as usize >= parts.model.sets.len()
         || key.len() != key_length(parts.model, FIRST)
     {
         return None;
     }
-    match views.entity_at(alloc, parts, tables, FIRST, key) {
+    match views.entity_at(alloc, parts, tables, FIRST, &key) {
         Ok(found) => {
             let put = put_entity_line(alloc, text, &found.entity);
             drop(found);
