@@ -12,7 +12,7 @@ use crate::conflicts::put_conflicts;
 use crate::models::{put_of_data, put_of_model};
 use crate::owners::put_owners;
 use crate::region_counts::{put_counts, put_found, put_links, put_regions};
-use crate::views::{put_keys, put_lent, put_rows, put_views};
+use crate::views::{put_rows, put_told, put_views};
 use cells::{Cells, Parts, is_within_limits};
 use csdl_model::read_csdl;
 use data_documents::{state_of_doc, tables_of_doc};
@@ -276,8 +276,6 @@ fn put_by_tables(
 {
     match asked {
         Asked::Shown => put_shown(alloc, text, parts, tables.as_slice()),
-        Asked::Keys => put_keys(alloc, text, parts, tables),
-        Asked::Lent => put_lent(alloc, text, parts, tables),
-        _ => None,
+        _ => put_told(alloc, text, asked, parts, tables),
     }
 }

@@ -6,6 +6,7 @@ ghost use Rattle.region_states.specs.region_basis.BasisOf.{basis_of};
 ghost use Rattle.round_trip.specs.Words.{AreLegalTables, AreTables};
 ghost use Rattle.round_trip.specs.soundness.Lookups.{set_key};
 
+use crate::asked::Asked;
 use crate::printing::{put, put_entity_line, put_value};
 use crate::views::all_regions;
 use cells::Parts;
@@ -17,9 +18,14 @@ use table_files::{Tables, is_legal};
 
 const FIRST: SetId = SetId { index: 0 };
 
-/// Puts a line for each of the keys 1 to 3, with the entity of the first set that legal tables tell there: its type and its values; or that there
-/// is none, or that the rows there meet no case.
-pub fn put_keys(alloc: Global, text: &mut String, parts: &Parts<'_>, tables: &Tables) -> Option<()>
+/// Puts what is asked of legal tables, by the query views.
+pub fn put_told(
+    alloc: Global,
+    text: &mut String,
+    asked: Asked,
+    parts: &Parts<'_>,
+    tables: &Tables,
+) -> Option<()>
     requires parts { AreParts parts.now }
     requires tables { AreTables parts.now.store.now tables.now }
 {
@@ -27,13 +33,34 @@ pub fn put_keys(alloc: Global, text: &mut String, parts: &Parts<'_>, tables: &Ta
         return None;
     }
     let views = views_of(alloc, parts)?;
-    let put = put_keys_by(alloc, text, parts, &views, tables);
+    let put = put_by_views(alloc, text, asked, parts, &views, tables);
     drop(views);
     put
 }
 
 // The same by the views.
-fn put_keys_by(
+fn put_by_views(
+    alloc: Global,
+    text: &mut String,
+    asked: Asked,
+    parts: &Parts<'_>,
+    views: &QueryViews,
+    tables: &Tables,
+) -> Option<()>
+    requires parts { AreParts parts.now }
+    requires views { AreQueryViewsOf (basis_of parts.now) (is_free_in parts.now.cells.now) views.now }
+    requires legal { AreLegalTables parts.now.store.now tables.now }
+{
+    match asked {
+        Asked::Keys => put_keys(alloc, text, parts, views, tables),
+        Asked::Lent => put_lent(alloc, text, parts, views, tables),
+        _ => None,
+    }
+}
+
+// Puts a line for each of the keys 1 to 3, with the entity of the first set that is told there: its type and its values; or that there is none,
+// or that the rows there meet no case.
+fn put_keys(
     alloc: Global,
     text: &mut String,
     parts: &Parts<'_>,
@@ -49,23 +76,9 @@ fn put_keys_by(
     put_key(alloc, text, parts, views, tables, 3)
 }
 
-/// Puts a line for each entity of the first set that legal tables tell, in the order of keys, with its type and its second property; or that the
-/// rows at a key meet no case.
-pub fn put_lent(alloc: Global, text: &mut String, parts: &Parts<'_>, tables: &Tables) -> Option<()>
-    requires parts { AreParts parts.now }
-    requires tables { AreTables parts.now.store.now tables.now }
-{
-    if !is_legal(tables.as_slice(), parts.store) {
-        return None;
-    }
-    let views = views_of(alloc, parts)?;
-    let put = put_lent_by(alloc, text, parts, &views, tables);
-    drop(views);
-    put
-}
-
-// The same by the views.
-fn put_lent_by(
+// Puts a line for each entity of the first set, in the order of keys, with its type and its second property; or that the rows at a key meet no
+// case.
+fn put_lent(
     alloc: Global,
     text: &mut String,
     parts: &Parts<'_>,
