@@ -4,7 +4,7 @@ ghost use Rattle.round_trip.specs.soundness.models.Models.{IsSoundModel};
 use crate::printing::put_flag;
 use cells::Parts;
 use condition_logic::{Expr, holds_entity, holds_row, select_expr, show_expr};
-use edm_types::{Entity, EntityModel, Fragment, Row};
+use edm_types::{Entity, EntityModel, Fragment, Row, StoreModel};
 use emc_base::Seq;
 use entity_state::EntityState;
 use std::alloc::Global;
@@ -37,7 +37,9 @@ fn put_selected_by(
 {
     let entities = state.entity_lists().get(fragment.set.index as usize)?;
     let expr = select_expr(alloc, fragment).ok()?;
-    put_holding(text, model, &expr, entities.as_slice())
+    let put = put_holding(text, model, &expr, entities.as_slice());
+    drop(expr);
+    put
 }
 
 // Puts whether an expression holds of each of some entities.
@@ -63,13 +65,26 @@ pub fn put_shown(
     tables: &[Seq<Row>],
 ) -> Option<()> {
     for fragment in parts.mapping.fragments.as_slice() {
-        let table = parts.store.tables.get(fragment.table.index as usize)?;
-        let rows = tables.get(fragment.table.index as usize)?;
-        let expr = show_expr(alloc, &fragment.conds, &table.key).ok()?;
-        put_holding_rows(text, &expr, rows.as_slice())?;
+        put_shown_by(alloc, text, parts.store, fragment, tables)?;
         text.push_str("\n").ok()?;
     }
     Some(())
+}
+
+// Puts whether a fragment shows each row of its table, where columns of the primary key aren't null.
+fn put_shown_by(
+    alloc: Global,
+    text: &mut String,
+    store: &StoreModel,
+    fragment: &Fragment,
+    tables: &[Seq<Row>],
+) -> Option<()> {
+    let table = store.tables.get(fragment.table.index as usize)?;
+    let rows = tables.get(fragment.table.index as usize)?;
+    let expr = show_expr(alloc, &fragment.conds, &table.key).ok()?;
+    let put = put_holding_rows(text, &expr, rows.as_slice());
+    drop(expr);
+    put
 }
 
 // Puts whether an expression holds of each of some rows.

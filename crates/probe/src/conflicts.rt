@@ -26,7 +26,9 @@ pub fn put_conflicts(alloc: Global, text: &mut String, parts: &Parts<'_>) -> Opt
             index: place as u32,
         };
         let found = regions(alloc, parts, set, MOST_REGIONS).ok()?;
-        put_set(alloc, text, parts, set, &found)?;
+        let put = put_set(alloc, text, parts, set, &found);
+        drop(found);
+        put?;
         text.push_str("\n").ok()?;
     }
     Some(())
@@ -67,19 +69,29 @@ fn put_conflict(
     requires regions { regions.now ≡ regions_of (basis_of parts.now) set }
 {
     let found = first_conflict(alloc, parts, kind, set, regions).ok()?;
-    text.push_str(word_of(&found)).ok()?;
-    Some(found.is_some())
+    let word = word_of(&found);
+    let is_some = found.is_some();
+    drop(found);
+    text.push_str(word).ok()?;
+    Some(is_some)
 }
 
-// A word for a conflict.
+// A word for a conflict, or for none.
 fn word_of(found: &Option<Conflict>) -> &'static str {
     match found {
         None => "none;",
-        Some(Conflict::Clash { .. }) => "clash;",
-        Some(Conflict::NullIn { .. }) => "null;",
-        Some(Conflict::Disagree { .. }) => "disagree;",
-        Some(Conflict::Absent(_)) => "absent;",
-        Some(Conflict::Rival { .. }) => "rivals;",
-        Some(Conflict::Lost { .. }) => "lost;",
+        Some(conflict) => word_of_conflict(conflict),
+    }
+}
+
+// The same where there is one.
+fn word_of_conflict(conflict: &Conflict) -> &'static str {
+    match conflict {
+        Conflict::Clash { .. } => "clash;",
+        Conflict::NullIn { .. } => "null;",
+        Conflict::Disagree { .. } => "disagree;",
+        Conflict::Absent(_) => "absent;",
+        Conflict::Rival { .. } => "rivals;",
+        Conflict::Lost { .. } => "lost;",
     }
 }

@@ -3,4 +3,5 @@ mod refusal;
 mod text;
 
 pub use judge::{judge_entities, judge_tables};
+pub use refusal::Refusal;
 pub use text::{DataKind, text_of};

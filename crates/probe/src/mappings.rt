@@ -1,6 +1,7 @@
 ghost use Rattle.cells.specs.Cells.{TellsCells};
 ghost use Rattle.cells.specs.Parts.{AreParts, schema_in};
 ghost use Rattle.round_trip.specs.Between.{schema_of};
+ghost use Rattle.round_trip.specs.Words.{AreTables};
 ghost use Rattle.round_trip.specs.soundness.mappings.Mappings.{IsSoundSchema};
 ghost use Rattle.round_trip.specs.soundness.models.Models.{IsSoundModel};
 ghost use Rattle.round_trip.specs.soundness.Stores.{IsSoundStore};
@@ -11,7 +12,7 @@ use crate::conflicts::put_conflicts;
 use crate::models::{put_of_data, put_of_model};
 use crate::owners::put_owners;
 use crate::region_counts::{put_counts, put_found, put_links, put_regions};
-use crate::views::{put_keys, put_lent, put_rows, put_views};
+use crate::views::{put_rows, put_told, put_views};
 use cells::{Cells, Parts, is_within_limits};
 use csdl_model::read_csdl;
 use data_documents::{state_of_doc, tables_of_doc};
@@ -40,7 +41,7 @@ pub fn put_of_documents(
     documents: &[Doc],
 ) -> Option<()> {
     match documents {
-        [csdl] => put_of_model(alloc, text, asked, csdl),
+        [csdl] => put_of_model(alloc, text, asked, csdl, None),
         [vocabulary, data] => put_of_data(alloc, text, asked, vocabulary, data),
         [csdl, ssdl, msl] => {
             let data = None;
@@ -62,10 +63,14 @@ fn put_of_three(
     csdl: &Doc,
     above: Above<'_>,
 ) -> Option<()> {
-    let Ok(model) = read_csdl(alloc, csdl) else {
-        return None;
-    };
-    put_by_model(alloc, text, asked, &model, above)
+    match read_csdl(alloc, csdl) {
+        Ok(model) => {
+            let put = put_by_model(alloc, text, asked, &model, above);
+            drop(model);
+            put
+        }
+        Err(_) => None,
+    }
 }
 
 // The same by what the model's document means.
@@ -78,10 +83,14 @@ fn put_by_model(
 ) -> Option<()>
     requires { IsSoundModel model.now }
 {
-    let Ok(store) = read_ssdl(alloc, above.ssdl) else {
-        return None;
-    };
-    put_by_store(alloc, text, asked, model, &store, above)
+    match read_ssdl(alloc, above.ssdl) {
+        Ok(store) => {
+            let put = put_by_store(alloc, text, asked, model, &store, above);
+            drop(store);
+            put
+        }
+        Err(_) => None,
+    }
 }
 
 // The same by what the store's document means too.
@@ -96,10 +105,14 @@ fn put_by_store(
     requires model { IsSoundModel model.now }
     requires store { IsSoundStore store.now }
 {
-    let Ok(mapping) = read_msl(alloc, above.msl, model, store) else {
-        return None;
-    };
-    put_by_mapping(alloc, text, asked, model, store, &mapping, above.data)
+    match read_msl(alloc, above.msl, model, store) {
+        Ok(mapping) => {
+            let put = put_by_mapping(alloc, text, asked, model, store, &mapping, above.data);
+            drop(mapping);
+            put
+        }
+        Err(_) => None,
+    }
 }
 
 // The same by what all three mean.
@@ -114,10 +127,26 @@ fn put_by_mapping(
 ) -> Option<()>
     requires { IsSoundSchema (schema_of model.now store.now mapping.now) }
 {
-    let Ok(cells) = Cells::of(alloc, model, store, mapping) else {
-        return None;
-    };
-    let cells = &cells;
+    let cells = Cells::of(alloc, model, store, mapping).ok()?;
+    let put = put_by_cells(alloc, text, asked, model, store, mapping, &cells, data);
+    drop(cells);
+    put
+}
+
+// The same by the cells too.
+fn put_by_cells(
+    alloc: Global,
+    text: &mut String,
+    asked: Asked,
+    model: &EntityModel,
+    store: &StoreModel,
+    mapping: &Mapping,
+    cells: &Cells,
+    data: Option<&Doc>,
+) -> Option<()>
+    requires sound { IsSoundSchema (schema_of model.now store.now mapping.now) }
+    requires cells { TellsCells (schema_of model.now store.now mapping.now) cells.now }
+{
     let parts = Parts {
         model,
         store,
@@ -136,7 +165,8 @@ fn put_again(alloc: Global, text: &mut String, parts: &Parts<'_>) -> Option<()>
     requires { IsSoundSchema (schema_in parts.now) }
 {
     for _ in 0..10 {
-        Cells::of(alloc, parts.model, parts.store, parts.mapping).ok()?;
+        let cells = Cells::of(alloc, parts.model, parts.store, parts.mapping).ok()?;
+        drop(cells);
     }
     text.push_str("cells\n").ok()
 }
@@ -190,7 +220,9 @@ fn put_of_entities(
         return put_of_tables(alloc, text, asked, parts, data);
     }
     let state = state_of_doc(alloc, data, parts.model).ok()?;
-    put_of_state(alloc, text, asked, parts, &state)
+    let put = put_of_state(alloc, text, asked, parts, &state);
+    drop(state);
+    put
 }
 
 // Puts what is asked of a state.
@@ -221,13 +253,29 @@ fn put_of_tables(
 ) -> Option<()>
     requires { AreParts parts.now }
 {
-    let Ok(tables) = tables_of_doc(alloc, data, parts.store) else {
-        return None;
-    };
+    match tables_of_doc(alloc, data, parts.store) {
+        Ok(tables) => {
+            let put = put_by_tables(alloc, text, asked, parts, &tables);
+            drop(tables);
+            put
+        }
+        Err(_) => None,
+    }
+}
+
+// The same by the tables that a document holds.
+fn put_by_tables(
+    alloc: Global,
+    text: &mut String,
+    asked: Asked,
+    parts: &Parts<'_>,
+    tables: &Tables,
+) -> Option<()>
+    requires parts { AreParts parts.now }
+    requires tables { AreTables parts.now.store.now tables.now }
+{
     match asked {
         Asked::Shown => put_shown(alloc, text, parts, tables.as_slice()),
-        Asked::Keys => put_keys(alloc, text, parts, &tables),
-        Asked::Lent => put_lent(alloc, text, parts, &tables),
-        _ => None,
+        _ => put_told(alloc, text, asked, parts, tables),
     }
 }

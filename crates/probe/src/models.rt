@@ -2,12 +2,12 @@ ghost use Rattle.round_trip.specs.Words.{IsState};
 ghost use Rattle.round_trip.specs.soundness.models.Models.{IsSoundModel};
 
 use crate::asked::Asked;
-use crate::data::{DataKind, judge_entities, judge_tables, text_of};
+use crate::data::{DataKind, Refusal, judge_entities, judge_tables, text_of};
 use crate::nodes::put_nodes;
 use crate::printing::{put, put_bytes};
 use csdl_model::read_csdl;
 use data_documents::state_of_doc;
-use edm_types::{EntityModel, Link, subtree};
+use edm_types::{Breach, EntityModel, Link, subtree};
 use emc_base::{AssocId, Seq, TypeId};
 use entity_state::EntityState;
 use json_form::Doc;
@@ -21,40 +21,64 @@ pub fn put_of_data(
     vocabulary: &Doc,
     data: &Doc,
 ) -> Option<()> {
-    let judged = match asked {
-        Asked::Entities => text_of(
-            alloc,
-            DataKind::Entities,
-            judge_entities(alloc, vocabulary, data),
-        ),
-        Asked::Tables => text_of(
-            alloc,
-            DataKind::Tables,
-            judge_tables(alloc, vocabulary, data),
-        ),
-        _ => return put_read(alloc, text, asked, vocabulary, data),
-    };
-    text.push_str(judged.ok()?.as_str()).ok()
-}
-
-// Puts what is read of a document of data by a model.
-fn put_read(alloc: Global, text: &mut String, asked: Asked, csdl: &Doc, data: &Doc) -> Option<()> {
-    let model = read_csdl(alloc, csdl).ok()?;
     match asked {
-        Asked::State => put_state(alloc, text, &model, data),
-        Asked::Nodes => put_nodes(alloc, text, &model, data),
-        _ => None,
+        Asked::Entities => {
+            let judged = judge_entities(alloc, vocabulary, data);
+            put_judged(alloc, text, DataKind::Entities, judged)
+        }
+        Asked::Tables => {
+            let judged = judge_tables(alloc, vocabulary, data);
+            put_judged(alloc, text, DataKind::Tables, judged)
+        }
+        _ => put_of_model(alloc, text, asked, vocabulary, Some(data)),
     }
 }
 
-/// Puts what is asked of a model.
-pub fn put_of_model(alloc: Global, text: &mut String, asked: Asked, csdl: &Doc) -> Option<()> {
-    let Ok(model) = read_csdl(alloc, csdl) else {
-        return None;
-    };
-    match asked {
-        Asked::Below => put_below(alloc, text, &model),
-        Asked::Added => put_added(alloc, text, &model),
+// Puts what is judged of a document of data.
+fn put_judged(
+    alloc: Global,
+    text: &mut String,
+    kind: DataKind,
+    judged: Result<Option<Breach>, Refusal>,
+) -> Option<()> {
+    let told = text_of(alloc, kind, &judged);
+    drop(judged);
+    text.push_str(told.ok()?.as_str()).ok()
+}
+
+/// Puts what is asked of a model, and of a document of data where there is one.
+pub fn put_of_model(
+    alloc: Global,
+    text: &mut String,
+    asked: Asked,
+    csdl: &Doc,
+    data: Option<&Doc>,
+) -> Option<()> {
+    match read_csdl(alloc, csdl) {
+        Ok(model) => {
+            let put = put_by_model(alloc, text, asked, &model, data);
+            drop(model);
+            put
+        }
+        Err(_) => None,
+    }
+}
+
+// The same by what the model's document means.
+fn put_by_model(
+    alloc: Global,
+    text: &mut String,
+    asked: Asked,
+    model: &EntityModel,
+    data: Option<&Doc>,
+) -> Option<()>
+    requires { IsSoundModel model.now }
+{
+    match (asked, data) {
+        (Asked::State, Some(data)) => put_state(alloc, text, model, data),
+        (Asked::Nodes, Some(data)) => put_nodes(alloc, text, model, data),
+        (Asked::Below, None) => put_below(alloc, text, model),
+        (Asked::Added, None) => put_added(alloc, text, model),
         _ => None,
     }
 }
@@ -62,7 +86,9 @@ pub fn put_of_model(alloc: Global, text: &mut String, asked: Asked, csdl: &Doc) 
 // Puts the state that a document holds.
 fn put_state(alloc: Global, text: &mut String, model: &EntityModel, data: &Doc) -> Option<()> {
     let state = state_of_doc(alloc, data, model).ok()?;
-    put_printed(alloc, text, model, &state)
+    let put = put_printed(alloc, text, model, &state);
+    drop(state);
+    put
 }
 
 // Puts a state as it is printed.
@@ -75,8 +101,12 @@ fn put_printed(
     requires { IsState model.now state.now }
 {
     let printed = state.to_doc(alloc, model).ok()?;
-    let bytes = printed.bytes(alloc).ok()?;
-    put_bytes(text, bytes.as_slice())
+    let bytes = printed.bytes(alloc).ok();
+    drop(printed);
+    let bytes = bytes?;
+    let put = put_bytes(text, bytes.as_slice());
+    drop(bytes);
+    put
 }
 
 // Puts a line for each type, with the types that it is or that stand below it.
@@ -114,7 +144,9 @@ fn put_added(alloc: Global, text: &mut String, model: &EntityModel) -> Option<()
         second: Seq::empty(alloc),
     };
     state.insert_link(AssocId { index: 1 }, link).ok()?;
-    put_lengths(alloc, text, &state)
+    let put = put_lengths(alloc, text, &state);
+    drop(state);
+    put
 }
 
 // Puts how many links each association set has.

@@ -1,6 +1,6 @@
-use crate::printing::{put, put_values};
+use crate::printing::{put_entity_line, put_values};
 use data_documents::{ModelNames, ShapeFault, entity_of_node, key_of_node, link_of_node};
-use edm_types::EntityModel;
+use edm_types::{EntityModel, Link};
 use emc_base::{AssocId, Txt, TypeId};
 use json_form::Doc;
 use std::alloc::Global;
@@ -9,11 +9,23 @@ use std::alloc::Global;
 /// it as a link of each association set. Where it is of another shape, the line has the place.
 pub fn put_nodes(alloc: Global, text: &mut String, model: &EntityModel, data: &Doc) -> Option<()> {
     let names = ModelNames::of(alloc, model).ok()?;
-    let at = Txt::of(alloc, "/Inserts/0").ok()?;
-    put_each(alloc, text, &names, data, &at)
+    let put = put_by_names(alloc, text, &names, data);
+    drop(names);
+    put
 }
 
 // The same by the names of the model.
+fn put_by_names(
+    alloc: Global,
+    text: &mut String,
+    names: &ModelNames<'_>,
+    data: &Doc,
+) -> Option<()> {
+    let at = Txt::of(alloc, "/Inserts/0").ok()?;
+    put_each(alloc, text, names, data, &at)
+}
+
+// The same with the place at which the document stands.
 fn put_each(
     alloc: Global,
     text: &mut String,
@@ -59,12 +71,12 @@ fn put_entity(
     text.push_str("entity ").ok()?;
     match entity_of_node(alloc, names, data.root(), at) {
         Ok(entity) => {
-            put(alloc, text, "", u64::from(entity.ty.index))?;
-            put_values(alloc, text, &entity.values)?;
+            let put = put_entity_line(alloc, text, &entity);
+            drop(entity);
+            put
         }
-        Err(fault) => put_fault(text, &fault)?,
+        Err(fault) => put_fault(text, fault),
     }
-    text.push_str("\n").ok()
 }
 
 // Puts the line of a key.
@@ -78,10 +90,14 @@ fn put_key(
 ) -> Option<()> {
     text.push_str("key ").ok()?;
     match key_of_node(alloc, names, ty, data.root(), at) {
-        Ok(key) => put_values(alloc, text, &key)?,
-        Err(fault) => put_fault(text, &fault)?,
+        Ok(key) => {
+            let put = put_values(alloc, text, &key);
+            drop(key);
+            put?;
+            text.push_str("\n").ok()
+        }
+        Err(fault) => put_fault(text, fault),
     }
-    text.push_str("\n").ok()
 }
 
 // Puts the line of a link.
@@ -96,18 +112,30 @@ fn put_link(
     text.push_str("link ").ok()?;
     match link_of_node(alloc, names, assoc, data.root(), at) {
         Ok(link) => {
-            put_values(alloc, text, &link.first)?;
-            put_values(alloc, text, &link.second)?;
+            let put = put_ends(alloc, text, &link);
+            drop(link);
+            put
         }
-        Err(fault) => put_fault(text, &fault)?,
+        Err(fault) => put_fault(text, fault),
     }
+}
+
+// Puts the ends of a link, and ends the line.
+fn put_ends(alloc: Global, text: &mut String, link: &Link) -> Option<()> {
+    put_values(alloc, text, &link.first)?;
+    put_values(alloc, text, &link.second)?;
     text.push_str("\n").ok()
 }
 
-// Puts the place of a fault.
-fn put_fault(text: &mut String, fault: &ShapeFault) -> Option<()> {
+// Puts the place of a fault, and ends the line.
+fn put_fault(text: &mut String, fault: ShapeFault) -> Option<()> {
     match fault {
-        ShapeFault::Shape(pointer) => text.push_str(pointer.as_str()).ok(),
+        ShapeFault::Shape(pointer) => {
+            let put = text.push_str(pointer.as_str()).ok();
+            drop(pointer);
+            put?;
+            text.push_str("\n").ok()
+        }
         ShapeFault::Memory => None,
     }
 }

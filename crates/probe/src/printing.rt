@@ -1,3 +1,4 @@
+use edm_types::Entity;
 use emc_base::{Key, Value};
 use json_form::{key_tree, value_tree};
 use std::alloc::Global;
@@ -13,6 +14,13 @@ pub fn put_values(alloc: Global, text: &mut String, values: &Key) -> Option<()> 
     let tree = key_tree(alloc, values).ok()?;
     let shown = tree.to_string(alloc).ok()?;
     text.push_str(shown.as_str()).ok()
+}
+
+/// Puts the type and the values of an entity, and ends the line.
+pub fn put_entity_line(alloc: Global, text: &mut String, entity: &Entity) -> Option<()> {
+    put(alloc, text, "", u64::from(entity.ty.index))?;
+    put_values(alloc, text, &entity.values)?;
+    text.push_str("\n").ok()
 }
 
 /// Puts a value as JSON.

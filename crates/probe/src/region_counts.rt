@@ -9,9 +9,9 @@ use edm_types::{Entity, Hosted, key_of};
 use emc_base::{AssocId, Seq, SetId};
 use entity_state::EntityState;
 use region_partition::{RegionsFault, find_region, regions};
-use regions::{Focus, Pattern, Region};
+use regions::{Pattern, Region};
 use std::alloc::Global;
-use symbolic_rows::{pattern, region_pattern};
+use symbolic_rows::{link_pattern, region_pattern};
 
 /// The most regions of a set.
 pub const MOST_REGIONS: u64 = 16_384;
@@ -77,8 +77,13 @@ fn put_sizes(alloc: Global, text: &mut String, parts: &Parts<'_>, set: SetId) ->
     requires { AreParts parts.now }
 {
     let found = regions(alloc, parts, set, MOST_REGIONS).ok()?;
-    put(alloc, text, "", found.len() as u64)?;
-    let rows = rows_in(&patterns_of(alloc, parts, &found)?);
+    let counted = found.len();
+    let patterns = patterns_of(alloc, parts, &found);
+    drop(found);
+    let patterns = patterns?;
+    let rows = rows_in(&patterns);
+    drop(patterns);
+    put(alloc, text, "", counted as u64)?;
     put(alloc, text, " regions, ", rows as u64)
 }
 
@@ -112,11 +117,20 @@ pub fn put_links(alloc: Global, text: &mut String, parts: &Parts<'_>) -> Option<
         let assoc = AssocId {
             index: place as u32,
         };
-        let made = pattern(alloc, parts, &Focus::Link(assoc)).ok()?;
-        put_pattern(alloc, text, &made)?;
+        put_link(alloc, text, parts, assoc)?;
         text.push_str("\n").ok()?;
     }
     Some(())
+}
+
+// Puts the rows in the pattern of a link.
+fn put_link(alloc: Global, text: &mut String, parts: &Parts<'_>, assoc: AssocId) -> Option<()>
+    requires { AreParts parts.now }
+{
+    let made = link_pattern(alloc, parts, assoc).ok()?;
+    let put = put_pattern(alloc, text, &made);
+    drop(made);
+    put
 }
 
 // Puts the rows of a pattern.
@@ -142,7 +156,9 @@ pub fn put_found(
             index: place as u32,
         };
         let found = regions(alloc, parts, set, MOST_REGIONS).ok()?;
-        put_set(alloc, text, parts, set, state, &found)?;
+        let put = put_set(alloc, text, parts, set, state, &found);
+        drop(found);
+        put?;
     }
     Some(())
 }

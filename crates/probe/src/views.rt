@@ -9,7 +9,7 @@ mod loading;
 use cells::Parts;
 use emc_base::Seq;
 pub use linking::{put_rows, put_views};
-pub use loading::{put_keys, put_lent};
+pub use loading::put_told;
 use region_partition::{first_limit, regions_of_sets};
 use regions::Region;
 use std::alloc::Global;

@@ -14,9 +14,18 @@ pub fn judge_entities(alloc: Global, csdl: &Doc, entities: &Doc) -> Result<Optio
     ensures { JudgesEntities (tree_of csdl.now) (tree_of entities.now) result }
 {
     let model = read_csdl(alloc, csdl)?;
-    let state = state_of_doc(alloc, entities, &model)?;
-    let breach = state_legality::first_breach(alloc, &state, &model)?;
-    Ok(breach)
+    match state_of_doc(alloc, entities, &model) {
+        Ok(state) => {
+            let breach = state_legality::first_breach(alloc, &state, &model);
+            drop(state);
+            drop(model);
+            Ok(breach?)
+        }
+        Err(fault) => {
+            drop(model);
+            Err(Refusal::Shape(fault))
+        }
+    }
 }
 
 /// The first breach in a document of tables, by the store that an SSDL document means; `None` where they are legal.
@@ -24,7 +33,16 @@ pub fn judge_tables(alloc: Global, ssdl: &Doc, tables: &Doc) -> Result<Option<Br
     ensures { JudgesTables (tree_of ssdl.now) (tree_of tables.now) result }
 {
     let store = read_ssdl(alloc, ssdl)?;
-    let rows = tables_of_doc(alloc, tables, &store)?;
-    let breach = table_files::first_breach(alloc, rows.as_slice(), &store)?;
-    Ok(breach)
+    match tables_of_doc(alloc, tables, &store) {
+        Ok(rows) => {
+            let breach = table_files::first_breach(alloc, rows.as_slice(), &store);
+            drop(rows);
+            drop(store);
+            Ok(breach?)
+        }
+        Err(fault) => {
+            drop(store);
+            Err(Refusal::Shape(fault))
+        }
+    }
 }

@@ -24,17 +24,6 @@ impl From<VocabFault> for Refusal {
     }
 }
 
-impl From<ShapeFault> for Refusal {
-    ghost use Rattle.std.specs.Prelude.{◌≡◌};
-    ghost use Rattle.probe.specs.declared.data.refusal.Refusal.TheVariants as refusal;
-
-    ghost from_gives = { λ fault given. given ≡ refusal.Shape fault };
-
-    fn from(fault: ShapeFault) -> Refusal {
-        Refusal::Shape(fault)
-    }
-}
-
 impl From<Memory> for Refusal {
     ghost use Rattle.std.specs.Prelude.{◌≡◌};
     ghost use Rattle.probe.specs.declared.data.refusal.Refusal.TheVariants as refusal;

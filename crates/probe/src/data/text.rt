@@ -9,7 +9,7 @@ use json_form::{place_text, quoted};
 use std::alloc::Global;
 
 /// What a document holds.
-#[derive(Clone, Copy, Debug, PartialEq, Eq)]
+#[derive(Clone, Copy)]
 pub enum DataKind {
     /// The entities and links of a model.
     Entities,
@@ -43,17 +43,17 @@ impl DataKind {
 pub fn text_of(
     alloc: Global,
     kind: DataKind,
-    judged: Result<Option<Breach>, Refusal>,
+    judged: &Result<Option<Breach>, Refusal>,
 ) -> Result<String, Memory>
-    ensures { IfOk result (λ text. Some (string_bytes text) ≡ told_text kind judged) }
+    ensures { IfOk result (λ text. Some (string_bytes text) ≡ told_text kind judged.now) }
 {
     match judged {
         Ok(None) => Ok(String::from_str(alloc, "legal\n")?),
-        Ok(Some(breach)) => breach_text(alloc, kind, &breach),
+        Ok(Some(breach)) => breach_text(alloc, kind, breach),
         Err(Refusal::Shape(ShapeFault::Shape(pointer))) => {
             shape_text(alloc, kind, pointer.as_str())
         }
-        Err(Refusal::Vocabulary(VocabFault::Rule(fault))) => rule_text(alloc, &fault),
+        Err(Refusal::Vocabulary(VocabFault::Rule(fault))) => rule_text(alloc, fault),
         Err(_) => Err(Memory),
     }
 }

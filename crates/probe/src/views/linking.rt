@@ -1,16 +1,13 @@
 ghost use Rattle.cells.specs.Parts.{AreParts};
-ghost use Rattle.region_partition.specs.set_regions.Regions.{AreRegions};
-ghost use Rattle.region_states.specs.region_basis.BasisOf.{basis_of};
 
 use crate::printing::{put, put_bytes, put_values};
 use crate::views::all_regions;
+use crate::views::loading::views_of;
 use case_laws::Case;
 use cells::{HostLinks, Parts};
 use edm_types::{Entity, Link, key_of};
 use emc_base::{AssocId, Seq, SetId, Steps};
 use entity_state::EntityState;
-use query_views::QueryViews;
-use regions::Region;
 use std::alloc::Global;
 use table_files::{LocalRows, TableRow};
 use texts::views_text;
@@ -20,9 +17,10 @@ use update_views::UpdateViews;
 pub fn put_views(alloc: Global, text: &mut String, parts: &Parts<'_>) -> Option<()>
     requires { AreParts parts.now }
 {
-    let regions = all_regions(alloc, parts)?;
-    let views = QueryViews::of(alloc, parts, &regions).ok()?;
-    put_cases(alloc, text, parts, views.cases())
+    let views = views_of(alloc, parts)?;
+    let put = put_cases(alloc, text, parts, views.cases());
+    drop(views);
+    put
 }
 
 // Puts the lines of the cases of all sets.
@@ -33,7 +31,9 @@ fn put_cases(alloc: Global, text: &mut String, parts: &Parts<'_>, cases: &[Seq<C
         return None;
     }
     let lines = views_text(alloc, parts, cases).ok()?;
-    put_bytes(text, lines.as_slice())
+    let put = put_bytes(text, lines.as_slice());
+    drop(lines);
+    put
 }
 
 /// Puts a line for each row of a state: those of each entity with the links that it hosts, and then those of each link by itself.
@@ -46,24 +46,29 @@ pub fn put_rows(
     requires { AreParts parts.now }
 {
     let regions = all_regions(alloc, parts)?;
-    put_rows_of(alloc, text, parts, &regions, state)
+    let views = UpdateViews::of(alloc, parts, &regions).ok();
+    drop(regions);
+    let views = views?;
+    let put = put_rows_by(alloc, text, parts, &views, state);
+    drop(views);
+    put
 }
 
-// The same by the regions of all sets.
-fn put_rows_of(
+// The same by the views.
+fn put_rows_by(
     alloc: Global,
     text: &mut String,
     parts: &Parts<'_>,
-    regions: &Seq<Seq<Region>>,
+    views: &UpdateViews,
     state: &EntityState,
 ) -> Option<()>
-    requires parts { AreParts parts.now }
-    requires regions { AreRegions (basis_of parts.now) regions.now }
+    requires { AreParts parts.now }
 {
-    let views = UpdateViews::of(alloc, parts, regions).ok()?;
     let hosts = HostLinks::of(alloc, parts.model, parts.cells, state).ok()?;
-    put_sets(alloc, text, parts, &views, &hosts, state)?;
-    put_associations(alloc, text, parts, &views, state)
+    let put = put_sets(alloc, text, parts, views, &hosts, state);
+    drop(hosts);
+    put?;
+    put_associations(alloc, text, parts, views, state)
 }
 
 // Puts the rows of the entities of each set.

@@ -6,10 +6,11 @@ ghost use Rattle.region_states.specs.region_basis.BasisOf.{basis_of};
 ghost use Rattle.round_trip.specs.Words.{AreLegalTables, AreTables};
 ghost use Rattle.round_trip.specs.soundness.Lookups.{set_key};
 
-use crate::printing::{put, put_value, put_values};
+use crate::asked::Asked;
+use crate::printing::{put, put_entity_line, put_value};
 use crate::views::all_regions;
 use cells::Parts;
-use edm_types::{Entity, EntityModel};
+use edm_types::EntityModel;
 use emc_base::{Key, PropId, Seq, SetId, TypeId, Value, ValueRef};
 use query_views::{EntityFault, Loaded, QueryViews, StateFault};
 use std::alloc::Global;
@@ -17,9 +18,14 @@ use table_files::{Tables, is_legal};
 
 const FIRST: SetId = SetId { index: 0 };
 
-/// Puts a line for each of the keys 1 to 3, with the entity of the first set that legal tables tell there: its type and its values; or that there
-/// is none, or that the rows there meet no case.
-pub fn put_keys(alloc: Global, text: &mut String, parts: &Parts<'_>, tables: &Tables) -> Option<()>
+/// Puts what is asked of legal tables, by the query views.
+pub fn put_told(
+    alloc: Global,
+    text: &mut String,
+    asked: Asked,
+    parts: &Parts<'_>,
+    tables: &Tables,
+) -> Option<()>
     requires parts { AreParts parts.now }
     requires tables { AreTables parts.now.store.now tables.now }
 {
@@ -27,26 +33,52 @@ pub fn put_keys(alloc: Global, text: &mut String, parts: &Parts<'_>, tables: &Ta
         return None;
     }
     let views = views_of(alloc, parts)?;
-    put_key(alloc, text, parts, &views, tables, 1)?;
-    put_key(alloc, text, parts, &views, tables, 2)?;
-    put_key(alloc, text, parts, &views, tables, 3)
-}
-
-/// Puts a line for each entity of the first set that legal tables tell, in the order of keys, with its type and its second property; or that the
-/// rows at a key meet no case.
-pub fn put_lent(alloc: Global, text: &mut String, parts: &Parts<'_>, tables: &Tables) -> Option<()>
-    requires parts { AreParts parts.now }
-    requires tables { AreTables parts.now.store.now tables.now }
-{
-    if !is_legal(tables.as_slice(), parts.store) {
-        return None;
-    }
-    let views = views_of(alloc, parts)?;
-    put_lent_by(alloc, text, parts, &views, tables)
+    let put = put_by_views(alloc, text, asked, parts, &views, tables);
+    drop(views);
+    put
 }
 
 // The same by the views.
-fn put_lent_by(
+fn put_by_views(
+    alloc: Global,
+    text: &mut String,
+    asked: Asked,
+    parts: &Parts<'_>,
+    views: &QueryViews,
+    tables: &Tables,
+) -> Option<()>
+    requires parts { AreParts parts.now }
+    requires views { AreQueryViewsOf (basis_of parts.now) (is_free_in parts.now.cells.now) views.now }
+    requires legal { AreLegalTables parts.now.store.now tables.now }
+{
+    match asked {
+        Asked::Keys => put_keys(alloc, text, parts, views, tables),
+        Asked::Lent => put_lent(alloc, text, parts, views, tables),
+        _ => None,
+    }
+}
+
+// Puts a line for each of the keys 1 to 3, with the entity of the first set that is told there: its type and its values; or that there is none,
+// or that the rows there meet no case.
+fn put_keys(
+    alloc: Global,
+    text: &mut String,
+    parts: &Parts<'_>,
+    views: &QueryViews,
+    tables: &Tables,
+) -> Option<()>
+    requires parts { AreParts parts.now }
+    requires views { AreQueryViewsOf (basis_of parts.now) (is_free_in parts.now.cells.now) views.now }
+    requires legal { AreLegalTables parts.now.store.now tables.now }
+{
+    put_key(alloc, text, parts, views, tables, 1)?;
+    put_key(alloc, text, parts, views, tables, 2)?;
+    put_key(alloc, text, parts, views, tables, 3)
+}
+
+// Puts a line for each entity of the first set, in the order of keys, with its type and its second property; or that the rows at a key meet no
+// case.
+fn put_lent(
     alloc: Global,
     text: &mut String,
     parts: &Parts<'_>,
@@ -58,19 +90,36 @@ fn put_lent_by(
     requires legal { AreLegalTables parts.now.store.now tables.now }
 {
     match Loaded::of(alloc, views, parts, tables) {
-        Ok(loaded) => put_loaded(alloc, text, &loaded),
-        Err(StateFault::NoCase(_)) => text.push_str("no case\n").ok(),
-        Err(StateFault::Memory) => None,
+        Ok(loaded) => {
+            let put = put_loaded(alloc, text, &loaded);
+            drop(loaded);
+            put
+        }
+        Err(fault) => {
+            let is_told = matches!(&fault, StateFault::NoCase(_));
+            drop(fault);
+            put_no_case(text, is_told)
+        }
     }
 }
 
+// Puts that the rows at a key meet no case, where that is told.
+fn put_no_case(text: &mut String, is_told: bool) -> Option<()> {
+    if !is_told {
+        return None;
+    }
+    text.push_str("no case\n").ok()
+}
+
 // The query views of a mapping.
-fn views_of(alloc: Global, parts: &Parts<'_>) -> Option<QueryViews>
+pub(crate) fn views_of(alloc: Global, parts: &Parts<'_>) -> Option<QueryViews>
     requires parts { AreParts parts.now }
     ensures { IfSome result (AreQueryViewsOf (basis_of parts.now) (is_free_in parts.now.cells.now)) }
 {
     let regions = all_regions(alloc, parts)?;
-    QueryViews::of(alloc, parts, &regions).ok()
+    let views = QueryViews::of(alloc, parts, &regions).ok();
+    drop(regions);
+    views
 }
 
 // How many parts the key of a set has.
@@ -107,18 +156,15 @@ fn put_key(
         return None;
     }
     match views.entity_at(alloc, parts, tables, FIRST, &key) {
-        Ok(found) => put_entity(alloc, text, &found.entity),
+        Ok(found) => {
+            let put = put_entity_line(alloc, text, &found.entity);
+            drop(found);
+            put
+        }
         Err(EntityFault::Absent) => text.push_str("absent\n").ok(),
         Err(EntityFault::NoCase) => text.push_str("no case\n").ok(),
         Err(EntityFault::Memory) => None,
     }
-}
-
-// Puts the line of an entity: its type and its values.
-fn put_entity(alloc: Global, text: &mut String, entity: &Entity) -> Option<()> {
-    put(alloc, text, "", u64::from(entity.ty.index))?;
-    put_values(alloc, text, &entity.values)?;
-    text.push_str("\n").ok()
 }
 
 // Puts the lines of entities that are lent.
@@ -140,6 +186,9 @@ fn put_lent_entity(
 ) -> Option<()> {
     put(alloc, text, "", u64::from(ty.index))?;
     text.push_str(" ").ok()?;
-    put_value(alloc, text, &value.copy(alloc).ok()?)?;
+    let value = value.copy(alloc).ok()?;
+    let put = put_value(alloc, text, &value);
+    drop(value);
+    put?;
     text.push_str("\n").ok()
 }
