@@ -7,7 +7,6 @@ mod ids;
 mod ledger;
 mod memory;
 mod order;
-mod pairs;
 mod place;
 mod seq;
 mod txt;
@@ -20,9 +19,8 @@ pub use ids::{
     AssocId, ColId, FkId, FragId, GroupId, LinkFragId, PropId, SetId, TableId, TypeId, narrow,
 };
 pub use ledger::{Ledger, Steps};
-pub use memory::Memory;
+pub use memory::{Memory, beside, both};
 pub use order::{compare, compare_keys, order_is_total};
-pub use pairs::{beside, both};
 pub use place::Place;
 pub use seq::{MOST_ITEMS, Seq};
 pub use txt::Txt;
