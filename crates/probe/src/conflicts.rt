@@ -17,7 +17,7 @@ use regions::Region;
 use round_trip::FailKind;
 use std::alloc::Global;
 
-/// Puts a line for each set, with the conflict of each kind at its regions.
+/// Puts a line for each set, with the conflict of each kind at its regions, and whether all pairs of regions tell that two states have the same tables.
 pub fn put_conflicts(alloc: Global, text: &mut String, parts: &Parts<'_>) -> Option<()>
     requires { AreParts parts.now }
 {
@@ -34,7 +34,7 @@ pub fn put_conflicts(alloc: Global, text: &mut String, parts: &Parts<'_>) -> Opt
     Some(())
 }
 
-// Puts the conflict of each kind at the regions of a set. `None` where all pairs of regions tell otherwise whether there is one of kind same.
+// Puts the conflict of each kind at the regions of a set, and what all pairs of these tell.
 fn put_set(
     alloc: Global,
     text: &mut String,
@@ -48,14 +48,15 @@ fn put_set(
     put_conflict(alloc, text, parts, FailKind::Clash, set, found)?;
     put_conflict(alloc, text, parts, FailKind::Null, set, found)?;
     put_conflict(alloc, text, parts, FailKind::Disagrees, set, found)?;
-    let is_told = put_conflict(alloc, text, parts, FailKind::Same, set, found)?;
-    if has_same_tables(alloc, parts, found.as_slice()).ok()? != is_told {
-        return None;
-    }
-    Some(())
+    put_conflict(alloc, text, parts, FailKind::Same, set, found)?;
+    let word = match has_same_tables(alloc, parts, found.as_slice()).ok()? {
+        true => " alike",
+        false => " apart",
+    };
+    text.push_str(word).ok()
 }
 
-// Puts the conflict of a kind, and answers whether there is one.
+// Puts the conflict of a kind.
 fn put_conflict(
     alloc: Global,
     text: &mut String,
@@ -63,17 +64,15 @@ fn put_conflict(
     kind: FailKind,
     set: SetId,
     regions: &Seq<Region>,
-) -> Option<bool>
+) -> Option<()>
     requires parts { AreParts parts.now }
     requires kind { kind ≢ fails.Dangling }
     requires regions { regions.now ≡ regions_of (basis_of parts.now) set }
 {
     let found = first_conflict(alloc, parts, kind, set, regions).ok()?;
     let word = word_of(&found);
-    let is_some = found.is_some();
     drop(found);
-    text.push_str(word).ok()?;
-    Some(is_some)
+    text.push_str(word).ok()
 }
 
 // A word for a conflict, or for none.

@@ -11,6 +11,7 @@ use crate::conditions::{put_selected, put_shown};
 use crate::conflicts::put_conflicts;
 use crate::models::{put_of_data, put_of_model};
 use crate::owners::put_owners;
+use crate::printing::put;
 use crate::region_counts::{put_counts, put_found, put_links, put_regions};
 use crate::views::{put_rows, put_told, put_views};
 use cells::{Cells, Parts, is_within_limits};
@@ -160,15 +161,18 @@ fn put_by_cells(
     }
 }
 
-// Makes the cells ten times more.
+// Makes the cells ten times more, and puts how many times they were made so.
 fn put_again(alloc: Global, text: &mut String, parts: &Parts<'_>) -> Option<()>
     requires { IsSoundSchema (schema_in parts.now) }
 {
+    let mut made: u64 = 0;
     for _ in 0..10 {
         let cells = Cells::of(alloc, parts.model, parts.store, parts.mapping).ok()?;
         drop(cells);
+        made = made.saturating_add(1);
     }
-    text.push_str("cells\n").ok()
+    put(alloc, text, "again ", made)?;
+    text.push_str("\n").ok()
 }
 
 // Puts what is asked of a mapping within the limits, of which that on regions counts for views alone.

@@ -9,9 +9,9 @@ use edm_types::{Entity, Hosted, key_of};
 use emc_base::{AssocId, Seq, SetId};
 use entity_state::EntityState;
 use region_partition::{RegionsFault, find_region, regions};
-use regions::{Pattern, Region};
+use regions::{Focus, Pattern, Region};
 use std::alloc::Global;
-use symbolic_rows::{link_pattern, region_pattern};
+use symbolic_rows::{pattern, region_pattern};
 
 /// The most regions of a set.
 pub const MOST_REGIONS: u64 = 16_384;
@@ -127,7 +127,10 @@ pub fn put_links(alloc: Global, text: &mut String, parts: &Parts<'_>) -> Option<
 fn put_link(alloc: Global, text: &mut String, parts: &Parts<'_>, assoc: AssocId) -> Option<()>
     requires { AreParts parts.now }
 {
-    let made = link_pattern(alloc, parts, assoc).ok()?;
+    let focus = Focus::Link(assoc);
+    let made = pattern(alloc, parts, &focus);
+    drop(focus);
+    let made = made.ok()?;
     let put = put_pattern(alloc, text, &made);
     drop(made);
     put
