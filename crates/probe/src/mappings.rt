@@ -167,12 +167,20 @@ fn put_again(alloc: Global, text: &mut String, parts: &Parts<'_>) -> Option<()>
 {
     let mut made: u64 = 0;
     for _ in 0..10 {
-        let cells = Cells::of(alloc, parts.model, parts.store, parts.mapping).ok()?;
-        drop(cells);
+        make_cells(alloc, parts)?;
         made = made.saturating_add(1);
     }
     put(alloc, text, "again ", made)?;
     text.push_str("\n").ok()
+}
+
+// Makes the cells, and lets them go.
+fn make_cells(alloc: Global, parts: &Parts<'_>) -> Option<()>
+    requires { IsSoundSchema (schema_in parts.now) }
+{
+    let cells = Cells::of(alloc, parts.model, parts.store, parts.mapping).ok()?;
+    drop(cells);
+    Some(())
 }
 
 // Puts what is asked of a mapping within the limits, of which that on regions counts for views alone.
