@@ -25,17 +25,6 @@ pub enum Verdict {
     Memory,
 }
 
-impl From<emc_base::Memory> for Refusal {
-    ghost use Rattle.std.specs.Prelude.{◌≡◌};
-    ghost use Rattle.mapping_core.specs.declared.verdict.Refusal.TheVariants as refusal;
-
-    ghost from_gives = { λ _ given. given ≡ refusal.Memory };
-
-    fn from(_memory: emc_base::Memory) -> Refusal {
-        Refusal::Memory
-    }
-}
-
 impl From<VocabFault> for Verdict {
     ghost use Rattle.mapping_core.specs.Verdicts.{TellsFault};
 

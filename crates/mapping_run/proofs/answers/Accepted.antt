@@ -12,7 +12,7 @@ use Rattle.mapping_run.specs.declared.answers.answer.Halt.{Halt}
 use Rattle.mapping_run.specs.declared.answers.answer.Halt.TheVariants.{Tells, Memory}
 use Rattle.mapping_run.specs.declared.answers.status.Status.TheVariants.{MappingRefused}
 use Rattle.mapping_run.specs.answers.Gives.{HasDocuments, RefusesSchema, SaysSome}
-use Rattle.mapping_run.specs.answers.Answers.{Accepts, AcceptsSchema, IsRefusal, ShowsFailure, TellsRefusal}
+use Rattle.mapping_run.specs.answers.Answers.{Accepts, AcceptsSchema, IsRefusal, ShowsFailure, HaltsRefused}
 
 module _ (contents : List (List ℕ)) (csdl ssdl msl : List ℕ) (at_csdl : At contents 0 csdl) (at_ssdl : At contents 1 ssdl) (at_msl : At contents 2 msl) where
   -- the documents are these
@@ -34,7 +34,7 @@ refuses_answered schema (refusal.Fails back failure) decided answer told =
 refuses_answered schema refusal.Memory decided answer told = absurd told
 
 -- unless memory ran out
-pub refuses_decided : (schema : Schema) (refusal : Refusal) → Decides schema (Err refusal) → (halt : Halt) → TellsRefusal refusal halt → AcceptsSchema schema (Err halt)
+pub refuses_decided : (schema : Schema) (refusal : Refusal) → Decides schema (Err refusal) → (halt : Halt) → HaltsRefused refusal halt → AcceptsSchema schema (Err halt)
 refuses_decided schema refusal decided (Tells answer) told = refuses_answered schema refusal decided answer told
 refuses_decided schema refusal decided Memory told = tt
 

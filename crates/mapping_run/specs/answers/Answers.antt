@@ -37,10 +37,10 @@ IsRefusal (refusal.Limit back fault) answer = Says (limit_text fault) MappingRef
 IsRefusal (refusal.Fails back failure) answer = SaysSome (IsFailText back.model failure) MappingRefused answer
 IsRefusal refusal.Memory answer = ⊥
 
--- the same, or memory ran out
-abbrev pub TellsRefusal : Refusal → Halt → Type 0
-TellsRefusal refusal (Tells answer) = IsRefusal refusal answer
-TellsRefusal refusal Memory = ⊤
+-- what a command stops with for a refusal: its answer, unless memory ran out
+abbrev pub HaltsRefused : Refusal → Halt → Type 0
+HaltsRefused refusal (Tells answer) = IsRefusal refusal answer
+HaltsRefused refusal Memory = ⊤
 
 -- a row in which tables differ is told by the name of a table of the store
 abbrev pub NamesTable : Schema → LoadFault → Type 0

@@ -1,6 +1,6 @@
 ghost use Rattle.std.specs.Prelude.{◌≤◌, IfOk, length};
 ghost use Rattle.mapping_core.specs.Words.{IsRead};
-ghost use Rattle.mapping_run.specs.answers.Answers.{Accepts, AcceptsSchema, IsRefusal, ShowsFailure, TellsRefusal};
+ghost use Rattle.mapping_run.specs.answers.Answers.{Accepts, AcceptsSchema, IsRefusal, ShowsFailure, HaltsRefused};
 ghost use Rattle.mapping_run.specs.answers.Gives.{Says};
 ghost use Rattle.mapping_run.specs.declared.answers.status.Status.TheVariants.{MappingRefused};
 
@@ -41,7 +41,7 @@ fn accepted_schema(alloc: Global, schema: Schema) -> Result<Compiled, Halt>
 // What is told of a refusal.
 fn refusal_told(alloc: Global, refusal: &Refusal) -> Halt
     requires { ShowsFailure refusal.now }
-    ensures { TellsRefusal refusal.now result }
+    ensures { HaltsRefused refusal.now result }
 {
     match refusal_answer(alloc, refusal) {
         Ok(answer) => Halt::Tells(answer),
