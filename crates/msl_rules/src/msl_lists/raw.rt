@@ -3,7 +3,7 @@ ghost use Rattle.json_form.specs.Nodes.{part_of};
 ghost use Rattle.msl_rules.specs.msl_lists.Raw.{optional_flag_at, picks_at, raw_container};
 
 use crate::msl_lists::picks::read_picks;
-use emc_base::{Memory, Seq, Txt};
+use emc_base::{Memory, Seq, Txt, both};
 use json_form::{FromNode, Node, list_at, optional_text_at, text_at};
 use serde_json::Value;
 use std::alloc::Global;
@@ -182,11 +182,16 @@ impl FromNode for RawLinkMapping {
     ghost of = { raw_link_mapping };
 
     fn read(alloc: Global, node: Node<'_>) -> Result<RawLinkMapping, Memory> {
-        let name = text_at(alloc, node, "Name")?;
-        let association = text_at(alloc, node, "TypeName")?;
-        let table = text_at(alloc, node, "StoreEntitySet")?;
-        let ends = list_at(alloc, node, "EndProperty")?;
-        let conds = list_at(alloc, node, "Condition")?;
+        let names = both(
+            text_at(alloc, node, "Name"),
+            text_at(alloc, node, "TypeName"),
+        );
+        let lists = both(
+            list_at(alloc, node, "EndProperty"),
+            list_at(alloc, node, "Condition"),
+        );
+        let table = text_at(alloc, node, "StoreEntitySet");
+        let ((name, association), (table, (ends, conds))) = both(names, both(table, lists))?;
         Ok(RawLinkMapping {
             name,
             association,
