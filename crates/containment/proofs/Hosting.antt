@@ -11,7 +11,7 @@ use Rattle.table_owners.specs.declared.places.LinkPlace.{LinkPlace}
 use Rattle.table_owners.specs.declared.places.LinkPlace.TheVariants as place
 use Rattle.schema_laws.proofs.state_demand.lists.Lists.{Decides-any, any_of, contains_flat_map, head_stands, member_cases, member_of_flat_map, none_in_nil, of_any}
 use Rattle.regions.specs.Basis.{Host, host_end}
-use Rattle.regions.proofs.region_laws.values.Symbols.{Decides-assoc}
+use Rattle.schema_laws.proofs.state_demand.lists.Ids.{Decides-assoc}
 use Rattle.region_states.specs.region_basis.BasisOf.{host_at, host_by, hosts_in, hosts_told}
 
 -- what is told by a place is of its association

@@ -23,14 +23,16 @@ use Rattle.regions.specs.Basis.{Basis}
 use Rattle.regions.specs.Patterns.{Valuation}
 use Rattle.regions.specs.Regions.{regions_of}
 use Rattle.regions.specs.region_laws.IsBasis.{IsBasis}
-use Rattle.regions.proofs.region_laws.values.Symbols.{Decides-prop}
+use Rattle.schema_laws.proofs.state_demand.lists.Ids.{Decides-prop}
 use Rattle.regions.specs.region_laws.pattern.Allowed.{IsAllowed}
-use Rattle.regions.proofs.region_laws.pattern.types.Types.{key_among}
+use Rattle.schema_laws.proofs.sound_types.Inherited.{key_among}
 use Rattle.region_states.specs.focus.Held.{IsHeldAt}
 use Rattle.region_states.proofs.focus.Partners.{are_hosted, holds_hosted, links}
 use Rattle.region_states.specs.defaults.Admissible.{IsAdmissible}
-use Rattle.region_states.specs.defaults.Defaults.{default_valuation, is_among}
-use Rattle.region_states.proofs.defaults.Defaults.{Decides-among, default_admissible}
+use Rattle.region_states.specs.defaults.Defaults.{default_valuation}
+use Rattle.schema_laws.specs.short_values.Places.{is_among}
+use Rattle.region_states.proofs.defaults.Defaults.{default_admissible}
+use Rattle.schema_laws.proofs.short_values.Places.{Decides-among}
 use Rattle.region_states.proofs.defaults.Listed.{told_is, tested_no_key}
 use Rattle.region_states.specs.BasePopulation.{FitsProp, IsBaseFor, IsKeyOf, base_state, keyed_values}
 use Rattle.region_states.specs.Entities.{focus_entity}

@@ -19,9 +19,9 @@ use Rattle.regions.specs.region_laws.pattern.Allowed.{IsAllowed}
 use Rattle.regions.specs.region_laws.pattern.Listed.{Lists}
 use Rattle.regions.proofs.region_laws.pattern.Laws.{listed_from}
 use Rattle.regions.proofs.region_laws.pattern.symbols.Standing.{listed_prop}
-use Rattle.regions.proofs.region_laws.pattern.types.Types.{key_among}
+use Rattle.schema_laws.proofs.sound_types.Inherited.{key_among}
 use Rattle.region_states.specs.defaults.Admissible.{IsAdmissible}
-use Rattle.region_states.specs.defaults.Short.{IsShort}
+use Rattle.schema_laws.specs.short_values.Short.{IsShort}
 use Rattle.region_states.proofs.defaults.Listed.{told_is}
 use Rattle.region_states.specs.Entities.{focus_entity}
 

@@ -10,10 +10,10 @@ use Rattle.regions.specs.Regions.{regions_of}
 use Rattle.regions.specs.region_laws.IsBasis.{IsBasis}
 use Rattle.regions.proofs.region_laws.listing.Listed.{set_is}
 use Rattle.regions.proofs.region_laws.pattern.types.Regions.{key_is}
-use Rattle.regions.proofs.region_laws.pattern.types.Types.{key_among}
+use Rattle.schema_laws.proofs.sound_types.Inherited.{key_among}
 use Rattle.region_states.specs.defaults.Admissible.{IsAdmissible}
-use Rattle.region_states.specs.defaults.Defaults.{fresh_at, place_in}
-use Rattle.region_states.specs.defaults.Fresh.{focus_key}
+use Rattle.schema_laws.specs.short_values.Fresh.{fresh_at, focus_key}
+use Rattle.schema_laws.specs.short_values.Places.{place_in}
 use Rattle.region_states.specs.Entities.{focus_entity}
 use Rattle.region_states.proofs.Entities.{has_value}
 

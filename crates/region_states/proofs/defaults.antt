@@ -1,5 +1,4 @@
 pub mod groups
-pub mod Short
 pub mod Lists
 pub mod Candidates
 pub mod Valued

@@ -15,28 +15,16 @@ ghost use Rattle.regions.specs.Regions.{regions_of};
 ghost use Rattle.regions.specs.declared.region.Region.{Region};
 ghost use Rattle.regions.specs.region_laws.IsBasis.{IsBasis};
 ghost use Rattle.region_states.specs.defaults.Admissible.{AreChoices, AreTwoChoices, DifferAt, HasSeveral, IsAdmissible, IsChoice};
-ghost use Rattle.region_states.specs.defaults.Candidates.{AreTwoFree, first_free, next_free, number};
+ghost use Rattle.region_states.specs.defaults.Candidates.{AreTwoFree, first_free, next_free};
+ghost use Rattle.schema_laws.specs.short_values.Numbers.{number};
 ghost use Rattle.region_states.specs.defaults.Defaults.{alone, changed, default_valuation, one_value, other_value};
-ghost use Rattle.region_states.specs.defaults.Fresh.{IsUse, Use, focus_key, fresh, index_of, most_indices};
-ghost use Rattle.region_states.specs.defaults.Short.{IsOfSort, IsShort, TakesShort};
+ghost use Rattle.schema_laws.specs.short_values.Fresh.{IsUse, Use, focus_key, fresh, index_of, most_indices};
+ghost use Rattle.schema_laws.specs.short_values.Short.{IsOfSort, IsShort, TakesShort};
 
-/// A short value of the right sort lies in the domain of each part of a key, of each dependent property, and of each property joined to one.
-pub fn short_values_fit()
-    ensures keys { (basis : Basis) → IsBasis basis → (t : TypeId) (p : PropId) → Contains (key_props basis.schema.model t) p → TakesShort basis.schema.model p }
-    ensures dependent { (basis : Basis) → IsBasis basis → (p : PropId) → IsDependent basis.schema.model p → TakesShort basis.schema.model p }
+/// A short value of the right sort lies in the domain of each property that is joined to a dependent one.
+pub fn joined_values_fit()
     ensures joined { (basis : Basis) → IsBasis basis → (p q : PropId) → IsDependent basis.schema.model p → Joined basis.schema (prop p) (prop q)
         → TakesShort basis.schema.model q }
-{}
-
-/// Numbered values of different indices are different, and all are short; a key that is shown begins with small ones. No index is for two things.
-pub fn fresh_values_are_different()
-    ensures values { (kind : Kind) (outer other i j : ℕ) → outer ≤ 4 → other ≤ 4 → fresh kind outer i ≡ fresh kind other j → (outer ≡ other) × (i ≡ j) }
-    ensures short { (kind : Kind) (outer i : ℕ) → outer ≤ 4 → i < most_indices → IsShort (fresh kind outer i) }
-    ensures sort { (kind : Kind) → IsKeyKind kind → (outer i : ℕ) → IsOfSort kind (fresh kind outer i) }
-    ensures shown { (fresh kind.Int32 0 (focus_key 0) ≡ number 7) × (fresh kind.Int32 0 (focus_key 1) ≡ number 12)
-        × (fresh kind.Int32 0 (focus_key 2) ≡ number 17) × (fresh kind.Int32 0 (focus_key 3) ≡ number 22) }
-    ensures below { (one : Use) → IsUse one → index_of one < most_indices }
-    ensures indices { (one other : Use) → IsUse one → IsUse other → index_of one ≡ index_of other → one ≡ other }
 {}
 
 /// Of a property that is neither a flag nor of an enumeration two candidates lie in the domain and are no constants of its group.

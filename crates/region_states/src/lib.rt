@@ -30,8 +30,8 @@ ghost use Rattle.region_states.specs.LoneStates.{HasNoAssociationSets, HasOneAtM
 
 pub use conflicts::Conflict;
 pub use default_values::{
-    choices_are_told, each_atom_has_a_value, each_region_has_values, fresh_values_are_different,
-    groups_share_free_values, properties_can_differ, short_values_fit, some_candidates_are_left,
+    choices_are_told, each_atom_has_a_value, each_region_has_values, groups_share_free_values,
+    joined_values_fit, properties_can_differ, some_candidates_are_left,
     untested_properties_have_two_values,
 };
 pub use failure_places::{a_mapping_round_trips_set_by_set, each_failure_is_at_a_set};

@@ -1,1 +1,2 @@
 pub mod PropNames
+pub mod KeyParts

@@ -1,8 +1,9 @@
-//! Laws of every sound schema: its types stand in one forest, what a state demands is a computed list, and where no state fails each is kept.
+//! Laws of every sound schema: its types stand in one forest, its keys take short values, what a state demands is a computed list, and where no state fails each is kept.
 #![tactic(auto)]
 
 pub mod kept_states;
 pub mod same_states;
+pub mod short_values;
 pub mod sound_demand;
 pub mod sound_forests;
 pub mod sound_types;
@@ -10,6 +11,7 @@ pub mod state_demand;
 
 pub use kept_states::{every_state_is_kept, states_are_told_apart};
 pub use same_states::the_same_state_is_as_legal;
+pub use short_values::{fresh_values_are_different, short_values_fit};
 pub use sound_demand::{
     a_clash_is_decided, a_disagreement_stands_at_a_row, a_legal_state_has_legal_tables,
     a_pairing_is_one_to_one, a_state_without_a_clash_has_tables, demand_is_local,

@@ -15,7 +15,7 @@ use Rattle.regions.specs.Basis.{Host, host_end}
 use Rattle.regions.specs.Symbols.{SymbolWriting, fragment_writing, fragments_of, host_writings, is_linked, link_fragment_writing, link_fragments_of, region_writings}
 use Rattle.region_states.specs.region_basis.BasisOf.{basis_of, host_at}
 use Rattle.regions.proofs.region_laws.lists.Found.{filter_one}
-use Rattle.regions.proofs.region_laws.values.Symbols.{Decides-assoc}
+use Rattle.schema_laws.proofs.state_demand.lists.Ids.{Decides-assoc}
 use Rattle.symbolic_rows.specs.Written.{writings_at, writings_by}
 use Rattle.symbolic_rows.proofs.Behind.{by_lists, one_passes}
 

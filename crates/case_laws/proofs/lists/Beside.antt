@@ -3,7 +3,7 @@ use Rattle.std.proofs.Common.{◌≡◌, ◌≢◌, ◌==◌, List, [], ◌∷�
 use Rattle.std.proofs.lemmas.List.Elements.{All-contains}
 use Rattle.emc_base.specs.Lists.{AreApart}
 use Rattle.regions.proofs.region_laws.lists.Choices.{pairs_head, pairs_tail}
-use Rattle.regions.proofs.region_laws.values.Symbols.{Decides-prop}
+use Rattle.schema_laws.proofs.state_demand.lists.Ids.{Decides-prop}
 use Rattle.round_trip.specs.Words.{PropId, Value, value_beside}
 use Rattle.schema_laws.proofs.state_demand.lists.Lists.{head_stands, tail_stands}
 use Rattle.schema_laws.proofs.state_demand.owners.Owners.{beside_map}

@@ -13,7 +13,7 @@ use Rattle.regions.specs.Patterns.{Valuation, pattern_of}
 use Rattle.regions.specs.Regions.{regions_of}
 use Rattle.regions.specs.region_laws.IsBasis.{IsBasis}
 use Rattle.regions.proofs.region_laws.listing.Listed.{set_is}
-use Rattle.regions.proofs.region_laws.values.Symbols.{Decides-assoc}
+use Rattle.schema_laws.proofs.state_demand.lists.Ids.{Decides-assoc}
 use Rattle.regions.specs.region_laws.pattern.Described.{value_in}
 use Rattle.region_states.specs.focus.Held.{HasRow}
 use Rattle.region_states.specs.conflicts.SameFacts.{are_rivals, match_all, same_region}

@@ -12,7 +12,7 @@ use Rattle.regions.specs.Basis.{Basis, Host, partner_end}
 use Rattle.regions.specs.Settled.{multi, possible}
 use Rattle.regions.specs.region_laws.IsBasis.{IsBasis, IsHostOf}
 use Rattle.regions.proofs.region_laws.listing.Listed.{set_is}
-use Rattle.regions.proofs.region_laws.values.Symbols.{Decides-assoc}
+use Rattle.schema_laws.proofs.state_demand.lists.Ids.{Decides-assoc}
 use Rattle.regions.specs.region_laws.pattern.Allowed.{end_at, partner_parts}
 use Rattle.regions.proofs.region_laws.pattern.Choices.{found_passes, none_passes}
 use Rattle.regions.proofs.region_laws.pattern.Ends.{other_end}

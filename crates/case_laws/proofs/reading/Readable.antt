@@ -25,7 +25,7 @@ use Rattle.regions.proofs.region_laws.listing.Listed.{set_is}
 use Rattle.regions.proofs.region_laws.pattern.Keys.{key_cell}
 use Rattle.regions.proofs.region_laws.pattern.types.Regions.{key_is as type_key_is}
 use Rattle.case_laws.proofs.filled_rows.Filled.{has_cell}
-use Rattle.region_states.proofs.defaults.Defaults.{Decides-among}
+use Rattle.schema_laws.proofs.short_values.Places.{Decides-among}
 use Rattle.region_states.specs.conflicts.SameFacts.{is_lost, is_multi, is_one_of, lists_anywhere}
 use Rattle.conflict_laws.proofs.rival.Reading.{somewhere}
 use Rattle.case_laws.specs.region_cases.Meets.{StandsAtKey}

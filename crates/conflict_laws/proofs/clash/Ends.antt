@@ -16,20 +16,21 @@ use Rattle.regions.specs.declared.pattern.Focus.TheVariants as focus
 use Rattle.regions.specs.Basis.{Basis, Host}
 use Rattle.regions.specs.Patterns.{pattern_of}
 use Rattle.regions.specs.region_laws.IsBasis.{IsBasis}
-use Rattle.regions.proofs.region_laws.values.Symbols.{Decides-prop}
+use Rattle.schema_laws.proofs.state_demand.lists.Ids.{Decides-prop}
 use Rattle.regions.specs.region_laws.pattern.Allowed.{end_at}
 use Rattle.regions.specs.region_laws.pattern.Listed.{Lists}
 use Rattle.regions.proofs.region_laws.pattern.symbols.Hosting.{assoc_here, end_prop, one_host, the_assoc}
 use Rattle.regions.proofs.region_laws.pattern.Laws.{listed_from}
 use Rattle.regions.proofs.region_laws.pattern.symbols.Standing.{IsEndOf, end_of}
-use Rattle.region_states.specs.defaults.Candidates.{letter, number}
-use Rattle.region_states.specs.defaults.Defaults.{default_part, fresh_at, place_in}
-use Rattle.region_states.specs.defaults.Fresh.{IsUse, Use, fresh, partner, partner_key}
-use Rattle.region_states.proofs.defaults.indices.Bounds.{keys_few, place_within}
-use Rattle.region_states.proofs.defaults.groups.Classes.{key_prop}
-use Rattle.region_states.proofs.defaults.Defaults.{fresh_is}
-use Rattle.region_states.proofs.defaults.Short.{letter_same, number_same}
-use Rattle.region_states.proofs.defaults.indices.Uses.{one_use}
+use Rattle.schema_laws.specs.short_values.Numbers.{letter, number}
+use Rattle.region_states.specs.defaults.Defaults.{default_part}
+use Rattle.schema_laws.specs.short_values.Fresh.{fresh_at, IsUse, Use, fresh, partner, partner_key}
+use Rattle.schema_laws.specs.short_values.Places.{place_in}
+use Rattle.region_states.proofs.defaults.indices.Bounds.{keys_few}
+use Rattle.schema_laws.proofs.short_values.Places.{place_within, fresh_is}
+use Rattle.schema_laws.proofs.sound_types.Inherited.{key_prop}
+use Rattle.schema_laws.proofs.short_values.Short.{letter_same, number_same}
+use Rattle.schema_laws.proofs.short_values.Uses.{one_use}
 
 -- a numbered value is a number or a text
 fresh_row : (k : Kind) (i : ℕ) → (fresh k 0 i ≡ number (5 * i + 0 + 7)) ⊎ (fresh k 0 i ≡ letter (5 * i + 0 + 97))

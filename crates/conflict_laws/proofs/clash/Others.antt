@@ -19,7 +19,7 @@ use Rattle.regions.specs.region_laws.pattern.Listed.{Lists}
 use Rattle.regions.proofs.region_laws.pattern.Keys.{key_cell, owned_here}
 use Rattle.regions.proofs.region_laws.pattern.Laws.{listed_from, part_in_key}
 use Rattle.regions.proofs.region_laws.pattern.symbols.Standing.{listed_prop}
-use Rattle.regions.proofs.region_laws.pattern.types.Types.{declared_above, key_is_part}
+use Rattle.schema_laws.proofs.sound_types.Inherited.{declared_above, key_is_part}
 use Rattle.region_states.specs.defaults.Admissible.{DifferAt, HasSeveral, IsAdmissible}
 use Rattle.region_states.specs.defaults.Defaults.{alone, changed, default_valuation, one_value, other_value}
 use Rattle.region_states.proofs.defaults.Changes.{differ_at, two_choices}

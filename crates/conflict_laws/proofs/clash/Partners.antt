@@ -16,7 +16,7 @@ use Rattle.regions.specs.Symbols.{is_linked}
 use Rattle.regions.specs.region_laws.IsBasis.{IsBasis}
 use Rattle.regions.specs.region_laws.Partners.{TellsPartner}
 use Rattle.regions.specs.region_laws.RegionAt.{links_at}
-use Rattle.regions.proofs.region_laws.values.Symbols.{Decides-assoc}
+use Rattle.schema_laws.proofs.state_demand.lists.Ids.{Decides-assoc}
 use Rattle.regions.specs.region_laws.pattern.Allowed.{HasAllowedParts, IsAllowed}
 use Rattle.regions.proofs.region_laws.pattern.values.Allowed.{link_allowed}
 use Rattle.regions.proofs.region_laws.pattern.symbols.Hosting.{one_host}

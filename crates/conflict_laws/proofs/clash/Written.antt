@@ -32,7 +32,7 @@ use Rattle.regions.proofs.region_laws.listing.Listed.{set_is}
 use Rattle.regions.proofs.region_laws.writings.Owned.{row_writings}
 use Rattle.regions.proofs.region_laws.writings.Patterns.{may_host, pairs_at, pairs_beyond}
 use Rattle.regions.proofs.region_laws.entities.Selected.{Decides-selected}
-use Rattle.regions.proofs.region_laws.values.Symbols.{Decides-assoc}
+use Rattle.schema_laws.proofs.state_demand.lists.Ids.{Decides-assoc}
 use Rattle.regions.proofs.region_laws.pattern.symbols.Origins.{linked_decided}
 use Rattle.region_states.specs.focus.Held.{ListsValue}
 use Rattle.region_states.proofs.focus.Listed.{has_symbol}

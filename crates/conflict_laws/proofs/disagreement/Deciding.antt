@@ -9,7 +9,7 @@ use Rattle.schema_laws.proofs.state_demand.lists.Lists.{Decides-any, any_of, of_
 use Rattle.regions.specs.declared.region.Region.{Region}
 use Rattle.regions.specs.declared.pattern.Focus.TheVariants as focus
 use Rattle.regions.specs.Basis.{Basis, Host}
-use Rattle.regions.proofs.region_laws.values.Symbols.{Decides-assoc}
+use Rattle.schema_laws.proofs.state_demand.lists.Ids.{Decides-assoc}
 use Rattle.region_states.specs.conflicts.Facts.{differs_at, differs_at_links, disagrees_at, is_hosted}
 
 -- a test of some item, with the item

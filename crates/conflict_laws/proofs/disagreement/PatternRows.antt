@@ -17,7 +17,7 @@ use Rattle.regions.specs.Symbols.{SymbolWriting, fragment_writing, fragments_of,
 use Rattle.regions.specs.region_laws.IsBasis.{IsBasis}
 use Rattle.regions.proofs.region_laws.writings.Cells.{Decides-table, Decides-written}
 use Rattle.regions.proofs.region_laws.writings.Rows.{rows_order}
-use Rattle.regions.proofs.region_laws.values.Symbols.{Decides-assoc}
+use Rattle.schema_laws.proofs.state_demand.lists.Ids.{Decides-assoc}
 use Rattle.region_states.specs.focus.Held.{HasRow}
 use Rattle.region_states.proofs.focus.Listed.{has_row}
 

@@ -25,10 +25,12 @@ use Rattle.regions.specs.region_laws.pattern.Allowed.{CanBe, told_of}
 use Rattle.regions.specs.region_laws.pattern.Listed.{Lists}
 use Rattle.regions.proofs.region_laws.pattern.Laws.{symbol_possible}
 use Rattle.regions.proofs.region_laws.pattern.values.Possible.{null_of_nullable}
-use Rattle.region_states.specs.defaults.Defaults.{declared_value, default_valuation, default_value, is_among, place_in, some_value, value_by}
-use Rattle.region_states.specs.defaults.Fresh.{focus_key, fresh}
-use Rattle.region_states.proofs.defaults.groups.Classes.{key_prop}
-use Rattle.region_states.proofs.defaults.Defaults.{Decides-among, default_admissible}
+use Rattle.region_states.specs.defaults.Defaults.{declared_value, default_valuation, default_value, some_value, value_by}
+use Rattle.schema_laws.specs.short_values.Places.{is_among, place_in}
+use Rattle.schema_laws.specs.short_values.Fresh.{focus_key, fresh}
+use Rattle.schema_laws.proofs.sound_types.Inherited.{key_prop}
+use Rattle.region_states.proofs.defaults.Defaults.{default_admissible}
+use Rattle.schema_laws.proofs.short_values.Places.{Decides-among}
 use Rattle.region_states.specs.conflicts.Facts.{can_be_null, lists, stands_for_null}
 use Rattle.conflict_laws.proofs.clash.Listed.{Decides-lists}
 

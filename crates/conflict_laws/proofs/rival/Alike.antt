@@ -35,7 +35,7 @@ use Rattle.regions.proofs.region_laws.pattern.Laws.{listed_from, telling_tested}
 use Rattle.regions.proofs.region_laws.pattern.symbols.Origins.{From, GivesSymbol, by_cond, by_end, by_host, by_pair}
 use Rattle.regions.proofs.region_laws.pattern.types.Regions.{atom_there, lies_in}
 use Rattle.regions.proofs.region_laws.pattern.symbols.Standing.{StandsFree, StandsInKey, joined_by, listed_prop, prop_stands}
-use Rattle.regions.proofs.region_laws.pattern.types.Types.{part_of_type}
+use Rattle.schema_laws.proofs.sound_types.Inherited.{part_of_type}
 use Rattle.region_states.proofs.defaults.Candidates.{IsPlainKind}
 use Rattle.region_states.proofs.defaults.groups.Classes.{at_class, class_at}
 use Rattle.region_states.proofs.defaults.Listed.{IsTold, found_told, tested_no_key}

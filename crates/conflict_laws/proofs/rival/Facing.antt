@@ -30,7 +30,7 @@ use Rattle.regions.proofs.region_laws.pattern.Laws.{listed_from, untested_once}
 use Rattle.regions.proofs.region_laws.pattern.values.Possible.{null_of_nullable}
 use Rattle.regions.proofs.region_laws.pattern.types.Regions.{atom_there}
 use Rattle.regions.proofs.region_laws.pattern.symbols.Standing.{StandsFree, listed_prop}
-use Rattle.regions.proofs.region_laws.pattern.types.Types.{key_is_part, key_prop}
+use Rattle.schema_laws.proofs.sound_types.Inherited.{key_is_part, key_prop}
 use Rattle.region_states.specs.defaults.Defaults.{changed, default_valuation, default_value}
 use Rattle.region_states.specs.defaults.Admissible.{IsAdmissible}
 use Rattle.region_states.proofs.defaults.Candidates.{IsPlainKind}

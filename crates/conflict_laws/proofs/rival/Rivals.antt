@@ -15,16 +15,18 @@ use Rattle.regions.specs.Basis.{Basis}
 use Rattle.regions.specs.Patterns.{pattern_of}
 use Rattle.regions.specs.Settled.{Possible, multi, possible, single}
 use Rattle.regions.specs.region_laws.IsBasis.{IsBasis}
-use Rattle.regions.proofs.region_laws.entities.Owning.{declared_above}
+use Rattle.schema_laws.proofs.sound_types.Inherited.{declared_above}
 use Rattle.regions.specs.region_laws.pattern.Listed.{Lists}
 use Rattle.regions.proofs.region_laws.pattern.Laws.{listed_from}
 use Rattle.regions.proofs.region_laws.pattern.types.Regions.{key_is, parts_of}
 use Rattle.regions.proofs.region_laws.pattern.symbols.Standing.{listed_prop}
-use Rattle.region_states.specs.defaults.Fresh.{focus_key, fresh}
-use Rattle.region_states.specs.defaults.Defaults.{changed, declared_value, default_valuation, default_value, is_among, place_in, value_by}
+use Rattle.schema_laws.specs.short_values.Fresh.{focus_key, fresh}
+use Rattle.region_states.specs.defaults.Defaults.{changed, declared_value, default_valuation, default_value, value_by}
+use Rattle.schema_laws.specs.short_values.Places.{is_among, place_in}
 use Rattle.region_states.specs.defaults.Admissible.{AreChoices, HasSeveral, IsAdmissible, IsChoice}
 use Rattle.region_states.proofs.defaults.Changes.{changed_admissible, null_choice}
-use Rattle.region_states.proofs.defaults.Defaults.{Decides-among, default_admissible}
+use Rattle.region_states.proofs.defaults.Defaults.{default_admissible}
+use Rattle.schema_laws.proofs.short_values.Places.{Decides-among}
 use Rattle.region_states.specs.conflicts.SameFacts.{is_multi, is_one_of, lists_anywhere}
 use Rattle.conflict_laws.specs.rival.Alike.{AreComparable, HaveOneKey}
 use Rattle.conflict_laws.specs.rival.RivalValues.{faces_null, first_values, rival_value, second_values, shared_value}

@@ -25,18 +25,20 @@ use Rattle.regions.specs.declared.region.Region.{Region}
 use Rattle.regions.specs.Basis.{Basis}
 use Rattle.regions.specs.Regions.{regions_of}
 use Rattle.regions.specs.region_laws.IsBasis.{IsBasis}
-use Rattle.region_states.specs.defaults.Short.{IsShort}
+use Rattle.schema_laws.specs.short_values.Short.{IsShort}
 use Rattle.region_states.specs.defaults.Candidates.{AreTwoFree, first_free, next_free}
-use Rattle.region_states.specs.defaults.Fresh.{first_shared, fresh, most_indices, second_shared, shared_first, shared_second}
-use Rattle.region_states.specs.defaults.Defaults.{is_dependent}
+use Rattle.schema_laws.specs.short_values.Fresh.{first_shared, fresh, most_indices, second_shared, shared_first, shared_second}
+use Rattle.schema_laws.specs.short_values.Places.{is_dependent}
 use Rattle.region_states.specs.defaults.Admissible.{HasSeveral, IsChoice}
 use Rattle.region_states.proofs.defaults.Changes.{free_choice, short_choice}
-use Rattle.region_states.proofs.defaults.groups.Classes.{at_class, class_at, dependent_is, joined_key_kind}
+use Rattle.region_states.proofs.defaults.groups.Classes.{at_class, class_at, joined_key_kind}
+use Rattle.schema_laws.proofs.sound_types.Dependent.{dependent_is}
 use Rattle.region_states.proofs.defaults.groups.Constants.{dependent_none}
-use Rattle.region_states.proofs.defaults.Defaults.{Decides-dependent, open_two}
+use Rattle.region_states.proofs.defaults.Defaults.{open_two}
+use Rattle.schema_laws.proofs.short_values.Places.{Decides-dependent}
 use Rattle.region_states.proofs.defaults.groups.Shared.{first_shared as free_shared}
-use Rattle.region_states.proofs.defaults.Short.{fresh_short, fresh_sort, one_scalar}
-use Rattle.region_states.proofs.defaults.indices.Uses.{index_below}
+use Rattle.schema_laws.proofs.short_values.Short.{fresh_short, fresh_sort, one_scalar}
+use Rattle.schema_laws.proofs.short_values.Uses.{index_below}
 use Rattle.conflict_laws.specs.rival.RivalValues.{group_place, same_group, shared_index, shared_value, tells_other}
 use Rattle.conflict_laws.proofs.rival.Atoms.{open_atom}
 

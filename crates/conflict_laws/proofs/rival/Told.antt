@@ -9,7 +9,7 @@ use Rattle.condition_logic.specs.declared.atoms.AtomOf.{AtomOf}
 use Rattle.schema_laws.specs.state_demand.Selecting.{same_value}
 use Rattle.schema_laws.proofs.state_demand.writings.Selecting.{Decides-value}
 use Rattle.regions.specs.declared.region.Region.{Region}
-use Rattle.regions.proofs.region_laws.values.Symbols.{Decides-assoc, Decides-prop}
+use Rattle.schema_laws.proofs.state_demand.lists.Ids.{Decides-assoc, Decides-prop}
 use Rattle.region_states.specs.conflicts.SameFacts.{match_all, same_atom, same_region}
 use Rattle.conflict_laws.proofs.rival.Matching.{match_same, match_self}
 

@@ -17,7 +17,7 @@ use Rattle.regions.specs.Basis.{Basis}
 use Rattle.regions.specs.Patterns.{Valuation, pattern_of, value_under}
 use Rattle.regions.specs.Settled.{Settled, free, known, multi, possible, settle}
 use Rattle.regions.specs.region_laws.IsBasis.{IsBasis}
-use Rattle.regions.proofs.region_laws.values.Symbols.{Decides-prop}
+use Rattle.schema_laws.proofs.state_demand.lists.Ids.{Decides-prop}
 use Rattle.regions.specs.region_laws.pattern.Allowed.{IsAllowed}
 use Rattle.regions.specs.region_laws.pattern.Described.{value_in}
 use Rattle.regions.specs.region_laws.pattern.Listed.{HasCell}
@@ -25,7 +25,7 @@ use Rattle.regions.proofs.region_laws.pattern.Keys.{owned_here}
 use Rattle.regions.proofs.region_laws.pattern.Laws.{listed_from, same_group}
 use Rattle.regions.proofs.region_laws.pattern.symbols.Origins.{From}
 use Rattle.regions.proofs.region_laws.pattern.symbols.Standing.{Stands, StandsFree, StandsInKey, joined_by, listed_prop, prop_stands}
-use Rattle.regions.proofs.region_laws.pattern.types.Types.{part_of_type}
+use Rattle.schema_laws.proofs.sound_types.Inherited.{part_of_type}
 use Rattle.region_states.specs.conflicts.SameFacts.{are_compatible}
 use Rattle.conflict_laws.specs.rival.Alike.{AreComparable, AreWrittenAlike, PatternsMatch}
 use Rattle.conflict_laws.specs.rival.RivalValues.{first_values, second_values}

@@ -14,8 +14,9 @@ use Rattle.regions.specs.Basis.{Basis}
 use Rattle.regions.specs.Patterns.{Valuation, pattern_of}
 use Rattle.regions.specs.Settled.{Settled, known, free, possible, settle}
 use Rattle.region_states.specs.defaults.Candidates.{first_free}
-use Rattle.region_states.specs.defaults.Defaults.{changed, default_valuation, is_dependent}
-use Rattle.region_states.specs.defaults.Fresh.{first_shared, fresh, second_shared}
+use Rattle.region_states.specs.defaults.Defaults.{changed, default_valuation}
+use Rattle.schema_laws.specs.short_values.Places.{is_dependent}
+use Rattle.schema_laws.specs.short_values.Fresh.{first_shared, fresh, second_shared}
 use Rattle.region_states.specs.conflicts.Facts.{listed_in, lists}
 use Rattle.region_states.specs.conflicts.SameFacts.{is_multi, is_one_of, lists_anywhere}
 

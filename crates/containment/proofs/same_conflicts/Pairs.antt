@@ -21,7 +21,7 @@ use Rattle.regions.specs.Regions.{regions_of}
 use Rattle.regions.specs.region_laws.IsBasis.{IsBasis}
 use Rattle.regions.proofs.region_laws.listing.Apart.{regions_apart}
 use Rattle.regions.proofs.region_laws.lists.Found.{place_of}
-use Rattle.regions.proofs.region_laws.values.Symbols.{Decides-assoc}
+use Rattle.schema_laws.proofs.state_demand.lists.Ids.{Decides-assoc}
 use Rattle.regions.proofs.region_laws.pattern.types.Regions.{parts_of}
 use Rattle.region_states.specs.conflicts.SameFacts.{are_compatible, are_rivals, match_all, rows_match, same_region, settled_cells}
 use Rattle.conflict_laws.proofs.rival.Clear.{compatible_back}

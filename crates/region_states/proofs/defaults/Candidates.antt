@@ -15,9 +15,10 @@ use Rattle.round_trip.specs.Words.{Value, Null, Whole, Flag, Kind, InDomain}
 use Rattle.round_trip.specs.soundness.Kinds.{IsEnum, IsKeyKind, IsSoundBound, IsSoundKind}
 use Rattle.schema_laws.proofs.state_demand.lists.Lists.{member_cases, none_in_nil}
 use Rattle.regions.proofs.region_laws.lists.Choices.{apart_map, apart_one}
-use Rattle.region_states.specs.defaults.Candidates.{AreTwoFree, candidates, first_free, is_free, letter, next_free, number, numbers_from}
+use Rattle.region_states.specs.defaults.Candidates.{AreTwoFree, candidates, first_free, is_free, next_free}
+use Rattle.schema_laws.specs.short_values.Numbers.{letter, number, numbers_from}
 use Rattle.region_states.proofs.defaults.Lists.{AreFirstTwo, first_two, free_is, left_over, numbers_apart, numbers_length, numbers_within}
-use Rattle.region_states.proofs.defaults.Short.{letter_same, number_same, one_scalar, one_within}
+use Rattle.schema_laws.proofs.short_values.Short.{letter_same, number_same, one_scalar, one_within}
 
 -- neither flags nor an enumeration
 abbrev pub IsPlainKind : Kind → Type 0

@@ -21,18 +21,19 @@ use Rattle.regions.specs.Regions.{regions_of}
 use Rattle.regions.specs.Settled.{Possible, is_nullable, multi, of_atom, single}
 use Rattle.regions.specs.region_laws.IsBasis.{IsBasis}
 use Rattle.regions.proofs.region_laws.values.Atoms.{not_null}
-use Rattle.regions.proofs.region_laws.values.Symbols.{Decides-prop}
-use Rattle.region_states.specs.defaults.Short.{IsOfSort, IsShort}
+use Rattle.schema_laws.proofs.state_demand.lists.Ids.{Decides-prop}
+use Rattle.schema_laws.specs.short_values.Short.{IsOfSort, IsShort}
 use Rattle.region_states.specs.defaults.Candidates.{AreTwoFree, first_free, next_free}
-use Rattle.region_states.specs.defaults.Fresh.{focus_key, fresh, lost, lost_value}
-use Rattle.region_states.specs.defaults.Defaults.{alone, changed, fresh_at, is_dependent, one_value, other_value, place_in}
+use Rattle.schema_laws.specs.short_values.Fresh.{focus_key, fresh, lost, lost_value, fresh_at}
+use Rattle.region_states.specs.defaults.Defaults.{alone, changed, one_value, other_value}
+use Rattle.schema_laws.specs.short_values.Places.{is_dependent, place_in}
 use Rattle.region_states.specs.defaults.Admissible.{AreChoices, AreTwoChoices, DifferAt, HasSeveral, IsAdmissible, IsChoice}
 use Rattle.region_states.proofs.defaults.groups.Constants.{dependent_none, joined_none}
 use Rattle.region_states.proofs.defaults.Defaults.{IsSome, either_some, is_open, lies_open, open_two}
 use Rattle.region_states.proofs.defaults.Fitting.{dependent_takes, joined_takes}
 use Rattle.region_states.proofs.defaults.Listed.{told_found}
-use Rattle.region_states.proofs.defaults.Short.{fresh_same}
-use Rattle.region_states.proofs.defaults.indices.Uses.{index_below}
+use Rattle.schema_laws.proofs.short_values.Short.{fresh_same}
+use Rattle.schema_laws.proofs.short_values.Uses.{index_below}
 
 abbrev is_single : Possible → Bool
 is_single (single value) = true

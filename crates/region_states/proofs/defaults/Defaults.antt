@@ -19,54 +19,23 @@ use Rattle.regions.specs.Basis.{Basis, Host, partner_end}
 use Rattle.regions.specs.Regions.{regions_of}
 use Rattle.regions.specs.region_laws.IsBasis.{IsBasis}
 use Rattle.regions.proofs.region_laws.values.Atoms.{not_null}
-use Rattle.regions.proofs.region_laws.entities.Owning.{declared_above}
-use Rattle.regions.proofs.region_laws.values.Symbols.{Decides-prop}
+use Rattle.schema_laws.proofs.sound_types.Inherited.{declared_above, key_prop}
+use Rattle.schema_laws.proofs.state_demand.lists.Ids.{Decides-prop}
 use Rattle.regions.specs.region_laws.pattern.Allowed.{HasAllowedParts, end_at}
-use Rattle.region_states.specs.defaults.Short.{IsShort}
+use Rattle.schema_laws.specs.short_values.Short.{IsShort}
 use Rattle.region_states.specs.defaults.Candidates.{AreTwoFree, first_free, next_free}
-use Rattle.region_states.specs.defaults.Fresh.{dependent_value, focus_key, fresh, most_indices, partner_key}
-use Rattle.region_states.specs.defaults.Defaults.{declared_value, default_part, default_valuation, default_value, fresh_at, is_among, is_dependent, place_in, some_value, value_by}
+use Rattle.schema_laws.specs.short_values.Fresh.{dependent_value, focus_key, fresh, most_indices, partner_key, fresh_at}
+use Rattle.region_states.specs.defaults.Defaults.{declared_value, default_part, default_valuation, default_value, some_value, value_by}
+use Rattle.schema_laws.specs.short_values.Places.{is_among, is_dependent, place_in}
 use Rattle.region_states.specs.defaults.Admissible.{IsAdmissible}
 use Rattle.region_states.proofs.defaults.indices.Bounds.{dependent_index, key_index, partner_index}
 use Rattle.region_states.proofs.defaults.Candidates.{IsPlainKind, plain_key}
-use Rattle.region_states.proofs.defaults.groups.Classes.{dependent_is, key_prop, sound_kind}
+use Rattle.schema_laws.proofs.sound_types.Dependent.{dependent_is, sound_kind}
 use Rattle.region_states.proofs.defaults.groups.Constants.{dependent_none, plain_two, untested_two}
 use Rattle.region_states.proofs.defaults.Fitting.{key_is}
 use Rattle.region_states.proofs.defaults.Listed.{IsTold, found_told, lost_untested, no_key_free, tested_no_key, told_found, told_is}
-use Rattle.region_states.proofs.defaults.Short.{fresh_fits, fresh_short}
+use Rattle.schema_laws.proofs.short_values.Short.{fresh_fits, fresh_short}
 use Rattle.region_states.proofs.defaults.Valued.{Tells, atom_tells}
-
--- whether a property is among these, and whether it is dependent
-pub Decides-among : (props : List PropId) (p : PropId) → Decides (is_among p props) (Contains props p)
-Decides-among props p = Decides-like (is_among p props)
-    (λ any. let found = of_any (λ (q : PropId). q ≡ p) props any in subst (Contains props) found.2 found.1)
-    (λ has. any_of (λ (q : PropId). q ≡ p) props p has refl)
-    (Decides-any (λ (q : PropId). q.index == p.index) (λ (q : PropId). q ≡ p) (λ q. Decides-prop q p) props)
-
-module _ (model : EntityModel) (p : PropId) where
-  abbrev DependsBy : Assoc → Type 0
-  DependsBy assoc = (constraint : Constraint) × (assoc.constraint ≡ Some constraint) × Contains constraint.dependent p
-
-  Decides-constraint : (found : Option Constraint)
-      → Decides (option_map_or (λ (constraint : Constraint). is_among p constraint.dependent) found false)
-      ((constraint : Constraint) × (found ≡ Some constraint) × Contains constraint.dependent p)
-  Decides-constraint None = (λ told. absurd (true≢false (sym told)), λ by. absurd (let never : None ≡ Some by.0 = by.1 in cc))
-  Decides-constraint (Some constraint) = (
-    λ told. (constraint, refl, (Decides-among constraint.dependent p).0 told),
-    λ by. (let P : Constraint → Type 0 = λ one. Contains one.dependent p in
-        (Decides-among constraint.dependent p).1 (subst P (sym (same_Some constraint by.0 by.1)) by.2)),
-  )
-
-  pub Decides-dependent : Decides (is_dependent model p) (IsDependent model p)
-  Decides-dependent = Decides-like (is_dependent model p)
-      (λ any. let found = of_any DependsBy model.assocs any in
-      record { assoc = found.0; constraint = found.2.0; is_assoc = found.1; constrained = found.2.1; among = found.2.2 })
-      (λ by. any_of DependsBy model.assocs by.assoc by.is_assoc (by.constraint, by.constrained, by.among))
-      (Decides-any (λ (assoc : Assoc). option_map_or (λ (constraint : Constraint). is_among p constraint.dependent) assoc.constraint false) DependsBy
-      (λ assoc. Decides-constraint assoc.constraint) model.assocs)
-
-pub fresh_is : (model : EntityModel) (p : PropId) (declared : Prop) → At model.props p.index declared → (index : ℕ) → fresh_at model p index ≡ fresh declared.kind 0 index
-fresh_is model p declared here index = ap (λ found. option_map_or (λ (one : Prop). fresh one.kind 0 index) found Null) here
 
 module _ (basis : Basis) (is : IsBasis basis) where
   -- a value that isn't null and no constant, and short where it is to be

@@ -10,31 +10,18 @@ use Rattle.cells.specs.Limits.{IsWithinLimits}
 use Rattle.regions.specs.region_laws.IsBasis.{IsBasis}
 use Rattle.regions.specs.Basis.{Basis}
 use Rattle.region_states.specs.defaults.Candidates.{AreTwoFree, first_free, next_free}
-use Rattle.region_states.specs.defaults.Short.{TakesShort}
+use Rattle.schema_laws.specs.short_values.Short.{TakesShort}
 use Rattle.region_states.proofs.defaults.Candidates.{plain_kind}
-use Rattle.region_states.proofs.defaults.groups.Classes.{dependent_is, joined_key_kind, key_prop, sound_kind}
+use Rattle.region_states.proofs.defaults.groups.Classes.{joined_key_kind}
+use Rattle.schema_laws.proofs.sound_types.Dependent.{dependent_is, sound_kind}
+use Rattle.schema_laws.proofs.sound_types.Inherited.{key_prop}
 use Rattle.region_states.proofs.defaults.groups.Constants.{plain_two}
-use Rattle.region_states.proofs.defaults.Short.{fits_short}
+use Rattle.schema_laws.proofs.short_values.Short.{fits_short}
 
 module _ (basis : Basis) (is : IsBasis basis) where
-  -- a part of a key is of a kind of keys
-  pub key_is : (t : TypeId) (p : PropId) → Contains (key_props basis.schema.model t) p → (declared : Prop) → At basis.schema.model.props p.index declared → IsKeyKind declared.kind
-  key_is t p has declared here =
-      let key : IsKeyProp basis.schema.model p = key_prop basis.schema.model is.sound.model t p has in
-      let P : Prop → Type 0 = λ one. IsKeyKind one.kind in
-      subst P (at_once basis.schema.model.props p.index key.declared declared key.is_declared here) key.kind
-
-  pub key_takes : (t : TypeId) (p : PropId) → Contains (key_props basis.schema.model t) p → TakesShort basis.schema.model p
-  key_takes t p has declared here short is_short of_sort =
-      fits_short declared.kind (key_is t p has declared here) (sound_kind basis.schema is.sound p declared here) short is_short of_sort
-
-  pub dependent_takes : (p : PropId) → IsDependent basis.schema.model p → TakesShort basis.schema.model p
-  dependent_takes p by declared here short is_short of_sort =
-      fits_short declared.kind (dependent_is basis.schema is.sound p by declared here) (sound_kind basis.schema is.sound p declared here) short is_short of_sort
-
   pub joined_takes : (p q : PropId) → IsDependent basis.schema.model p → Joined basis.schema (prop p) (prop q) → TakesShort basis.schema.model q
   joined_takes p q by joins declared here short is_short of_sort =
-      fits_short declared.kind (joined_key_kind basis.schema is.sound p q by joins declared here) (sound_kind basis.schema is.sound q declared here) short is_short of_sort
+      fits_short declared.kind (joined_key_kind basis.schema is.sound p q by joins declared here) (sound_kind basis.schema.model is.sound.model q declared here) short is_short of_sort
 
   pub candidates_left : IsWithinLimits basis.schema → (p : PropId) (declared : Prop) → At basis.schema.model.props p.index declared
       → declared.kind ≢ kind.Boolean → ¬ IsEnum declared.kind

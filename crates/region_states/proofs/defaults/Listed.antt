@@ -27,8 +27,8 @@ use Rattle.regions.specs.Regions.{atoms_at, regions_of, tested_props}
 use Rattle.regions.specs.region_laws.IsBasis.{IsBasis}
 use Rattle.regions.proofs.region_laws.lists.Choices.{choice_each, pairs_head, pairs_tail}
 use Rattle.regions.proofs.region_laws.listing.Listed.{is_listed, set_is}
-use Rattle.regions.proofs.region_laws.entities.Owning.{declared_above}
-use Rattle.regions.proofs.region_laws.values.Symbols.{Decides-prop}
+use Rattle.schema_laws.proofs.sound_types.Inherited.{declared_above}
+use Rattle.schema_laws.proofs.state_demand.lists.Ids.{Decides-prop}
 
 -- items that tell the properties beside them, each once, are found by these
 module _ (R : PropId → AtomOf → Type 0) (names : (p : PropId) (told : AtomOf) → R p told → told.prop ≡ p) where

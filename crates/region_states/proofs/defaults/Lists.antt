@@ -15,7 +15,8 @@ use Rattle.schema_laws.proofs.state_demand.lists.Lists.{Decides-any, any_of, hea
 use Rattle.schema_laws.proofs.state_demand.writings.Selecting.{Decides-value}
 use Rattle.cells.proofs.Few.{no_more}
 use Rattle.regions.proofs.region_laws.lists.Choices.{pairs_head, pairs_nil}
-use Rattle.region_states.specs.defaults.Candidates.{is_free, numbers_from}
+use Rattle.region_states.specs.defaults.Candidates.{is_free}
+use Rattle.schema_laws.specs.short_values.Numbers.{numbers_from}
 
 -- numbers in order
 pub numbers_length : (first count : ℕ) → length (numbers_from first count) ≡ count

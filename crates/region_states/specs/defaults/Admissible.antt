@@ -11,9 +11,9 @@ use Rattle.regions.specs.Basis.{Basis, Host, partner_end}
 use Rattle.regions.specs.Patterns.{Valuation}
 use Rattle.regions.specs.Settled.{multi, possible}
 use Rattle.regions.specs.region_laws.pattern.Allowed.{IsAllowed}
-use Rattle.region_states.specs.defaults.Short.{IsShort}
-use Rattle.region_states.specs.defaults.Fresh.{focus_key, partner_key}
-use Rattle.region_states.specs.defaults.Defaults.{fresh_at, place_in}
+use Rattle.schema_laws.specs.short_values.Short.{IsShort}
+use Rattle.schema_laws.specs.short_values.Fresh.{focus_key, partner_key, fresh_at}
+use Rattle.schema_laws.specs.short_values.Places.{place_in}
 
 -- the values are allowed, the parts of the entity's key and of its partners' keys are the numbered values, and dependent properties have short values
 pub record IsAdmissible (basis : Basis) (region : Region) (valuation : Valuation) : Type 0 where

@@ -1,24 +1,12 @@
 -- Values among which there are some that no constant of a group is.
 -- Source: the simple types and the enumerations of CSDL version 3; this project's choice of values that are shown.
-use Rattle.std.specs.Prelude.{◌≢◌, ℕ, zero, suc, pos, List, [], ◌∷◌, map, filter, slice_get, unwrap_or, Contains, Bool, true, false, not, encode_utf8_all}
+use Rattle.std.specs.Prelude.{◌≢◌, List, [], ◌∷◌, map, filter, slice_get, unwrap_or, Contains, Bool, true, false, not}
 use Rattle.std.specs.List.{list_any}
 use Rattle.emc_base.specs.declared.value.Value.TheVariants as value
 use Rattle.emc_base.specs.declared.value.Kind.TheVariants as kind
 use Rattle.round_trip.specs.Words.{Value, Null, Whole, Flag, Kind, InDomain}
+use Rattle.schema_laws.specs.short_values.Numbers.{letter, number, numbers_from}
 use Rattle.schema_laws.specs.state_demand.Selecting.{same_value}
-
--- so many numbers, each one more than the one before it
-abbrev pub numbers_from : ℕ → ℕ → List ℕ
-numbers_from first zero = []
-numbers_from first (suc more) = first ∷ numbers_from (suc first) more
-
--- a whole number that isn't negative
-abbrev pub number : ℕ → Value
-number natural = Whole (pos natural)
-
--- the text of one character
-abbrev pub letter : ℕ → Value
-letter code = value.Text (encode_utf8_all (code ∷ []))
 
 -- both flags, a hundred texts, two byte lists, the numbers of an enumeration, or a hundred numbers
 abbrev pub candidates : Kind → List Value

@@ -13,24 +13,7 @@ use Rattle.regions.specs.Basis.{Basis}
 use Rattle.regions.specs.Patterns.{Valuation}
 use Rattle.regions.specs.region_laws.pattern.Allowed.{end_at}
 use Rattle.region_states.specs.defaults.Candidates.{first_free, next_free}
-use Rattle.region_states.specs.defaults.Fresh.{dependent_value, focus_key, fresh, lost_value, partner_key}
-
--- how many properties stand before this one
-abbrev pub place_in : PropId → List PropId → ℕ
-place_in p [] = 0
-place_in p (other ∷ props) = if other.index == p.index then 0 else suc (place_in p props)
-
--- whether a property is one of these
-abbrev pub is_among : PropId → List PropId → Bool
-is_among p props = list_any (λ other. other.index == p.index) props
-
--- whether a property is a dependent one of a constraint
-abbrev pub is_dependent : EntityModel → PropId → Bool
-is_dependent model p = list_any (λ assoc. option_map_or (λ constraint. is_among p constraint.dependent) assoc.constraint false) model.assocs
-
--- the value of a property's kind with this index
-abbrev pub fresh_at : EntityModel → PropId → ℕ → Value
-fresh_at model p index = option_map_or (λ declared. fresh declared.kind 0 index) (slice_get model.props p.index) Null
+use Rattle.schema_laws.specs.short_values.Fresh.{dependent_value, focus_key, fresh, lost_value, partner_key}
 
 -- a value that isn't null and no constant: of a dependent property by its place, else the first free one
 abbrev pub some_value : Basis → TypeId → PropId → Prop → Value

@@ -1,4 +1,3 @@
-pub mod Owning
 pub mod Flags
 pub mod Hosting
 pub mod Partners

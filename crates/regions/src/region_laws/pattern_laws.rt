@@ -20,7 +20,8 @@ ghost use Rattle.regions.specs.Settled.{free, has_clash, known, multi, possible,
 ghost use Rattle.regions.specs.Shown.{shows_link_row, shows_row};
 ghost use Rattle.regions.specs.Symbols.{is_linked, selects_region};
 ghost use Rattle.regions.specs.region_laws.pattern.Allowed.{AreAllowed, ArePartners, CanBe, HasFewPartners, IsAllowed, IsAllowedLink, IsFocus, partner_parts, told_of};
-ghost use Rattle.regions.specs.region_laws.pattern.Listed.{HasCell, IsEndCell, IsPartOfKey, IsTelling, Lists};
+ghost use Rattle.regions.specs.region_laws.pattern.Listed.{HasCell, IsEndCell, IsTelling, Lists};
+ghost use Rattle.schema_laws.specs.sound_types.KeyParts.{IsPartOfKey};
 ghost use Rattle.regions.specs.region_laws.pattern.Described.{AreDemanded, HasNoClashes, HasTwoSymbols, IsRowFor, row_for};
 ghost use Rattle.regions.specs.region_laws.pattern.Plain.{IsPlain};
 

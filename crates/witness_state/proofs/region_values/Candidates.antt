@@ -6,7 +6,8 @@ use Rattle.emc_base.specs.declared.value.EnumKind.{EnumKind}
 use Rattle.emc_base.specs.declared.value.Kind.TheVariants as kind
 use Rattle.emc_base.proofs.Joined.{at_map}
 use Rattle.round_trip.specs.Words.{Whole, Kind}
-use Rattle.region_states.specs.defaults.Candidates.{candidates, letter, number, numbers_from}
+use Rattle.region_states.specs.defaults.Candidates.{candidates}
+use Rattle.schema_laws.specs.short_values.Numbers.{letter, number, numbers_from}
 use Rattle.region_states.proofs.defaults.Lists.{numbers_length}
 
 number_at : (first count i : ℕ) → i < count → At (numbers_from first count) i (i + first)

@@ -1,7 +1,7 @@
 -- Whether a numbered property is a dependent one in the group of another.
 use Rattle.std.proofs.Common.{◌&&◌, ℕ, Bool}
 use Rattle.round_trip.specs.Words.{PropId, Prop}
-use Rattle.region_states.specs.defaults.Defaults.{is_dependent}
+use Rattle.schema_laws.specs.short_values.Places.{is_dependent}
 use Rattle.regions.specs.Basis.{Basis}
 use Rattle.conflict_laws.specs.rival.RivalValues.{in_one_group}
 

@@ -4,7 +4,7 @@ ghost use Rattle.round_trip.specs.soundness.mappings.Joined.{prop};
 ghost use Rattle.round_trip.specs.Words.{key_props, props_of};
 ghost use Rattle.cells.specs.Parts.{AreParts};
 ghost use Rattle.regions.specs.region_laws.pattern.Allowed.{end_at};
-ghost use Rattle.region_states.specs.defaults.Defaults.{is_among, is_dependent, place_in};
+ghost use Rattle.schema_laws.specs.short_values.Places.{is_among, is_dependent, place_in};
 ghost use Rattle.region_states.specs.region_basis.BasisOf.{basis_of};
 
 use cells::Parts;

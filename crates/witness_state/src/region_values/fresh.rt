@@ -1,7 +1,6 @@
 ghost use Rattle.std.specs.Prelude.{◌≡◌, ◌<◌, ◌^◌, IfOk, IfSome};
-ghost use Rattle.region_states.specs.defaults.Candidates.{letter};
-ghost use Rattle.region_states.specs.defaults.Defaults.{fresh_at};
-ghost use Rattle.region_states.specs.defaults.Fresh.{fresh};
+ghost use Rattle.schema_laws.specs.short_values.Numbers.{letter};
+ghost use Rattle.schema_laws.specs.short_values.Fresh.{fresh_at, fresh};
 
 use edm_types::EntityModel;
 use emc_base::{Kind, Memory, PropId, Txt, Value};

@@ -1,7 +1,7 @@
 ghost use Rattle.std.specs.Prelude.{◌≡◌, ◌<◌, ◌^◌, ◌&&◌, IfOk};
 ghost use Rattle.round_trip.specs.Words.{props_of};
 ghost use Rattle.cells.specs.Parts.{AreParts};
-ghost use Rattle.region_states.specs.defaults.Defaults.{is_dependent};
+ghost use Rattle.schema_laws.specs.short_values.Places.{is_dependent};
 ghost use Rattle.region_states.specs.region_basis.BasisOf.{basis_of};
 ghost use Rattle.conflict_laws.specs.rival.RivalValues.{group_place, in_one_group, shared_index, shared_value, tells_other};
 

@@ -21,12 +21,12 @@ use Rattle.regions.specs.region_laws.IsBasis.{IsBasis, IsHostOf}
 use Rattle.regions.proofs.region_laws.writings.Cells.{Decides-written}
 use Rattle.regions.proofs.region_laws.listing.Listed.{set_is}
 use Rattle.regions.proofs.region_laws.listing.Possible.{linked_hosts}
-use Rattle.regions.proofs.region_laws.values.Symbols.{Decides-assoc}
+use Rattle.schema_laws.proofs.state_demand.lists.Ids.{Decides-assoc}
 use Rattle.regions.proofs.region_laws.pattern.Choices.{found_passes, none_passes}
 use Rattle.regions.proofs.region_laws.pattern.symbols.Origins.{linked_decided}
 use Rattle.region_states.specs.focus.Held.{HasRow}
 use Rattle.region_states.proofs.focus.Listed.{has_row}
-use Rattle.region_states.proofs.defaults.Defaults.{Decides-among}
+use Rattle.schema_laws.proofs.short_values.Places.{Decides-among}
 use Rattle.region_states.specs.conflicts.Facts.{lists}
 use Rattle.region_states.specs.conflicts.SameFacts.{is_absent, is_lost, is_multi, is_one_of, lists_anywhere}
 use Rattle.region_states.specs.Hosting.{HasOneEntityPerKey}

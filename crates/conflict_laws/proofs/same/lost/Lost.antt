@@ -19,7 +19,8 @@ use Rattle.regions.specs.region_laws.pattern.Listed.{HasCell, Lists}
 use Rattle.region_states.specs.defaults.Admissible.{AreTwoChoices, DifferAt, HasSeveral, IsAdmissible}
 use Rattle.region_states.specs.defaults.Defaults.{alone, changed, default_valuation, one_value, other_value}
 use Rattle.region_states.proofs.defaults.Changes.{differ_at, two_choices}
-use Rattle.region_states.proofs.defaults.Defaults.{Decides-among, default_admissible}
+use Rattle.region_states.proofs.defaults.Defaults.{default_admissible}
+use Rattle.schema_laws.proofs.short_values.Places.{Decides-among}
 use Rattle.region_states.specs.conflicts.SameFacts.{is_lost, is_multi, is_one_of, lists_anywhere}
 use Rattle.region_states.specs.Entities.{focus_entity}
 use Rattle.region_states.specs.Hosting.{HoldRivals}

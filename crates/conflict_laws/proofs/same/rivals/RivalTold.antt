@@ -5,7 +5,7 @@ use Rattle.round_trip.specs.Words.{SetId, AssocId, Entity, State, Tables, key_of
 use Rattle.regions.specs.Basis.{Basis}
 use Rattle.regions.specs.Patterns.{by_entity}
 use Rattle.regions.specs.region_laws.IsBasis.{IsBasis}
-use Rattle.regions.proofs.region_laws.values.Symbols.{Decides-assoc}
+use Rattle.schema_laws.proofs.state_demand.lists.Ids.{Decides-assoc}
 use Rattle.region_states.specs.conflicts.SameFacts.{are_rivals, match_all, same_region}
 use Rattle.conflict_laws.specs.rival.Alike.{AreComparable, IsClear, PatternsMatch, patterns_match}
 use Rattle.conflict_laws.proofs.rival.Alike.{alike_match}

@@ -18,7 +18,7 @@ use Rattle.regions.proofs.region_laws.listing.Listed.{set_is}
 use Rattle.regions.specs.region_laws.pattern.Allowed.{IsAllowed}
 use Rattle.regions.specs.region_laws.pattern.Described.{value_in}
 use Rattle.regions.specs.region_laws.pattern.Listed.{HasCell}
-use Rattle.regions.proofs.region_laws.pattern.types.Types.{key_among}
+use Rattle.schema_laws.proofs.sound_types.Inherited.{key_among}
 use Rattle.region_states.specs.focus.Held.{IsAtRow, IsHeldAt}
 use Rattle.region_states.specs.conflicts.There.{NoneFailsBy}
 use Rattle.region_states.specs.Entities.{focus_entity}

@@ -11,7 +11,7 @@ use Rattle.regions.specs.region_laws.IsBasis.{IsBasis}
 use Rattle.regions.specs.region_laws.RegionAt.{atom_in, region_at}
 use Rattle.regions.proofs.region_laws.listing.Listed.{set_is}
 use Rattle.regions.proofs.region_laws.entities.Regions.{region_only}
-use Rattle.regions.proofs.region_laws.values.Symbols.{Decides-assoc}
+use Rattle.schema_laws.proofs.state_demand.lists.Ids.{Decides-assoc}
 use Rattle.region_states.specs.focus.Held.{IsHeldAt}
 use Rattle.region_states.specs.defaults.Admissible.{IsAdmissible}
 use Rattle.region_states.specs.conflicts.SameFacts.{are_rivals, match_all, same_region}

@@ -20,17 +20,8 @@ use Rattle.round_trip.specs.soundness.models.Models.{IsSoundModel}
 use Rattle.round_trip.proofs.Classes.{HasClass, IsPaired, class_of, joined_class, joined_paired, key_unbound}
 use Rattle.round_trip.proofs.Lookups.{column_kind_at, prop_kind_at}
 use Rattle.schema_laws.proofs.state_demand.lists.Lists.{none_in_nil}
+use Rattle.schema_laws.proofs.sound_types.Dependent.{dependent_is, dependent_kind}
 use Rattle.schema_laws.proofs.sound_demand.Fitting.{sound_fragment}
-
-key_bound : (k : Kind) → IsKeyKind (without_bound k) → IsKeyKind k
-key_bound kind.Boolean key = absurd key
-key_bound kind.Byte key = absurd key
-key_bound kind.Int16 key = key
-key_bound kind.Int32 key = key
-key_bound kind.Int64 key = key
-key_bound (kind.Text bound) key = key
-key_bound (kind.Binary bound) key = absurd key
-key_bound (kind.Enum enumeration) key = absurd key
 
 -- it is no enumeration, and its class is one of keys
 key_class : (k : Kind) → IsKeyKind k → IsKeyKind (class_of k) × ¬ IsEnum k
@@ -87,14 +78,6 @@ pub binary_class : (bound : Option _) → class_of (kind.Binary bound) ≡ kind.
 unfolding class_of
 binary_class bound = refl
 
--- a part of a key may not be null, and is a whole number or a text
-pub key_prop : (model : EntityModel) → IsSoundModel model → (t : TypeId) (p : PropId) → Contains (key_props model t) p → IsKeyProp model p
-key_prop model sound t p has = by (slice_get model.types t.index) refl has
-  where
-    by : (found : Option EntityType) → slice_get model.types t.index ≡ found → Contains (option_map_or (λ (one : EntityType). one.key) found []) p → IsKeyProp model p
-    by None none there = absurd (none_in_nil p there)
-    by (Some type) here there = All-contains (IsKeyProp model) type.key p (sound.types t type here).key_props there
-
 module _ (schema : Schema) where
   -- a property of the class of byte lists is one, and so is a column
   pub binary_prop : (p : PropId) → HasClass schema (prop p) (kind.Binary None) → (k : Kind) × (prop_kind schema.model p ≡ Some k) × IsBinary k
@@ -114,47 +97,12 @@ module _ (schema : Schema) where
   at_class p k declared here has = ap (λ (d : Prop). class_of d.kind) (at_once schema.model.props p.index declared has.0 here has.1) ∙ has.2
 
   module _ (sound : IsSoundSchema schema) where
-    pub sound_kind : (p : PropId) (declared : Prop) → At schema.model.props p.index declared → IsSoundKind declared.kind
-    sound_kind p declared here =
-        let Sound : Prop → Type 0 = λ one. IsSoundKind one.kind in
-        All-contains Sound schema.model.props declared sound.model.kinds (contains_at schema.model.props p.index declared here)
-
-    -- a dependent property is a whole number or a text, as a key is
-    pub dependent_kind : (p : PropId) → IsDependent schema.model p → (declared : Prop) × At schema.model.props p.index declared × IsKeyKind declared.kind
-    dependent_kind p by =
-        let assoc : Assoc = by.assoc in
-        let constraint : Constraint = by.constraint in
-        let is : IsSoundAssoc schema.model assoc = All-contains (IsSoundAssoc schema.model) schema.model.assocs assoc sound.model.assocs by.is_assoc in
-        let lists : HasMatchedLists schema.model assoc constraint =
-        (MatchOption-at_some (HasIndependentMults assoc) (IsSoundConstraint schema.model assoc) constraint by.constrained is.kind).lists in
-        let told : PropId → Option Kind = λ one. option_map without_bound (prop_kind schema.model one) in
-        let among : Contains (map told constraint.principal) (told p) =
-        subst (λ kinds. Contains kinds (told p)) (sym lists.kinds) (contains_map told constraint.dependent p by.among) in
-        let q = map_contains told constraint.principal (told p) among in
-        let is_key : Contains (key_props schema.model (principal_end assoc constraint).ty) q.0 =
-        All-contains (Contains (key_props schema.model (principal_end assoc constraint).ty)) constraint.principal q.0 lists.principal.only q.1 in
-        let key : IsKeyProp schema.model q.0 = key_prop schema.model sound.model (principal_end assoc constraint).ty q.0 is_key in
-        let kind_is : Some (without_bound key.declared.kind) ≡ told p = sym (ap (option_map without_bound) (prop_kind_at schema.model q.0 key.declared key.is_declared)) ∙ q.2 in
-        at_place (slice_get schema.model.props p.index) refl (key_unbound key.declared.kind key.kind) kind_is
-      where
-        at_place : (found : Option Prop) → slice_get schema.model.props p.index ≡ found → {k : Kind} → IsKeyKind k
-            → Some k ≡ option_map without_bound (option_map (λ (one : Prop). one.kind) found)
-            → (declared : Prop) × At schema.model.props p.index declared × IsKeyKind declared.kind
-        at_place None none {k} key is = cc
-        at_place (Some declared) here {k} key is = let same : k ≡ without_bound declared.kind = cc in (declared, here, key_bound declared.kind (subst IsKeyKind same key))
-
-    pub dependent_is : (p : PropId) → IsDependent schema.model p → (declared : Prop) → At schema.model.props p.index declared → IsKeyKind declared.kind
-    dependent_is p by declared here =
-        let found = dependent_kind p by in
-        let P : Prop → Type 0 = λ one. IsKeyKind one.kind in
-        subst P (at_once schema.model.props p.index found.0 declared found.1 here) found.2
-
     -- nothing that is joined to a dependent property is of an enumeration
     pub joined_no_enum : (p q : PropId) → IsDependent schema.model p → Joined schema (prop p) (prop q) → (declared : Prop)
         → At schema.model.props q.index declared → ¬ IsEnum declared.kind
     unfolding IsPaired
     joined_no_enum p q by joins declared here enumeration = ⊎_elim
-        (λ (same : prop p ≡ prop q). let is : p ≡ q = cc in (key_class declared.kind (dependent_is q (subst (IsDependent schema.model) is by) declared here)).1 enumeration)
+        (λ (same : prop p ≡ prop q). let is : p ≡ q = cc in (key_class declared.kind (dependent_is schema.model sound.model q (subst (IsDependent schema.model) is by) declared here)).1 enumeration)
         (λ (both : IsPaired schema (prop p) × IsPaired schema (prop q)). written both.1)
         (joined_paired schema (prop p) (prop q) joins)
       where
@@ -169,7 +117,7 @@ module _ (schema : Schema) where
     pub joined_key_kind : (p q : PropId) → IsDependent schema.model p → Joined schema (prop p) (prop q) → (declared : Prop)
         → At schema.model.props q.index declared → IsKeyKind declared.kind
     joined_key_kind p q by joins declared here =
-        let found = dependent_kind p by in
+        let found = dependent_kind schema.model sound.model p by in
         let class = (joined_class schema sound (prop p) (prop q) joins (class_of found.0.kind)).0 (class_at p found.0 found.1) in
         let is : class_of declared.kind ≡ class_of found.0.kind = at_class q (class_of found.0.kind) declared here class in
         class_key declared.kind (joined_no_enum p q by joins declared here) (subst IsKeyKind (sym is) (key_class found.0.kind found.2).0)

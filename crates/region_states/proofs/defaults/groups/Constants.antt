@@ -20,9 +20,11 @@ use Rattle.cells.specs.Limits.{IsWithinLimits, most_constants}
 use Rattle.regions.specs.region_laws.IsBasis.{IsBasis}
 use Rattle.regions.proofs.region_laws.values.Told.{constants_once}
 use Rattle.regions.specs.Basis.{Basis}
-use Rattle.region_states.specs.defaults.Candidates.{AreTwoFree, candidates, first_free, next_free, numbers_from, letter, number}
+use Rattle.region_states.specs.defaults.Candidates.{AreTwoFree, candidates, first_free, next_free}
+use Rattle.schema_laws.specs.short_values.Numbers.{numbers_from, letter, number}
 use Rattle.region_states.proofs.defaults.Candidates.{IsPlainKind, many, two_free, two_of_all}
-use Rattle.region_states.proofs.defaults.groups.Classes.{at_class, binary_class, binary_column, binary_prop, class_at, class_binary, joined_no_enum, sound_kind}
+use Rattle.region_states.proofs.defaults.groups.Classes.{at_class, binary_class, binary_column, binary_prop, class_at, class_binary, joined_no_enum}
+use Rattle.schema_laws.proofs.sound_types.Dependent.{sound_kind}
 use Rattle.region_states.proofs.defaults.Lists.{numbers_length}
 
 class_of_binary : (k : Kind) → IsBinary k → class_of k ≡ kind.Binary None

@@ -16,23 +16,12 @@ use Rattle.edm_types.proofs.Lookups.{key_at}
 use Rattle.schema_laws.proofs.sound_types.BasePlaces.{base_ends, base_here, base_place}
 use Rattle.schema_laws.proofs.state_demand.lists.Lists.{member_cases, none_in_nil}
 use Rattle.schema_laws.proofs.sound_demand.Keys.{inherits_keys}
+use Rattle.schema_laws.proofs.short_values.Places.{place_within}
 use Rattle.cells.specs.Limits.{IsSmallModel, most_props}
-use Rattle.regions.proofs.region_laws.values.Symbols.{Decides-prop}
-use Rattle.region_states.specs.defaults.Defaults.{place_in}
-use Rattle.region_states.specs.defaults.Fresh.{dependent, dependent_value, focus, focus_key, most_indices, partner, partner_key}
-use Rattle.region_states.proofs.defaults.indices.Uses.{index_below}
-
--- a property's place among those of which it is one
-pub place_within : (p : PropId) (props : List PropId) → Contains props p → place_in p props < length props
-place_within p [] has = absurd (none_in_nil p has)
-place_within p (q ∷ props) has =
-    let P : ℕ → Type 0 = λ n. n < suc (length props) in
-    cond_both (q.index == p.index) 0 (suc (place_in p props)) P
-    (λ told. omega arith)
-    (λ told. ⊎_elim
-    (λ (here : p ≡ q). absurd (not_from_Decides (q.index == p.index) (Decides-prop q p) told (sym here)))
-    (λ (later : Contains props p). let rest = place_within p props later in omega (arith, rest))
-    (member_cases q props p has))
+use Rattle.schema_laws.proofs.state_demand.lists.Ids.{Decides-prop}
+use Rattle.schema_laws.specs.short_values.Places.{place_in}
+use Rattle.schema_laws.specs.short_values.Fresh.{dependent, dependent_value, focus, focus_key, most_indices, partner, partner_key}
+use Rattle.schema_laws.proofs.short_values.Uses.{index_below}
 
 abbrev AreFew : List PropId → Type 0
 AreFew key = length key ≤ 4

@@ -13,7 +13,7 @@ use Rattle.regions.specs.Basis.{Basis, Host, host_end, partner_end}
 use Rattle.regions.specs.Regions.{flag_values, flagged, flags_at, model_of}
 use Rattle.regions.specs.region_laws.RegionAt.{flag_by, flag_in, has_link}
 use Rattle.regions.proofs.region_laws.lists.Choices.{pairs_head, pairs_tail}
-use Rattle.regions.proofs.region_laws.values.Symbols.{Decides-assoc}
+use Rattle.schema_laws.proofs.state_demand.lists.Ids.{Decides-assoc}
 
 abbrev is_many : Mult → Bool
 is_many One = false

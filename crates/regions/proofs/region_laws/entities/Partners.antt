@@ -14,7 +14,7 @@ use Rattle.regions.specs.region_laws.RegionAt.{links_at}
 use Rattle.regions.proofs.region_laws.lists.Choices.{pairs_tail}
 use Rattle.regions.proofs.region_laws.entities.Flags.{InOrder, no_later}
 use Rattle.regions.proofs.region_laws.entities.Regions.{flag_none, flag_one}
-use Rattle.regions.proofs.region_laws.values.Symbols.{Decides-assoc}
+use Rattle.schema_laws.proofs.state_demand.lists.Ids.{Decides-assoc}
 
 -- a host is found by its association
 found_host : (hosts : List Host) → InOrder hosts → (host : Host) → Contains hosts host → find (λ (one : Host). one.assoc.index == host.assoc.index) hosts ≡ Some host

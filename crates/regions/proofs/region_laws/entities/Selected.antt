@@ -31,9 +31,9 @@ use Rattle.regions.specs.Regions.{Holds, model_of, regions_of, tested_props}
 use Rattle.regions.specs.Symbols.{atom_passes, met_by_atoms, selects_region}
 use Rattle.regions.specs.region_laws.IsBasis.{IsBasis}
 use Rattle.regions.specs.region_laws.RegionAt.{atom_in, region_at}
-use Rattle.regions.proofs.region_laws.entities.Owning.{declared_above}
+use Rattle.schema_laws.proofs.sound_types.Inherited.{declared_above}
 use Rattle.regions.proofs.region_laws.entities.Regions.{region_only}
-use Rattle.regions.proofs.region_laws.values.Symbols.{Decides-prop}
+use Rattle.schema_laws.proofs.state_demand.lists.Ids.{Decides-prop}
 
 -- a test that is looked at only where another passes
 Decides-then : {P Q : Type 0} (x y : Bool) → Decides x P → (P → Decides y Q) → Decides (x && y) (P × Q)

@@ -25,7 +25,8 @@ use Rattle.regions.specs.Patterns.{Valuation, pattern_of, value_under, writings_
 use Rattle.regions.specs.Settled.{Possible, free as free_cell, has_clash, is_nullable, known, multi, of_atom, possible, settle, single}
 use Rattle.regions.specs.Symbols.{SymbolWriting}
 use Rattle.regions.specs.region_laws.pattern.Allowed.{AreAllowed, CanBe, IsFocus, told_of}
-use Rattle.regions.specs.region_laws.pattern.Listed.{HasCell, IsPartOfKey, IsTelling, Lists}
+use Rattle.regions.specs.region_laws.pattern.Listed.{HasCell, IsTelling, Lists}
+use Rattle.schema_laws.specs.sound_types.KeyParts.{IsPartOfKey}
 use Rattle.regions.specs.region_laws.pattern.Described.{HasNoClashes, IsRowFor, row_for, value_in}
 use Rattle.regions.proofs.region_laws.pattern.Cells.{cell_apart, cell_of as made_cell, listed_written}
 use Rattle.regions.proofs.region_laws.pattern.types.Groups.{asked_by, asked_tested, implied_tested, is_tested, joined_tested, told_tested, written_once}

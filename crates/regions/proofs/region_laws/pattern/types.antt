@@ -1,4 +1,3 @@
-pub mod Types
 pub mod Classes
 pub mod Groups
 pub mod Regions

@@ -2,19 +2,12 @@
 use Rattle.std.proofs.Common.{◌≡◌, Bool, true, false, true≢false, ◌==◌, ◌&&◌, Decides, refl, sym, ap, subst, if◌then◌else◌}
 use Rattle.std.specs.Bool.{⊤}
 use Rattle.std.proofs.lemmas.Bool.Decides.{Decides-and, Decides-eqb, Decides-like}
-use Rattle.round_trip.specs.Words.{PropId, AssocId}
 use Rattle.regions.specs.declared.pattern.Symbol.{Symbol}
 use Rattle.regions.specs.declared.pattern.Symbol.TheVariants as symbol
 use Rattle.regions.specs.Symbols.{same_symbol}
 use Rattle.schema_laws.specs.state_demand.Selecting.{same_value}
+use Rattle.schema_laws.proofs.state_demand.lists.Ids.{Decides-assoc, Decides-prop}
 use Rattle.schema_laws.proofs.state_demand.writings.Selecting.{Decides-value}
-
-pub Decides-prop : (one two : PropId) → Decides (one.index == two.index) (one ≡ two)
-Decides-prop one two = Decides-like (one.index == two.index) (λ same i. record { index = same i }) (λ same. ap (λ (p : PropId). p.index) same) (Decides-eqb one.index two.index)
-
-pub Decides-assoc : (one two : AssocId) → Decides (one.index == two.index) (one ≡ two)
-Decides-assoc one two = Decides-like (one.index == two.index) (λ same i. record { index = same i }) (λ same. ap
-    (λ (a : AssocId). a.index) same) (Decides-eqb one.index two.index)
 
 Decides-flag : (first second : Bool) → Decides (if first then second else (if second then false else true)) (first ≡ second)
 Decides-flag true true = (λ told. refl, λ same. refl)

@@ -33,7 +33,7 @@ use Rattle.regions.proofs.region_laws.writings.Concrete.{entity_concrete, link_c
 use Rattle.regions.proofs.region_laws.entities.Flags.{Decides-flagged, IsFlag, flag_member, one_host}
 use Rattle.regions.proofs.region_laws.listing.Listed.{IsListed, is_listed, set_is}
 use Rattle.regions.proofs.region_laws.entities.Selected.{Decides-selected}
-use Rattle.regions.proofs.region_laws.values.Symbols.{Decides-assoc}
+use Rattle.schema_laws.proofs.state_demand.lists.Ids.{Decides-assoc}
 
 -- the pairs at the end that hosts, where it is the first, and at the other
 abbrev pub pairs_at : Bool → LinkFragment → List Pair

@@ -20,10 +20,6 @@ pub record HasCell (pattern : Pattern) (t : TableId) (col : ColId) (cell : List 
 abbrev pub Lists : Pattern → TableId → ColId → Symbol → Type 0
 Lists pattern t col symbol = (cell : List Symbol) × HasCell pattern t col cell × Contains cell symbol
 
--- the property is a part of the key of the type that declares it, and so of all types that have it
-abbrev pub IsPartOfKey : EntityModel → PropId → Type 0
-IsPartOfKey model p = (declared : Prop) × At model.props p.index declared × Contains (key_props model declared.owner) p
-
 -- the symbol is null, a constant, the end of a link, or a property that can have one value alone
 abbrev pub IsTelling : EntityModel → List AtomOf → Symbol → Type 0
 IsTelling model atoms (symbol.Prop p) = (value : Value) × (possible model atoms (symbol.Prop p) ≡ single value)

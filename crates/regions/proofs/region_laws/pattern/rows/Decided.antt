@@ -26,7 +26,7 @@ use Rattle.regions.proofs.region_laws.pattern.symbols.Origins.{From}
 use Rattle.regions.proofs.region_laws.pattern.values.Possible.{end_not_null, key_not_null}
 use Rattle.regions.proofs.region_laws.pattern.types.Regions.{atom_there, lies_in}
 use Rattle.regions.proofs.region_laws.pattern.symbols.Standing.{StandsFree, StandsInKey, end_of, end_stands, joined_by, link_no_prop, listed_prop, prop_stands}
-use Rattle.regions.proofs.region_laws.pattern.types.Types.{part_of_type}
+use Rattle.schema_laws.proofs.sound_types.Inherited.{part_of_type}
 
 -- several values, of an atom, are those of the atom Other
 other_of : (told : Atom) (n : Bool) → of_atom told ≡ multi n → told ≡ atom.Other

@@ -27,11 +27,11 @@ use Rattle.regions.specs.Basis.{Basis, Host}
 use Rattle.regions.specs.Regions.{regions_of}
 use Rattle.regions.specs.Symbols.{met_by_atoms, selects_region}
 use Rattle.regions.specs.region_laws.pattern.Allowed.{IsFocus}
-use Rattle.regions.specs.region_laws.pattern.Listed.{IsPartOfKey}
+use Rattle.schema_laws.specs.sound_types.KeyParts.{IsPartOfKey}
 use Rattle.regions.proofs.region_laws.pattern.symbols.Hosting.{col_or_not, end_col, end_prop, host_key_is, hosted_side}
 use Rattle.regions.proofs.region_laws.pattern.symbols.Origins.{From, GivesSymbol, IsPartner, by_cond, by_end, by_host, by_pair, side}
 use Rattle.regions.proofs.region_laws.pattern.types.Regions.{key_is}
-use Rattle.regions.proofs.region_laws.pattern.types.Types.{inherits_prop, key_among, key_is_part, part_of_type}
+use Rattle.schema_laws.proofs.sound_types.Inherited.{inherits_prop, key_among, key_is_part, part_of_type}
 
 moved : (P : TableId → ColId → PropId → Type 0) (t u : TableId) (c d : ColId) (p q : PropId) → t ≡ u → c ≡ d → p ≡ q → P t c p → P u d q
 moved P t u c d p q tables cols props so = subst (λ one. P one d q) tables (subst (λ one. P t one q) cols (subst (λ one. P t c one) props so))

@@ -20,7 +20,7 @@ use Rattle.round_trip.proofs.Lookups.{assoc_of, prop_kind_at}
 use Rattle.round_trip.proofs.Classes.{HasClass, IsPaired, class_of, joined_class, joined_paired, key_unbound, pair_class}
 use Rattle.schema_laws.proofs.sound_demand.Fitting.{link_ids, sound_fragment, sound_link}
 use Rattle.schema_laws.specs.state_demand.Owners.{props_in}
-use Rattle.regions.proofs.region_laws.pattern.types.Types.{key_prop}
+use Rattle.schema_laws.proofs.sound_types.Inherited.{key_prop}
 
 -- a kind of keys is no enumeration, and its class is one of keys
 key_class : (k : Kind) → IsKeyKind (without_bound k) → (class_of k ≡ without_bound k) × ¬ IsEnum k

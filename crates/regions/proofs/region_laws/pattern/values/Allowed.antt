@@ -22,7 +22,7 @@ use Rattle.regions.specs.region_laws.pattern.Allowed.{ArePartners, HasAllowedPar
 use Rattle.regions.proofs.region_laws.pattern.Choices.{found_passes, none_passes}
 use Rattle.regions.proofs.region_laws.pattern.symbols.Hosting.{one_host}
 use Rattle.regions.proofs.region_laws.pattern.types.Regions.{PartsOf, parts_of}
-use Rattle.regions.proofs.region_laws.pattern.types.Types.{key_among, key_prop}
+use Rattle.schema_laws.proofs.sound_types.Inherited.{key_among, key_prop}
 use Rattle.regions.proofs.region_laws.pattern.Ends.{other_end}
 
 -- null is in no domain

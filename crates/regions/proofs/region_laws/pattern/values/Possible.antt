@@ -24,7 +24,7 @@ use Rattle.regions.proofs.region_laws.pattern.symbols.Hosting.{assoc_here, end_p
 use Rattle.regions.proofs.region_laws.pattern.symbols.Origins.{From}
 use Rattle.regions.proofs.region_laws.pattern.types.Regions.{lies_in}
 use Rattle.regions.proofs.region_laws.pattern.symbols.Standing.{IsEndOf, end_of, link_no_prop, listed_prop}
-use Rattle.regions.proofs.region_laws.pattern.types.Types.{declared_above, key_prop}
+use Rattle.schema_laws.proofs.sound_types.Inherited.{declared_above, key_prop}
 use Rattle.regions.proofs.region_laws.pattern.Ends.{other_end}
 
 pub nullable_is : (model : EntityModel) (p : PropId) (declared : Prop) → At model.props p.index declared → is_nullable model p ≡ declared.nullable

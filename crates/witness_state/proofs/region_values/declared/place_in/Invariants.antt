@@ -1,5 +1,5 @@
 use Rattle.std.proofs.Common.{◌≡◌, ◌+◌, drop}
-use Rattle.region_states.specs.defaults.Defaults.{place_in}
+use Rattle.schema_laws.specs.short_values.Places.{place_in}
 use Rattle.witness_state.proofs.region_values.declared.place_in.Given as goal
 
 -- none of the properties so far is the one

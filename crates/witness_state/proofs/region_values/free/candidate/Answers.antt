@@ -3,7 +3,8 @@ use Rattle.std.proofs.lemmas.Int.{ints}
 use Rattle.std.proofs.lemmas.Result.{IfOk-weaker}
 use Rattle.emc_base.specs.Lists.{At}
 use Rattle.round_trip.specs.Words.{Value, Kind, Whole}
-use Rattle.region_states.specs.defaults.Candidates.{candidates, letter}
+use Rattle.region_states.specs.defaults.Candidates.{candidates}
+use Rattle.schema_laws.specs.short_values.Numbers.{letter}
 use Rattle.witness_state.proofs.region_values.Candidates.{letter_at, member_at, plain_at}
 use Rattle.witness_state.proofs.region_values.free.candidate.Goals as goal
 

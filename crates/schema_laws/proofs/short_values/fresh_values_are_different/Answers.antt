@@ -1,7 +1,7 @@
 use Rattle.std.proofs.Common.{refl}
-use Rattle.region_states.proofs.defaults.Short.{fresh_same, fresh_short, fresh_sort}
-use Rattle.region_states.proofs.defaults.indices.Uses.{index_below, one_use}
-use Rattle.region_states.proofs.default_values.fresh_values_are_different.Goals as goal
+use Rattle.schema_laws.proofs.short_values.Short.{fresh_same, fresh_short, fresh_sort}
+use Rattle.schema_laws.proofs.short_values.Uses.{index_below, one_use}
+use Rattle.schema_laws.proofs.short_values.fresh_values_are_different.Goals as goal
 
 pub returns-clause-values : goal.returns-clause-values
 returns-clause-values c = fresh_same

@@ -1,6 +1,6 @@
 -- No index is for two things, and each is below the largest.
 use Rattle.std.proofs.Common.{◌≡◌, ◌<◌, ap, arith}
-use Rattle.region_states.specs.defaults.Fresh.{Use, focus, second, first_end, second_end, lost, dependent, shared_first, shared_second, partner, added, IsUse, index_of, most_indices}
+use Rattle.schema_laws.specs.short_values.Fresh.{Use, focus, second, first_end, second_end, lost, dependent, shared_first, shared_second, partner, added, IsUse, index_of, most_indices}
 
 pub index_below : (use_ : Use) → IsUse use_ → index_of use_ < most_indices
 index_below (focus part) within = omega (arith, within)

@@ -19,7 +19,7 @@ use Rattle.edm_types.proofs.Lookups.{key_at}
 use Rattle.schema_laws.proofs.sound_types.BasePlaces.{base_ends, base_here, base_place}
 use Rattle.schema_laws.proofs.state_demand.lists.Lists.{none_in_nil}
 use Rattle.schema_laws.proofs.sound_demand.Keys.{inherits_keys}
-use Rattle.regions.specs.region_laws.pattern.Listed.{IsPartOfKey}
+use Rattle.schema_laws.specs.sound_types.KeyParts.{IsPartOfKey}
 
 module _ (model : EntityModel) (sound : IsSoundModel model) where
   props_at : (t : TypeId) (type : EntityType) → At model.types t.index type → props_of model t ≡ type.props

@@ -1,14 +1,19 @@
 -- Numbered values, all different, and what each number is for.
 -- Source: this project's choice of the values in the states that it shows.
-use Rattle.std.specs.Prelude.{ℕ, ◌+◌, ◌*◌, ◌<◌, ◌≤◌}
+use Rattle.std.specs.Prelude.{ℕ, ◌+◌, ◌*◌, ◌<◌, ◌≤◌, slice_get}
+use Rattle.std.specs.Option.{option_map_or}
 use Rattle.emc_base.specs.declared.value.Kind.TheVariants as kind
-use Rattle.round_trip.specs.Words.{Value, Kind}
-use Rattle.region_states.specs.defaults.Candidates.{letter, number}
+use Rattle.round_trip.specs.Words.{PropId, Value, Null, Kind, EntityModel}
+use Rattle.schema_laws.specs.short_values.Numbers.{letter, number}
 
 -- the value of a kind with this index, of five rows of such values: a text of one character, or a number
 abbrev pub fresh : Kind → ℕ → ℕ → Value
 fresh (kind.Text bound) outer index = letter (5 * index + outer + 97)
 fresh _ outer index = number (5 * index + outer + 7)
+
+-- the value of a property's kind with this index, of one of these rows
+abbrev pub fresh_at : EntityModel → ℕ → PropId → ℕ → Value
+fresh_at model outer p index = option_map_or (λ declared. fresh declared.kind outer index) (slice_get model.props p.index) Null
 
 -- a part of the key of the entity that is looked at; these come first, so that the keys that are shown are small
 abbrev pub focus_key : ℕ → ℕ

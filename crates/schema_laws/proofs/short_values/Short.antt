@@ -9,9 +9,9 @@ use Rattle.emc_base.specs.declared.value.Value.TheVariants as value
 use Rattle.emc_base.specs.declared.value.Kind.TheVariants as kind
 use Rattle.round_trip.specs.Words.{Value, Kind, InDomain}
 use Rattle.round_trip.specs.soundness.Kinds.{IsKeyKind, IsSoundBound, IsSoundKind}
-use Rattle.region_states.specs.defaults.Short.{IsOfSort, IsShort}
-use Rattle.region_states.specs.defaults.Candidates.{letter, number}
-use Rattle.region_states.specs.defaults.Fresh.{fresh, most_indices}
+use Rattle.schema_laws.specs.short_values.Short.{IsOfSort, IsShort}
+use Rattle.schema_laws.specs.short_values.Numbers.{letter, number}
+use Rattle.schema_laws.specs.short_values.Fresh.{fresh, most_indices}
 
 between : (low high : ℕ) (n : ℤ) → 32767 ≤ high → IsBetween (pos 0) (pos 32767) n → IsBetween (negsuc low) (pos high) n
 between low high n wide short = let up : pos 0 ≤ℤ n = short.0 in let down : n ≤ℤ pos 32767 = short.1 in (omega (arith, ints, up, down, wide), omega (arith, ints, up, down, wide))

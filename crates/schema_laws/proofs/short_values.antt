@@ -1,0 +1,4 @@
+pub mod Short
+pub mod Uses
+pub mod Places
+pub mod Fitting

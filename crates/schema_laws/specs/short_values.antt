@@ -1,0 +1,4 @@
+pub mod Short
+pub mod Numbers
+pub mod Fresh
+pub mod Places
