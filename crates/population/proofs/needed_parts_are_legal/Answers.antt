@@ -1,0 +1,4 @@
+use Rattle.population.proofs.needed_parts_are_legal.Goals as goal
+
+pub returns : goal.returns
+returns c = ?

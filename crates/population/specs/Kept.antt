@@ -1,0 +1,83 @@
+-- Parts of states: what some entities need, principals and partners, and nothing else.
+-- Source: CSDL version 3, AssociationSet, Multiplicity and ReferentialConstraint; this project's choice of the states that it shows.
+use Rattle.std.specs.Prelude.{◌≡◌, ◌==◌, ◌&&◌, ℕ, suc, List, [], ◌++◌, map, filter, flat_map, length, slice_get, Contains, Bool, true, not, IsTrue, if◌then◌else◌}
+use Rattle.std.specs.List.{enumerate_from, list_any}
+use Rattle.std.specs.Option.{option_map_or}
+use Rattle.round_trip.specs.Words.{SetId, AssocId, Value, EntityModel, Assoc, Entity, Link, State, At, IsIndependent, entities_in, key_of, links_in}
+use Rattle.edm_types.specs.declared.model.Mult.TheVariants.{One}
+use Rattle.schema_laws.specs.short_values.Numbers.{numbers_from}
+use Rattle.schema_laws.specs.state_demand.MadeTables.{distinct}
+use Rattle.schema_laws.specs.state_demand.Selecting.{same_key}
+use Rattle.population.specs.Numbered.{end_of}
+use Rattle.population.specs.Principals.{PlacedKey, principals}
+use Rattle.population.specs.Supported.{end_key, is_one}
+use Rattle.population.specs.Least.{grown}
+use Rattle.population.specs.Support.{same_placed}
+
+module _ (model : EntityModel) where
+  module _ (keep : SetId → Entity → Bool) (state : State) where
+    -- the entities of a set that are kept
+    abbrev pub kept_in : SetId → List Entity
+    kept_in u = filter (keep u) (entities_in state u)
+
+    -- whether an entity that is kept stands at the end of a link
+    abbrev pub has_end : Bool → Assoc → Link → Bool
+    has_end first assoc link = list_any (λ entity. same_key (key_of model entity) (end_key first link)) (kept_in (end_of first assoc).set)
+
+    -- the links of an association between entities that are kept
+    abbrev pub kept_links : AssocId → List Link
+    kept_links a = option_map_or (λ assoc. filter (λ link. has_end true assoc link && has_end false assoc link) (links_in state a)) (slice_get model.assocs a.index) []
+
+    -- the part of the state that holds these entities, and the links between them
+    abbrev pub kept_state : State
+    kept_state = record {
+      entities = map (λ n. kept_in (record { index = n })) (numbers_from 0 (length model.sets));
+      links = map (λ n. kept_links (record { index = n })) (numbers_from 0 (length model.assocs));
+    }
+
+  -- each principal of an entity that is kept is kept, and each partner of it that an end `1` asks for
+  pub record IsClosed (keep : SetId → Entity → Bool) (state : State) : Type 0 where
+    pub principal : (u : SetId) (entity : Entity) → Contains (entities_in state u) entity → IsTrue (keep u entity) → (to : PlacedKey) → Contains (principals model u entity) to
+        → (other : Entity) → Contains (entities_in state to.set) other → key_of model other ≡ to.key → IsTrue (keep to.set other)
+    pub partner : (a : AssocId) (assoc : Assoc) → At model.assocs a.index assoc → (first : Bool) → (end_of (not first) assoc).mult ≡ One
+        → (link : Link) → Contains (links_in state a) link
+        → (entity : Entity) → Contains (entities_in state (end_of first assoc).set) entity → key_of model entity ≡ end_key first link → IsTrue (keep (end_of first assoc).set entity)
+        → (other : Entity) → Contains (entities_in state (end_of (not first) assoc).set) other → key_of model other ≡ end_key (not first) link
+        → IsTrue (keep (end_of (not first) assoc).set other)
+
+  -- the entities of a state with a key
+  abbrev pub at_key : State → PlacedKey → List Entity
+  at_key state placed = filter (λ entity. same_key (key_of model entity) placed.key) (entities_in state placed.set)
+
+  -- the partners that the other end of an association asks of the entity with this key, where that end is `1`
+  abbrev pub partners_by : State → PlacedKey → Bool → AssocId → Assoc → List PlacedKey
+  partners_by state placed first a assoc =
+      if is_one (end_of (not first) assoc).mult && ((end_of first assoc).set.index == placed.set.index)
+      then map (λ link. record { set = (end_of (not first) assoc).set; key = end_key (not first) link }) (filter (λ link. same_key (end_key first link) placed.key) (links_in state a))
+      else []
+
+  abbrev pub partners_at : State → PlacedKey → ℕ × Assoc → List PlacedKey
+  partners_at state placed entry =
+      partners_by state placed true (record { index = entry.0 }) entry.1 ++ partners_by state placed false (record { index = entry.0 }) entry.1
+
+  -- what the entity with this key needs in a state: its principals, and the partners that are asked of it
+  abbrev pub needs : State → PlacedKey → List PlacedKey
+  needs state placed = flat_map (principals model placed.set) (at_key state placed) ++ flat_map (partners_at state placed) (enumerate_from 0 model.assocs)
+
+  -- the keys of a state's entities
+  abbrev pub keys_of_state : State → List PlacedKey
+  keys_of_state state = flat_map (λ n. map (λ entity. record { set = record { index = n }; key = key_of model entity }) (entities_in state (record { index = n })))
+      (numbers_from 0 (length model.sets))
+
+  module _ (states : List State) (roots : List PlacedKey) where
+    -- the roots, and what is needed in one of the states by them, by that, and so on
+    abbrev pub needed_keys : List PlacedKey
+    needed_keys = grown same_placed (λ placed. flat_map (λ state. needs state placed) states) (suc (length (roots ++ flat_map keys_of_state states))) (distinct same_placed roots)
+
+    -- whether an entity has a needed key
+    abbrev pub is_needed : SetId → Entity → Bool
+    is_needed u entity = list_any (same_placed (record { set = u; key = key_of model entity })) needed_keys
+
+    -- the part of a state that holds what is needed
+    abbrev pub part_of : State → State
+    part_of state = kept_state is_needed state
