@@ -1,2 +1,9 @@
 pub mod Lists
 pub mod Asked
+pub mod Plain
+pub mod Matched
+pub mod Numbered
+pub mod Entities
+pub mod Principals
+pub mod Links
+pub mod Legal

@@ -1,6 +1,6 @@
 -- Parts of states: what some entities need, principals and partners, and nothing else.
 -- Source: CSDL version 3, AssociationSet, Multiplicity and ReferentialConstraint; this project's choice of the states that it shows.
-use Rattle.std.specs.Prelude.{◌≡◌, ◌==◌, ◌&&◌, ℕ, suc, List, [], ◌++◌, map, filter, flat_map, length, slice_get, Contains, Bool, true, not, IsTrue, if◌then◌else◌}
+use Rattle.std.specs.Prelude.{◌≡◌, ◌==◌, ◌&&◌, ℕ, suc, List, [], ◌++◌, map, filter, flat_map, length, slice_get, Contains, Bool, true, false, not, IsTrue, if◌then◌else◌}
 use Rattle.std.specs.List.{enumerate_from, list_any}
 use Rattle.std.specs.Option.{option_map_or}
 use Rattle.round_trip.specs.Words.{SetId, AssocId, Value, EntityModel, Assoc, Entity, Link, State, At, IsIndependent, entities_in, key_of, links_in}
