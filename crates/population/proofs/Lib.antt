@@ -1,4 +1,5 @@
 pub mod Lists
+pub mod Least
 pub mod Asked
 pub mod Plain
 pub mod Matched
@@ -6,4 +7,7 @@ pub mod Numbered
 pub mod Entities
 pub mod Principals
 pub mod Links
+pub mod Shortness
+pub mod Arrows
+pub mod Support
 pub mod Legal

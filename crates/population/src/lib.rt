@@ -4,9 +4,10 @@
 ghost use Rattle.std.specs.Prelude.{◌↔◌, ℕ, List, Contains};
 ghost use Rattle.round_trip.specs.Words.{EntityModel, Entity, IsLegal, SetId, State};
 ghost use Rattle.round_trip.specs.soundness.models.Models.{IsSoundModel};
-ghost use Rattle.population.specs.Given.{AreGiven, AreKeys, AreLinked, HasNumbers};
+ghost use Rattle.population.specs.Given.{AreGiven, AreKeys, AreLinked, AreWanted, HasNumbers};
 ghost use Rattle.population.specs.Kept.{part_of};
 ghost use Rattle.population.specs.Principals.{AsksFor, PlacedKey, principals};
+ghost use Rattle.population.specs.Support.{IsLeastFor, support};
 ghost use Rattle.population.specs.Supported.{Placed, PlacedLink, supported};
 
 /// The principals that an entity asks for are computed.
@@ -24,4 +25,13 @@ pub fn supported_states_are_legal()
 pub fn needed_parts_are_legal()
     ensures legal { (model : EntityModel) → IsSoundModel model → (states : List State) (roots : List PlacedKey) (state : State) → Contains states state
         → IsLegal model state → IsLegal model (part_of model states roots state) }
+{}
+
+/// The support is the least list of keys that holds the wanted ones and is closed under steps, as far as no other entity stands there; and it fits the given
+/// entities.
+pub fn the_support_is_the_least()
+    ensures least { (model : EntityModel) (outer : ℕ) → HasNumbers model outer → (given : List Placed) (wanted : List PlacedKey)
+        → IsLeastFor model outer given wanted (support model outer given wanted) }
+    ensures fits { (model : EntityModel) (outer : ℕ) → HasNumbers model outer → (given : List Placed) (wanted : List PlacedKey)
+        → AreGiven model outer given → AreWanted model given wanted → AreKeys model outer given (support model outer given wanted) }
 {}
