@@ -17,8 +17,8 @@ use Rattle.schema_laws.proofs.state_demand.lists.Lists.{Decides-all}
 use Rattle.schema_laws.proofs.state_demand.writings.Selecting.{Decides-value}
 use Rattle.population.specs.Principals.{AsksFor, PlacedKey, asked_by, is_asked, none_null, principal_by, principals}
 
-pub Decides-none_null : (values : List Value) → Decides (none_null values) (All (λ value. value ≢ Null) values)
-Decides-none_null values = Decides-all (λ value. not (same_value value Null)) (λ value. value ≢ Null) (λ value. Decides-not (same_value value Null) (Decides-value value Null)) values
+pub Decides-none_null : (model : EntityModel) (values : List Value) → Decides (none_null model values) (All (λ value. value ≢ Null) values)
+Decides-none_null model values = Decides-all (λ value. not (same_value value Null)) (λ value. value ≢ Null) (λ value. Decides-not (same_value value Null) (Decides-value value Null)) values
 
 module _ (model : EntityModel) (sound : IsSoundModel model) (u : SetId) (entity : Entity) where
   -- the constraint asks a principal of the entity
@@ -30,8 +30,8 @@ module _ (model : EntityModel) (sound : IsSoundModel model) (u : SetId) (entity 
   Decides-asked assoc constraint =
       let at_end = (dependent_end assoc constraint).set.index == u.index in
       let covers = derives model entity.ty (dependent_end assoc constraint).ty in
-      let there = none_null (values_of model entity constraint.dependent) in
-      let rest = Decides-and covers there ((decides_types model sound).tells entity.ty (dependent_end assoc constraint).ty) (Decides-none_null (values_of model entity constraint.dependent)) in
+      let there = none_null model (values_of model entity constraint.dependent) in
+      let rest = Decides-and covers there ((decides_types model sound).tells entity.ty (dependent_end assoc constraint).ty) (Decides-none_null model (values_of model entity constraint.dependent)) in
       let all = Decides-and at_end (covers && there) (Decides-set (dependent_end assoc constraint).set u) rest in
       (
         (λ told. let both = all.0 told in (both.0, both.1.0, both.1.1)),

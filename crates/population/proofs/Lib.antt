@@ -1,2 +1,9 @@
 pub mod Lists
 pub mod Asked
+pub mod Least
+pub mod Placed
+pub mod PrincipalKeys
+pub mod Kept
+pub mod KeptLegal
+pub mod Needed
+pub mod NeededParts

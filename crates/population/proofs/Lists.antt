@@ -1,5 +1,5 @@
 -- Lists by numbers, and pairs of members.
-use Rattle.std.proofs.Common.{◌≡◌, ◌≢◌, ◌⊎◌, ⊎_elim, ℕ, zero, suc, ◌+◌, ◌<◌, ◌≤◌, List, [], ◌∷◌, ◌++◌, map, length, slice_get, option_map, unwrap_or, get_or, Option, Some, None, AllPairs, Contains, refl, sym, ap, subst, ◌∙◌, arith}
+use Rattle.std.proofs.Common.{◌≡◌, ◌≢◌, ◌⊎◌, ⊎_elim, inl, inr, ℕ, zero, suc, ◌+◌, ◌<◌, ◌≤◌, List, [], ◌∷◌, ◌++◌, map, length, slice_get, option_map, unwrap_or, get_or, Option, Some, None, AllPairs, Contains, refl, sym, ap, subst, ◌∙◌, arith}
 use Rattle.std.specs.Option.{option_map_or}
 use Rattle.std.proofs.lemmas.List.{length-map}
 use Rattle.std.proofs.lemmas.Option.{slice_get-map, slice_get_past, slice_get_within, get_or_from_slice_get}
@@ -46,7 +46,9 @@ number_within first (suc n) k has = ⊎_elim
 -- what is made of each number stands at its place
 pub made_at : {Y : Type 0} (f : ℕ → List Y) (count i : ℕ) → (count ≤ i → f i ≡ []) → unwrap_or (slice_get (map f (numbers_from 0 count)) i) [] ≡ f i
 made_at {Y} f count i beyond = ⊎_elim
-    (λ (below : i < count). ap (λ found. unwrap_or (option_map f found) []) (number_at 0 count i below)) 
+    (λ (below : i < count).
+    let here : 0 + i ≡ i = omega arith in
+    ap (λ found. unwrap_or found []) (slice_get-map f (numbers_from 0 count) i) ∙ ap (λ found. unwrap_or (option_map f found) []) (number_at 0 count i below) ∙ ap f here)
     (λ (past : count ≤ i).
     let none : slice_get (map f (numbers_from 0 count)) i ≡ None = slice_get_past (map f (numbers_from 0 count)) i
         (let is = length-map (numbers_from 0 count) f ∙ length-numbers 0 count in omega (arith, is, past)) in
