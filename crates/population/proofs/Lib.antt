@@ -1,6 +1,12 @@
 pub mod Lists
 pub mod Least
+pub mod Placed
 pub mod Asked
+pub mod PrincipalKeys
+pub mod Kept
+pub mod KeptLegal
+pub mod Needed
+pub mod NeededParts
 pub mod Plain
 pub mod Matched
 pub mod Numbered

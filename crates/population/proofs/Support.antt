@@ -31,15 +31,9 @@ use Rattle.population.proofs.Asked.{asked_of}
 use Rattle.population.proofs.Matched.{sound_constraint}
 use Rattle.population.proofs.Entities.{given_stands, key_stands, number_stands, smaller, smaller_there}
 use Rattle.population.proofs.Numbered.{asked_concrete, asked_under, number_small, numbered_has, set_key_is}
+use Rattle.population.proofs.Placed.{Decides-placed}
 use Rattle.population.proofs.Plain.{has_key}
 use Rattle.population.proofs.Shortness.{step_short}
-
--- whether two keys in sets are one
-pub Decides-placed : (one other : PlacedKey) → Decides (same_placed one other) (one ≡ other)
-Decides-placed one other = Decides-like (same_placed one other)
-    (λ (both : (one.set ≡ other.set) × (one.key ≡ other.key)) i. record { set = both.0 i; key = both.1 i })
-    (λ is. (ap (λ (placed : PlacedKey). placed.set) is, ap (λ (placed : PlacedKey). placed.key) is))
-    (Decides-and (one.set.index == other.set.index) (same_key one.key other.key) (Decides-set one.set other.set) (Decides-key one.key other.key))
 
 -- keys of a set
 pub key_in : (keys : List PlacedKey) (u : SetId) (key : List Value) → Contains (keys_in keys u) key → Contains keys (record { set = u; key = key })

@@ -1,0 +1,5 @@
+use Rattle.population.proofs.Needed.{needed_keys_least}
+use Rattle.population.proofs.parts.needed_keys_are_least.Goals as goal
+
+pub returns : goal.returns
+returns c = record { least = needed_keys_least }

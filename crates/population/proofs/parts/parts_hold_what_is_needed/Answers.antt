@@ -1,0 +1,5 @@
+use Rattle.population.proofs.NeededParts.{holds_needed}
+use Rattle.population.proofs.parts.parts_hold_what_is_needed.Goals as goal
+
+pub returns : goal.returns
+returns c = record { holds = holds_needed }

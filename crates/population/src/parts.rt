@@ -1,0 +1,36 @@
+//! Parts of legal states: which are legal, what they hold, and which failures stand in them.
+
+ghost use Rattle.std.specs.Prelude.{◌↔◌, Bool, List, Contains};
+ghost use Rattle.round_trip.specs.Words.{EntityModel, Entity, IsLegal, SetId, State};
+ghost use Rattle.round_trip.specs.soundness.models.Models.{IsSoundModel};
+ghost use Rattle.population.specs.Kept.{AreAlikeAs, AreNeeded, HoldsNeeded, IsClosed, kept_state, part_of};
+ghost use Rattle.population.specs.Principals.{PlacedKey};
+
+/// A part of a legal state is legal exactly where it holds with each of its entities the principals, and the partners that ends `1` ask for.
+pub fn legal_parts_are_closed()
+    ensures closed { (model : EntityModel) → IsSoundModel model → (keep : SetId → Entity → Bool) (state : State) → IsLegal model state
+        → IsLegal model (kept_state model keep state) ↔ IsClosed model keep state }
+{}
+
+/// What some entities need in legal states is told by the least list of their keys, of those of the principals and partners that are asked of them, and so on.
+pub fn needed_keys_are_least()
+    ensures least { (model : EntityModel) → IsSoundModel model → (states : List State) → ((one : State) → Contains states one → IsLegal model one) → (roots : List PlacedKey)
+        → AreNeeded model states roots }
+{}
+
+/// The part of a legal state holds an entity where its key is needed, and a link where the keys of both its ends are.
+pub fn parts_hold_what_is_needed()
+    ensures holds { (model : EntityModel) (states : List State) (roots : List PlacedKey) (state : State) → IsLegal model state → HoldsNeeded model states roots state }
+{}
+
+/// The parts of two legal states by one list are alike wherever the states are.
+pub fn parts_by_one_list_are_alike()
+    ensures alike { (model : EntityModel) (states : List State) (roots : List PlacedKey) (one two : State) → IsLegal model one → IsLegal model two
+        → AreAlikeAs model states roots one two }
+{}
+
+/// The part of a legal state that holds what some entities need, in it or in other legal states beside it, is legal.
+pub fn needed_parts_are_legal()
+    ensures legal { (model : EntityModel) → IsSoundModel model → (states : List State) → ((one : State) → Contains states one → IsLegal model one) → (roots : List PlacedKey)
+        → (state : State) → Contains states state → IsLegal model (part_of model states roots state) }
+{}
