@@ -17,3 +17,5 @@ pub mod Shortness
 pub mod Arrows
 pub mod Support
 pub mod Legal
+pub mod Ends
+pub mod LinkStates

@@ -50,6 +50,15 @@ Decides-one One = (λ told. refl, λ is. refl)
 Decides-one ZeroOrOne = (λ told. absurd (true≢false (sym told)), λ is. absurd (let never : ZeroOrOne ≡ One = is in cc))
 Decides-one Many = (λ told. absurd (true≢false (sym told)), λ is. absurd (let never : Many ≡ One = is in cc))
 
+-- the links of an independent association: the given ones, and those that are added for both ends
+pub linked_is : (model : EntityModel) (outer : ℕ) (given : List Placed) (keys : List PlacedKey) (links : List PlacedLink) (a : AssocId) (assoc : Assoc)
+    → At model.assocs a.index assoc → IsIndependent assoc → linked_in model outer given keys links a
+    ≡ links_of links a ++ (added_at model outer given keys true a assoc (links_of links a) ++ added_at model outer given keys false a assoc (links_of links a))
+linked_is model outer given keys links a assoc here independent =
+    let own : List Link = links_of links a in
+    ap (λ found. option_map_or (all_links model outer given keys a own) found []) here
+    ∙ ap (λ none. if is_none none then own ++ (added_at model outer given keys true a assoc own ++ added_at model outer given keys false a assoc own) else []) independent
+
 module _ (model : EntityModel) (outer : ℕ) (given : List Placed) (keys : List PlacedKey) (a : AssocId) (assoc : Assoc) (links : List Link) where
   abbrev added : Bool → List Link
   added first = added_at model outer given keys first a assoc links
@@ -118,9 +127,7 @@ module _ (model : EntityModel) (outer : ℕ) (has : HasNumbers model outer) (giv
   opposite false one = mults.first one
 
   both_are : linked ≡ own ++ (more true ++ more false)
-  both_are =
-      ap (λ found. option_map_or (all_links model outer given keys a own) found []) here
-      ∙ ap (λ none. if is_none none then own ++ (more true ++ more false) else []) independent
+  both_are = linked_is model outer given keys all a assoc here independent
 
   -- the links are the given ones, with those that are added for one end, or alone
   data Linked : Type 0 where

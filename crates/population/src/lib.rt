@@ -1,6 +1,7 @@
 //! Which legal states there are: for each sound model, given entities and links with what supports them are a legal state, and what some entities of a legal state need is one.
 #![tactic(auto)]
 
+mod link_states;
 mod parts;
 
 ghost use Rattle.std.specs.Prelude.{◌↔◌, ℕ, List, Contains};
@@ -11,6 +12,7 @@ ghost use Rattle.population.specs.Principals.{AsksFor, PlacedKey, principals};
 ghost use Rattle.population.specs.Support.{IsLeastFor, support};
 ghost use Rattle.population.specs.Supported.{Placed, PlacedLink, supported};
 
+pub use link_states::links_can_stand;
 pub use parts::{
     legal_parts_are_closed, needed_keys_are_least, needed_parts_are_legal,
     parts_by_one_list_are_alike, parts_hold_what_is_needed,
