@@ -7,3 +7,5 @@ pub mod Kept
 pub mod KeptLegal
 pub mod Needed
 pub mod NeededParts
+pub mod RowStates
+pub mod PartHolds

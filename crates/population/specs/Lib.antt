@@ -6,3 +6,4 @@ pub mod Given
 pub mod Least
 pub mod Support
 pub mod Kept
+pub mod RowStates
