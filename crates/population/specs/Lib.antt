@@ -6,4 +6,5 @@ pub mod Given
 pub mod Least
 pub mod Support
 pub mod Kept
+pub mod RowStates
 pub mod LinkStates

@@ -14,7 +14,7 @@ ghost use Rattle.population.specs.Supported.{Placed, PlacedLink, supported};
 
 pub use link_states::links_can_stand;
 pub use parts::{
-    legal_parts_are_closed, needed_keys_are_least, needed_parts_are_legal,
+    failures_stand_in_parts, legal_parts_are_closed, needed_keys_are_least, needed_parts_are_legal,
     parts_by_one_list_are_alike, parts_hold_what_is_needed,
 };
 

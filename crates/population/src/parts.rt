@@ -1,10 +1,12 @@
 //! Parts of legal states: which are legal, what they hold, and which failures stand in them.
 
 ghost use Rattle.std.specs.Prelude.{◌↔◌, Bool, List, Contains};
-ghost use Rattle.round_trip.specs.Words.{EntityModel, Entity, IsLegal, SetId, State};
+ghost use Rattle.round_trip.specs.Words.{EntityModel, Entity, IsLegal, Place, Schema, SetId, State};
+ghost use Rattle.round_trip.specs.soundness.mappings.Mappings.{IsSoundSchema};
 ghost use Rattle.round_trip.specs.soundness.models.Models.{IsSoundModel};
 ghost use Rattle.population.specs.Kept.{AreAlikeAs, AreNeeded, HoldsNeeded, IsClosed, kept_state, part_of};
 ghost use Rattle.population.specs.Principals.{PlacedKey};
+ghost use Rattle.population.specs.RowStates.{FailsInRows};
 
 /// A part of a legal state is legal exactly where it holds with each of its entities the principals, and the partners that ends `1` ask for.
 pub fn legal_parts_are_closed()
@@ -33,4 +35,9 @@ pub fn parts_by_one_list_are_alike()
 pub fn needed_parts_are_legal()
     ensures legal { (model : EntityModel) → IsSoundModel model → (states : List State) → ((one : State) → Contains states one → IsLegal model one) → (roots : List PlacedKey)
         → (state : State) → Contains states state → IsLegal model (part_of model states roots state) }
+{}
+
+/// Where a legal state fails by a clash, a null, a disagreement or a dangling key, so does the part that the writers of one row need, at the same place.
+pub fn failures_stand_in_parts()
+    ensures stand { (schema : Schema) → IsSoundSchema schema → (state : State) → IsLegal schema.model state → (place : Place) (other : State) → FailsInRows schema state place other }
 {}

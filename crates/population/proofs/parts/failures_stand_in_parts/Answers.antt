@@ -1,0 +1,5 @@
+use Rattle.population.proofs.PartHolds.{fails_in_rows}
+use Rattle.population.proofs.parts.failures_stand_in_parts.Goals as goal
+
+pub returns : goal.returns
+returns c = record { stand = fails_in_rows }
