@@ -74,3 +74,8 @@ module _ (model : EntityModel) (outer : ℕ) (given : List Placed) (keys : List 
         → (first : Bool) → StandsAtEnd (end_of first assoc) (end_key first link)
     pub few : (a : AssocId) (assoc : Assoc) → At model.assocs a.index assoc → (first : Bool) → (end_of (not first) assoc).mult ≢ Many
         → AllPairs (λ one two. end_key first one ≢ end_key first two) (links_of links a)
+
+-- the wanted keys are short, and hold each principal of a given entity
+pub record AreWanted (model : EntityModel) (given : List Placed) (wanted : List PlacedKey) : Type 0 where
+  pub short : (placed : PlacedKey) → Contains wanted placed → HasShortParts model placed.set placed.key
+  pub of_given : (u : SetId) (entity : Entity) → Contains (given_in given u) entity → (to : PlacedKey) → Contains (principals model u entity) to → Contains wanted to

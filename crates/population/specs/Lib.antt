@@ -7,3 +7,4 @@ pub mod Least
 pub mod Support
 pub mod Kept
 pub mod RowStates
+pub mod LinkStates

@@ -1,10 +1,11 @@
 -- The keys that support given entities: those of the principals that are wanted, of the principals of plain entities there, and so on, as far as
 -- no other entity stands there.
 -- Source: this project's choice of the states that it shows; CSDL version 3, ReferentialConstraint.
-use Rattle.std.specs.Prelude.{◌==◌, ◌&&◌, ℕ, zero, suc, List, [], ◌++◌, Bool, map, filter, flat_map, slice_get, length, not}
+use Rattle.std.specs.Prelude.{◌≡◌, ◌⊎◌, ◌<◌, ◌==◌, ◌&&◌, ℕ, zero, suc, List, [], ◌++◌, Bool, map, filter, flat_map, slice_get, length, Contains, not}
 use Rattle.std.specs.List.{list_any}
 use Rattle.std.specs.Option.{option_map_or}
-use Rattle.round_trip.specs.Words.{EntityModel, key_of}
+use Rattle.emc_base.specs.Lists.{AreApart}
+use Rattle.round_trip.specs.Words.{EntityModel, Entity, key_of}
 use Rattle.schema_laws.specs.short_values.Numbers.{numbers_from}
 use Rattle.schema_laws.specs.state_demand.MadeTables.{distinct}
 use Rattle.schema_laws.specs.state_demand.Selecting.{same_key}
@@ -39,3 +40,19 @@ module _ (model : EntityModel) (outer : ℕ) where
     -- the support of the wanted keys, each once; no more steps are needed than there are sets
     abbrev pub support : List PlacedKey → List PlacedKey
     support wanted = distinct same_placed (levels (length model.sets) (free_keys wanted))
+
+    -- an entity of a number, or a given one, has the key
+    abbrev pub IsTaken : PlacedKey → Type 0
+    IsTaken placed = ((number : ℕ) × (number < number_count model) × (placed.key ≡ numbered_key model outer placed.set number))
+        ⊎ ((entity : Entity) × Contains (given_in given placed.set) entity × (key_of model entity ≡ placed.key))
+
+    -- the list holds the wanted keys at which no such entity stands, and with each key those of its steps
+    pub record IsClosedFor (wanted list : List PlacedKey) : Type 0 where
+      pub wanted_in : (placed : PlacedKey) → Contains wanted placed → ¬ IsTaken placed → Contains list placed
+      pub steps_in : (from to : PlacedKey) → Contains list from → Contains (steps from) to → ¬ IsTaken to → Contains list to
+
+    -- it is the least such list, and holds each once
+    pub record IsLeastFor (wanted list : List PlacedKey) : Type 0 where
+      pub closed : IsClosedFor wanted list
+      pub least : (other : List PlacedKey) → IsClosedFor wanted other → (placed : PlacedKey) → Contains list placed → Contains other placed
+      pub once : AreApart list

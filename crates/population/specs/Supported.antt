@@ -54,6 +54,14 @@ keys_in keys u = map (λ placed. placed.key) (filter (λ placed. placed.set.inde
 abbrev pub links_of : List PlacedLink → AssocId → List Link
 links_of links a = map (λ placed. placed.link) (filter (λ placed. placed.assoc.index == a.index) links)
 
+-- whether an entity is to have a link at the end, and none of these is its own
+abbrev pub lacks_link : EntityModel → Bool → Assoc → List Link → Entity → Bool
+lacks_link model first assoc links entity = derives model entity.ty (end_of first assoc).ty && not (list_any (λ link. same_key (end_key first link) (key_of model entity)) links)
+
+-- a link from an entity to the one that has the number of the other end
+abbrev pub added_link : EntityModel → ℕ → Bool → AssocId → Assoc → Entity → Link
+added_link model outer first a assoc entity = link_of first (key_of model entity) (numbered_key model outer (end_of (not first) assoc).set (end_number (not first) a))
+
 module _ (model : EntityModel) (outer : ℕ) (given : List Placed) (keys : List PlacedKey) where
   -- the entities of a set: those of all numbers, the given ones, and a plain one for each key
   abbrev pub all_in : SetId → EntitySet → List Entity
@@ -62,18 +70,10 @@ module _ (model : EntityModel) (outer : ℕ) (given : List Placed) (keys : List 
   abbrev pub stands_in : SetId → List Entity
   stands_in u = option_map_or (all_in u) (slice_get model.sets u.index) []
 
-  -- whether an entity is to have a link at the end, and none of these is its own
-  abbrev pub lacks_link : Bool → Assoc → List Link → Entity → Bool
-  lacks_link first assoc links entity = derives model entity.ty (end_of first assoc).ty && not (list_any (λ link. same_key (end_key first link) (key_of model entity)) links)
-
-  -- a link to the entity that has the number of the other end
-  abbrev pub added_link : Bool → AssocId → Assoc → Entity → Link
-  added_link first a assoc entity = link_of first (key_of model entity) (numbered_key model outer (end_of (not first) assoc).set (end_number (not first) a))
-
   -- the links that are added for the entities at an end, where the other end asks for exactly one partner
   abbrev pub added_at : Bool → AssocId → Assoc → List Link → List Link
   added_at first a assoc links =
-      if is_one (end_of (not first) assoc).mult then map (added_link first a assoc) (filter (lacks_link first assoc links) (stands_in (end_of first assoc).set)) else []
+      if is_one (end_of (not first) assoc).mult then map (added_link model outer first a assoc) (filter (lacks_link model first assoc links) (stands_in (end_of first assoc).set)) else []
 
   -- the links of an association: the given ones, and those that are added to them
   abbrev pub all_links : AssocId → List Link → Assoc → List Link

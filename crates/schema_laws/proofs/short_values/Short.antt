@@ -1,5 +1,5 @@
 -- Short values are in the domains of properties that are of a kind of keys, and the numbered values are short.
-use Rattle.std.proofs.Common.{◌≡◌, ℕ, ◌+◌, ◌*◌, ◌<◌, ◌≤◌, ℤ, pos, negsuc, ◌≤ℤ◌, [], ◌∷◌, ◌&&◌, true, IsTrue, Option, Some, None, encode_utf8_all, refl, ap, arith}
+use Rattle.std.proofs.Common.{◌≡◌, ◌≢◌, ℕ, ◌+◌, ◌*◌, ◌<◌, ◌≤◌, ℤ, pos, negsuc, ◌≤ℤ◌, [], ◌∷◌, ◌&&◌, true, IsTrue, Option, Some, None, encode_utf8_all, refl, ap, subst, arith}
 use Rattle.std.specs.Str.{all_scalars}
 use Rattle.std.proofs.lemmas.Int.{ints}
 use Rattle.std.proofs.lemmas.Str.{encodes_same}
@@ -7,11 +7,28 @@ use lib.Utf8.{low_scalar}
 use Rattle.emc_base.specs.Domain.{IsBetween, IsWithin}
 use Rattle.emc_base.specs.declared.value.Value.TheVariants as value
 use Rattle.emc_base.specs.declared.value.Kind.TheVariants as kind
-use Rattle.round_trip.specs.Words.{Value, Kind, InDomain}
+use Rattle.round_trip.specs.Words.{Value, Null, Kind, InDomain}
 use Rattle.round_trip.specs.soundness.Kinds.{IsKeyKind, IsSoundBound, IsSoundKind}
 use Rattle.schema_laws.specs.short_values.Short.{IsOfSort, IsShort}
 use Rattle.schema_laws.specs.short_values.Numbers.{letter, number}
 use Rattle.schema_laws.specs.short_values.Fresh.{fresh, most_indices}
+
+-- null is in no domain, and no short value
+no_null : (k : Kind) → InDomain Null k → ⊥
+no_null kind.Boolean domain = domain
+no_null kind.Byte domain = domain
+no_null kind.Int16 domain = domain
+no_null kind.Int32 domain = domain
+no_null kind.Int64 domain = domain
+no_null (kind.Text bound) domain = domain
+no_null (kind.Binary bound) domain = domain
+no_null (kind.Enum enumeration) domain = domain
+
+pub domain_not_null : (v : Value) (k : Kind) → InDomain v k → v ≢ Null
+domain_not_null v k domain null = let P : Value → Type 0 = λ w. InDomain w k in no_null k (subst P null domain)
+
+pub short_not_null : (v : Value) → IsShort v → v ≢ Null
+short_not_null v short null = subst IsShort null short
 
 between : (low high : ℕ) (n : ℤ) → 32767 ≤ high → IsBetween (pos 0) (pos 32767) n → IsBetween (negsuc low) (pos high) n
 between low high n wide short = let up : pos 0 ≤ℤ n = short.0 in let down : n ≤ℤ pos 32767 = short.1 in (omega (arith, ints, up, down, wide), omega (arith, ints, up, down, wide))

@@ -1,5 +1,5 @@
 -- Keys of a sound model: a type has its base type's, and no property twice.
-use Rattle.std.proofs.Common.{◌≡◌, ◌≢◌, ℕ, zero, suc, List, [], length, slice_get, MatchOption, Option, Some, None, refl, sym, ap, subst, ◌∙◌, arith}
+use Rattle.std.proofs.Common.{◌≡◌, ◌≢◌, ℕ, zero, suc, ◌≤◌, List, [], length, slice_get, MatchOption, Option, Some, None, refl, sym, ap, subst, ◌∙◌, arith}
 use Rattle.std.specs.Bool.{⊤}
 use Rattle.std.specs.Option.{option_map_or}
 use Rattle.std.proofs.lemmas.Option.{MatchOption-at_none, MatchOption-at_some, slice_get_within}
@@ -24,6 +24,9 @@ module _ (model : EntityModel) (sound : IsSoundModel model) where
 
   pub inherits_keys : InheritsKeys model
   inherits_keys = record { same = inherited_key model sound }
+
+  none_few : (key : List PropId) → key ≡ [] → length key ≤ 4
+  none_few key none = subst (λ props. length props ≤ 4) (sym none) (omega arith)
 
   nil_apart : (props : List PropId) → props ≡ [] → AreApart props
   nil_apart props none = let nothing : AreApart {X = PropId} [] = λ i j d below within. absurd (omega arith) in subst AreApart (sym none) nothing
@@ -74,3 +77,30 @@ module _ (model : EntityModel) (sound : IsSoundModel model) where
   -- a key has a property
   pub keys_some : (t : TypeId) (type : EntityType) → At model.types t.index type → key_props model t ≢ []
   keys_some t type here = climb_some (length model.types) t (base_ends model sound t.index (slice_get_within model.types t.index type here)) type here
+
+  abbrev AreFew : List PropId → Type 0
+  AreFew key = length key ≤ 4
+
+  climb_few : (n : ℕ) (t : TypeId) → Ends (base_place model) n t.index → AreFew (key_props model t)
+  climb_few zero t end = absurd end
+  climb_few (suc n) t end = by (slice_get model.types t.index) refl
+      (λ u has. climb_few n u (MatchOption-at_some ⊤ (λ k. Ends (base_place model) n k) u.index (base_here model t u has) end))
+    where
+      by_base : (type : EntityType) → At model.types t.index type → ((u : TypeId) → HasBase model t u → AreFew (key_props model u)) → (above : Option TypeId)
+          → type.base ≡ above → AreFew (key_props model t)
+      by_base type here up None none =
+          subst AreFew (sym (key_at model t type here))
+          (MatchOption-at_none (IsRootKey model t type.key) (λ one. type.key ≡ key_props model one) none (sound.types t type here).key).few
+      by_base type here up (Some u) is = let has : HasBase model t u = (type, here, is) in subst AreFew (sym (base_key t u has)) (up u has)
+
+      by : (found : Option EntityType) → slice_get model.types t.index ≡ found → ((u : TypeId) → HasBase model t u → AreFew (key_props model u)) → AreFew (key_props model t)
+      by None here up = none_few (key_props model t) (ap (λ found. option_map_or (λ (one : EntityType). one.key) found []) here)
+      by (Some type) here up = by_base type here up type.base refl
+
+  -- a key has at most four parts
+  pub keys_few : (t : TypeId) → length (key_props model t) ≤ 4
+  keys_few t = by (slice_get model.types t.index) refl
+    where
+      by : (found : Option EntityType) → slice_get model.types t.index ≡ found → AreFew (key_props model t)
+      by None here = none_few (key_props model t) (ap (λ found. option_map_or (λ (one : EntityType). one.key) found []) here)
+      by (Some type) here = climb_few (length model.types) t (base_ends model sound t.index (slice_get_within model.types t.index type here))

@@ -15,7 +15,7 @@ use Rattle.graphs.proofs.base_chains.Chains.{Ends}
 use Rattle.edm_types.proofs.Lookups.{key_at}
 use Rattle.schema_laws.proofs.sound_types.BasePlaces.{base_ends, base_here, base_place}
 use Rattle.schema_laws.proofs.state_demand.lists.Lists.{member_cases, none_in_nil}
-use Rattle.schema_laws.proofs.sound_demand.Keys.{inherits_keys}
+use Rattle.schema_laws.proofs.sound_demand.Keys.{keys_few}
 use Rattle.schema_laws.proofs.short_values.Places.{place_within}
 use Rattle.cells.specs.Limits.{IsSmallModel, most_props}
 use Rattle.schema_laws.proofs.state_demand.lists.Ids.{Decides-prop}
@@ -23,48 +23,12 @@ use Rattle.schema_laws.specs.short_values.Places.{place_in}
 use Rattle.schema_laws.specs.short_values.Fresh.{dependent, dependent_value, focus, focus_key, most_indices, partner, partner_key}
 use Rattle.schema_laws.proofs.short_values.Uses.{index_below}
 
-abbrev AreFew : List PropId → Type 0
-AreFew key = length key ≤ 4
-
 module _ (model : EntityModel) (sound : IsSoundModel model) where
-  abbrev HasFew : TypeId → Type 0
-  HasFew t = length (key_props model t) ≤ 4
-
-  no_key : (t : TypeId) → slice_get model.types t.index ≡ None → HasFew t
-  no_key t none =
-      let empty : key_props model t ≡ [] = ap (λ found. option_map_or (λ (one : EntityType). one.key) found []) none in
-      subst AreFew (sym empty) (omega arith)
-
-  climb : (n : ℕ) (t : TypeId) → Ends (base_place model) n t.index → HasFew t
-  climb zero t end = absurd end
-  climb (suc n) t end = by (slice_get model.types t.index) refl
-      (λ u has. climb n u (MatchOption-at_some ⊤ (λ k. Ends (base_place model) n k) u.index (base_here model t u has) end))
-    where
-      by_base : (type : EntityType) → At model.types t.index type → ((u : TypeId) → HasBase model t u → HasFew u) → (above : Option TypeId) → type.base ≡ above → HasFew t
-      by_base type here up None none =
-          subst AreFew (sym (key_at model t type here))
-          (MatchOption-at_none (IsRootKey model t type.key) (λ one. type.key ≡ key_props model one) none (sound.types t type here).key).few
-      by_base type here up (Some u) is =
-          let has : HasBase model t u = (type, here, is) in
-          subst AreFew (sym ((inherits_keys model sound).same t u (base t u has))) (up u has)
-
-      by : (found : Option EntityType) → slice_get model.types t.index ≡ found → ((u : TypeId) → HasBase model t u → HasFew u) → HasFew t
-      by None here up = no_key t here
-      by (Some type) here up = by_base type here up type.base refl
-
-  -- a key has at most four parts
-  pub keys_few : (t : TypeId) → length (key_props model t) ≤ 4
-  keys_few t = by (slice_get model.types t.index) refl
-    where
-      by : (found : Option EntityType) → slice_get model.types t.index ≡ found → HasFew t
-      by None here = no_key t here
-      by (Some type) here = climb (length model.types) t (base_ends model sound t.index (slice_get_within model.types t.index type here))
-
   -- the indices of the parts of a key, and of a partner's
   pub key_index : (t : TypeId) (p : PropId) → Contains (key_props model t) p → focus_key (place_in p (key_props model t)) < most_indices
   key_index t p has =
       let place = place_within p (key_props model t) has in
-      let few = keys_few t in
+      let few = keys_few model sound t in
       index_below (focus (place_in p (key_props model t))) (omega (arith, place, few))
 
   module _ (small : IsSmallModel model) where
@@ -72,7 +36,7 @@ module _ (model : EntityModel) (sound : IsSoundModel model) where
         → partner_key a.index (place_in p (key_props model t)) < most_indices
     partner_index a assoc here t p has =
         let place = place_within p (key_props model t) has in
-        let few = keys_few t in
+        let few = keys_few model sound t in
         let inside = slice_get_within model.assocs a.index assoc here in
         let most = small.0 in
         index_below (partner a.index (place_in p (key_props model t))) (omega (arith, inside, most), omega (arith, place, few))

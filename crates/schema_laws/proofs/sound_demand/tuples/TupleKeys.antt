@@ -42,7 +42,7 @@ beside_pair value (p ∷ ps) apart pair has =
     (member_cases p ps pair has)
 
 -- a key beside its own properties
-key_beside : (props : List PropId) (key : List Value) → AreApart props → length key ≡ length props → map (λ prop. value_beside prop props key) props ≡ key
+pub key_beside : (props : List PropId) (key : List Value) → AreApart props → length key ≡ length props → map (λ prop. value_beside prop props key) props ≡ key
 key_beside props key apart count =
     let value : PropId → Value = λ prop. value_beside prop props key in
     same_values props (map value props) key (length-map props value) count apart (λ prop has. beside_map value props prop has)
