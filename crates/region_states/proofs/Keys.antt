@@ -19,7 +19,7 @@ use Rattle.region_states.proofs.Entities.{has_value}
 
 -- the numbered values of these parts of a key
 abbrev pub numbered_key : EntityModel → List PropId → List Value
-numbered_key model key = map (λ p. fresh_at model p (focus_key (place_in p key))) key
+numbered_key model key = map (λ p. fresh_at model 0 p (focus_key (place_in p key))) key
 
 module _ (basis : Basis) (is : IsBasis basis) (s : SetId) where
   -- the key of an entity of admissible values is that of its set
@@ -27,7 +27,7 @@ module _ (basis : Basis) (is : IsBasis basis) (s : SetId) where
       → key_of basis.schema.model (focus_entity basis region values) ≡ numbered_key basis.schema.model (set_key basis.schema.model s)
   focus_key_is region has values admissible =
       let key : List PropId = key_props basis.schema.model region.ty in
-      map_agree (value_of basis.schema.model (focus_entity basis region values)) (λ p. fresh_at basis.schema.model p (focus_key (place_in p key))) key
+      map_agree (value_of basis.schema.model (focus_entity basis region values)) (λ p. fresh_at basis.schema.model 0 p (focus_key (place_in p key))) key
       (λ p among. has_value basis region values p (key_among basis.schema.model is.sound.model p region.ty among) ∙ admissible.keys p among)
       ∙ ap (numbered_key basis.schema.model) (key_is basis is s region has ∙ ap (set_key basis.schema.model) (set_is basis s region has))
 

@@ -121,10 +121,10 @@ module _ (basis : Basis) (is : IsBasis basis) (limits : IsWithinLimits basis.sch
     -- its value is the one that is numbered for it
     numbered : (k : Kind) × (default_part basis a first p ≡ fresh k 0 (partner_key a.index (place_in p key)))
     numbered =
-        let is_key : IsKeyProp basis.schema.model p = key_prop basis.schema.model is.sound.model (end_at first end.assoc).ty p end.among in
-        let at : Assoc → Value = λ assoc. fresh_at basis.schema.model p (partner_key a.index (place_in p (key_props basis.schema.model (end_at first assoc).ty))) in (
+        let is_key : IsKeyProp basis.schema.model p = key_prop basis.schema.model is.sound.model p (end_at first end.assoc).ty end.among in
+        let at : Assoc → Value = λ assoc. fresh_at basis.schema.model 0 p (partner_key a.index (place_in p (key_props basis.schema.model (end_at first assoc).ty))) in (
           is_key.declared.kind,
-          ap (λ found. option_map_or at found Null) end.here ∙ fresh_is basis.schema.model p is_key.declared is_key.is_declared (partner_key a.index (place_in p key)),
+          ap (λ found. option_map_or at found Null) end.here ∙ fresh_is basis.schema.model p is_key.declared is_key.is_declared 0 (partner_key a.index (place_in p key)),
         )
 
   -- ends with one number are one: they are of one association, at one end, and of one property

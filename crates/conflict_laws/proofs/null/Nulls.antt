@@ -71,7 +71,7 @@ module _ (basis : Basis) (is : IsBasis basis) where
     -- a nullable property is no part of the key
     no_key : ¬ Contains keys p
     no_key key =
-        let is_key : IsKeyProp basis.schema.model p = key_prop basis.schema.model is.sound.model region.ty p key in
+        let is_key : IsKeyProp basis.schema.model p = key_prop basis.schema.model is.sound.model p region.ty key in
         let same : is_key.declared ≡ declared = at_once basis.schema.model.props p.index is_key.declared declared is_key.is_declared here in
         true≢false (sym nullable ∙ sym (ap (λ (one : Prop). one.nullable) same) ∙ is_key.needed)
 

@@ -145,7 +145,7 @@ module _ (basis : Basis) (is : IsBasis basis) (s : SetId) (one two : Region) whe
         let rival : IsRival basis region p n = told.0.1 in
         let among = listed_prop basis is s region comparable.is_one rival.t rival.c p
         (listed_from basis is (focus.Entity region) rival.t rival.c (symbol.Prop p) rival.lists) in
-        let above = declared_above basis.schema.model is.sound.model region.ty p among in
+        let above = declared_above basis.schema.model is.sound.model p region.ty among in
         let several : (declared : Prop) → At basis.schema.model.props p.index declared → HasSeveral basis region p declared n =
         λ declared here. record { is_declared = here; among = among; no_key = rival.no_key; several = rival.several } in
         ⊎_elim

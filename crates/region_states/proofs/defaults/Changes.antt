@@ -30,7 +30,8 @@ use Rattle.schema_laws.specs.short_values.Places.{is_dependent, place_in}
 use Rattle.region_states.specs.defaults.Admissible.{AreChoices, AreTwoChoices, DifferAt, HasSeveral, IsAdmissible, IsChoice}
 use Rattle.region_states.proofs.defaults.groups.Constants.{dependent_none, joined_none}
 use Rattle.region_states.proofs.defaults.Defaults.{IsSome, either_some, is_open, lies_open, open_two}
-use Rattle.region_states.proofs.defaults.Fitting.{dependent_takes, joined_takes}
+use Rattle.region_states.proofs.defaults.Fitting.{joined_takes}
+use Rattle.schema_laws.proofs.short_values.Fitting.{dependent_takes}
 use Rattle.region_states.proofs.defaults.Listed.{told_found}
 use Rattle.schema_laws.proofs.short_values.Short.{fresh_same}
 use Rattle.schema_laws.proofs.short_values.Uses.{index_below}
@@ -81,7 +82,7 @@ module _ (basis : Basis) (is : IsBasis basis) (s : SetId) (region : Region) (has
         props = λ p declared among here. each p (Allows declared) (admissible.allowed.props p declared among here) (λ v choice. choice.allowed declared here);
         parts = admissible.allowed.parts;
       };
-      keys = λ p key. (let Is : Value → Type 0 = λ v. v ≡ fresh_at basis.schema.model p (focus_key (place_in p (key_props basis.schema.model region.ty))) in
+      keys = λ p key. (let Is : Value → Type 0 = λ v. v ≡ fresh_at basis.schema.model 0 p (focus_key (place_in p (key_props basis.schema.model region.ty))) in
           each p Is (admissible.keys p key) (λ v choice. absurd (choice.no_key key)));
       partners = admissible.partners;
       dependent = λ p among by. each p (λ v. v ≢ Null → IsShort v) (admissible.dependent p among by) (λ v choice. choice.dependent by);
@@ -155,7 +156,7 @@ module _ (basis : Basis) (is : IsBasis basis) (s : SetId) (region : Region) (has
     short_choice q dependent (inl same) v short sort =
         let is_p : q ≡ p = cc in
         let by : IsDependent basis.schema.model p = subst (IsDependent basis.schema.model) is_p dependent in
-        free_choice v (dependent_takes basis is p by declared several.is_declared v short sort)
+        free_choice v (dependent_takes basis.schema.model is.sound.model p by declared several.is_declared v short sort)
         (λ has. none_in_nil v (subst (λ list. Contains list v) (dependent_none basis is p declared several.is_declared by) has)) (λ any. short)
     short_choice q dependent (inr joins) v short sort =
         free_choice v (joined_takes basis is q p dependent joins declared several.is_declared v short sort)

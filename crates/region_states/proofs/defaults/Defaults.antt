@@ -1,17 +1,17 @@
 -- The values of a region where nothing else is said are admissible.
-use Rattle.std.proofs.Common.{◌≡◌, ◌≢◌, ◌⊎◌, inl, inr, ℕ, ◌==◌, ◌<◌, List, Contains, Option, Some, None, Bool, true, false, true≢false, not, Decides, if◌then◌else◌, refl, sym, ap, subst, ◌∙◌, arith}
+use Rattle.std.proofs.Common.{◌≡◌, ◌≢◌, ◌⊎◌, inl, inr, ℕ, ◌<◌, List, Contains, Option, Some, None, Bool, true, false, not, if◌then◌else◌, refl, sym, ap, subst, ◌∙◌, arith}
 use Rattle.std.specs.Option.{option_map_or}
 use Rattle.std.proofs.lemmas.Bool.{cond-true, cond_both}
-use Rattle.std.proofs.lemmas.Bool.Decides.{Decides-like, not_from_Decides}
+use Rattle.std.proofs.lemmas.Bool.Decides.{not_from_Decides}
 use Rattle.std.proofs.lemmas.Option.{same_Some}
 use Rattle.emc_base.proofs.Lists.{all_from_members, at_once}
-use Rattle.round_trip.specs.Words.{SetId, PropId, Value, Null, EntityModel, Prop, Assoc, Constraint, At, InDomain, key_props, props_of}
+use Rattle.round_trip.specs.Words.{SetId, PropId, Value, Null, Prop, Assoc, At, InDomain, key_props, props_of}
 use Rattle.round_trip.specs.soundness.models.Inheritance.{IsKeyProp}
 use Rattle.round_trip.specs.soundness.mappings.Joined.{IsDependent, prop}
 use Rattle.condition_logic.specs.declared.atoms.Atom.{Atom}
 use Rattle.condition_logic.specs.declared.atoms.Atom.TheVariants as atom
 use Rattle.condition_logic.specs.declared.atoms.AtomOf.{AtomOf}
-use Rattle.schema_laws.proofs.state_demand.lists.Lists.{Decides-any, any_of, none_in_nil, of_any}
+use Rattle.schema_laws.proofs.state_demand.lists.Lists.{none_in_nil}
 use Rattle.cells.specs.Limits.{IsWithinLimits}
 use Rattle.regions.specs.declared.region.Region.{Region}
 use Rattle.regions.specs.Atoms.{Allows, LiesIn, atom_at, atoms_of}
@@ -20,7 +20,6 @@ use Rattle.regions.specs.Regions.{regions_of}
 use Rattle.regions.specs.region_laws.IsBasis.{IsBasis}
 use Rattle.regions.proofs.region_laws.values.Atoms.{not_null}
 use Rattle.schema_laws.proofs.sound_types.Inherited.{declared_above, key_prop}
-use Rattle.schema_laws.proofs.state_demand.lists.Ids.{Decides-prop}
 use Rattle.regions.specs.region_laws.pattern.Allowed.{HasAllowedParts, end_at}
 use Rattle.schema_laws.specs.short_values.Short.{IsShort}
 use Rattle.region_states.specs.defaults.Candidates.{AreTwoFree, first_free, next_free}
@@ -32,8 +31,9 @@ use Rattle.region_states.proofs.defaults.indices.Bounds.{dependent_index, key_in
 use Rattle.region_states.proofs.defaults.Candidates.{IsPlainKind, plain_key}
 use Rattle.schema_laws.proofs.sound_types.Dependent.{dependent_is, sound_kind}
 use Rattle.region_states.proofs.defaults.groups.Constants.{dependent_none, plain_two, untested_two}
-use Rattle.region_states.proofs.defaults.Fitting.{key_is}
 use Rattle.region_states.proofs.defaults.Listed.{IsTold, found_told, lost_untested, no_key_free, tested_no_key, told_found, told_is}
+use Rattle.schema_laws.proofs.short_values.Fitting.{key_kind}
+use Rattle.schema_laws.proofs.short_values.Places.{Decides-among, Decides-dependent, fresh_is}
 use Rattle.schema_laws.proofs.short_values.Short.{fresh_fits, fresh_short}
 use Rattle.region_states.proofs.defaults.Valued.{Tells, atom_tells}
 
@@ -62,7 +62,7 @@ module _ (basis : Basis) (is : IsBasis basis) where
   module _ (p : PropId) (declared : Prop) (here : At basis.schema.model.props p.index declared) where
     pub fresh_some : IsDependent basis.schema.model p → (index : ℕ) → index < most_indices → IsSome p declared (fresh declared.kind 0 index)
     fresh_some dependent index below = record {
-      fits = fresh_fits declared.kind (dependent_is basis.schema is.sound p dependent declared here) (sound_kind basis.schema is.sound p declared here)
+      fits = fresh_fits declared.kind (dependent_is basis.schema.model is.sound.model p dependent declared here) (sound_kind basis.schema.model is.sound.model p declared here)
           0 index (omega arith) below;
       free = λ has. none_in_nil (fresh declared.kind 0 index)
           (subst (λ list. Contains list (fresh declared.kind 0 index)) (dependent_none basis is p declared here dependent) has);
@@ -122,8 +122,8 @@ module _ (basis : Basis) (is : IsBasis basis) (limits : IsWithinLimits basis.sch
 
         none_short : (one : Value) → InDomain one declared.kind × (IsPlainKind declared.kind → Contains constants one) → IsDependent basis.schema.model p → IsShort one
         none_short one told dependent =
-            let key_kind = dependent_is basis.schema is.sound p dependent declared here in
-            absurd (none_in_nil one (subst (λ list. Contains list one) (dependent_none basis is p declared here dependent) (told.1 (plain_key declared.kind key_kind))))
+            let key = dependent_is basis.schema.model is.sound.model p dependent declared here in
+            absurd (none_in_nil one (subst (λ list. Contains list one) (dependent_none basis is p declared here dependent) (told.1 (plain_key declared.kind key))))
 
         maybe_null : (nullable : Bool) → declared.nullable ≡ nullable → atom_at region.atoms p ≡ None
             → IsGood p declared (if nullable then Null else some_value basis region.ty p declared)
@@ -154,7 +154,7 @@ module _ (basis : Basis) (is : IsBasis basis) (limits : IsWithinLimits basis.sch
         let index : ℕ = focus_key (place_in p (key_props basis.schema.model region.ty)) in
         let below : index < most_indices = key_index basis.schema.model is.sound.model region.ty p key in
         record {
-          allowed = inr (fresh_fits declared.kind (key_is basis is region.ty p key declared here) (sound_kind basis.schema is.sound p declared here) 0 index (omega arith) below);
+          allowed = inr (fresh_fits declared.kind (key_kind basis.schema.model is.sound.model region.ty p key declared here) (sound_kind basis.schema.model is.sound.model p declared here) 0 index (omega arith) below);
           atom = λ a at. (let told : IsTold basis is s region has p a = found_told basis is s region has p a at in
               absurd (tested_no_key basis is p declared here region.ty among told.tested key));
           dependent = λ by there. fresh_short declared.kind 0 index (omega arith) below;
@@ -173,14 +173,14 @@ module _ (basis : Basis) (is : IsBasis basis) (limits : IsWithinLimits basis.sch
 
   -- the key is that of the focus
   default_key : (p : PropId) → Contains (key_props basis.schema.model region.ty) p
-      → default_value basis region p ≡ fresh_at basis.schema.model p (focus_key (place_in p (key_props basis.schema.model region.ty)))
+      → default_value basis region p ≡ fresh_at basis.schema.model 0 p (focus_key (place_in p (key_props basis.schema.model region.ty)))
   default_key p key =
-      let is_key : IsKeyProp basis.schema.model p = key_prop basis.schema.model is.sound.model region.ty p key in
+      let is_key : IsKeyProp basis.schema.model p = key_prop basis.schema.model is.sound.model p region.ty key in
       let props : List PropId = key_props basis.schema.model region.ty in
       ap (λ found. option_map_or (declared_value basis region p) found Null) is_key.is_declared
       ∙ cond-true (is_among p props) (fresh is_key.declared.kind 0 (focus_key (place_in p props))) (value_by basis region.ty p is_key.declared (atom_at region.atoms p))
       ((Decides-among props p).1 key)
-      ∙ sym (fresh_is basis.schema.model p is_key.declared is_key.is_declared (focus_key (place_in p props)))
+      ∙ sym (fresh_is basis.schema.model p is_key.declared is_key.is_declared 0 (focus_key (place_in p props)))
 
   module _ (host : Host) (assoc : Assoc) (here : At basis.schema.model.assocs host.assoc.index assoc) where
     end_is : (first_hosts : Bool) → end_at (not first_hosts) assoc ≡ partner_end first_hosts assoc
@@ -189,19 +189,19 @@ module _ (basis : Basis) (is : IsBasis basis) (limits : IsWithinLimits basis.sch
 
     -- a partner's key
     default_partner : (p : PropId) → default_part basis host.assoc (not host.first_hosts) p
-        ≡ fresh_at basis.schema.model p (partner_key host.assoc.index (place_in p (key_props basis.schema.model (partner_end host.first_hosts assoc).ty)))
+        ≡ fresh_at basis.schema.model 0 p (partner_key host.assoc.index (place_in p (key_props basis.schema.model (partner_end host.first_hosts assoc).ty)))
     default_partner p =
         ap (λ found. option_map_or (λ (one : Assoc).
-        fresh_at basis.schema.model p (partner_key host.assoc.index (place_in p (key_props basis.schema.model (end_at (not host.first_hosts) one).ty)))) found Null) here
-        ∙ ap (λ end. fresh_at basis.schema.model p (partner_key host.assoc.index (place_in p (key_props basis.schema.model end.ty)))) (end_is host.first_hosts)
+        fresh_at basis.schema.model 0 p (partner_key host.assoc.index (place_in p (key_props basis.schema.model (end_at (not host.first_hosts) one).ty)))) found Null) here
+        ∙ ap (λ end. fresh_at basis.schema.model 0 p (partner_key host.assoc.index (place_in p (key_props basis.schema.model end.ty)))) (end_is host.first_hosts)
 
     default_parts : HasAllowedParts basis.schema.model (partner_end host.first_hosts assoc) (default_part basis host.assoc (not host.first_hosts))
     default_parts p declared key is_declared =
         let t = (partner_end host.first_hosts assoc).ty in
         let index : ℕ = partner_key host.assoc.index (place_in p (key_props basis.schema.model t)) in
         let P : Value → Type 0 = λ v. InDomain v declared.kind in
-        subst P (sym (default_partner p ∙ fresh_is basis.schema.model p declared is_declared index))
-        (fresh_fits declared.kind (key_is basis is t p key declared is_declared) (sound_kind basis.schema is.sound p declared is_declared) 0 index (omega arith)
+        subst P (sym (default_partner p ∙ fresh_is basis.schema.model p declared is_declared 0 index))
+        (fresh_fits declared.kind (key_kind basis.schema.model is.sound.model t p key declared is_declared) (sound_kind basis.schema.model is.sound.model p declared is_declared) 0 index (omega arith)
         (partner_index basis.schema.model is.sound.model limits.model host.assoc assoc here t p key))
 
   -- all of it
@@ -217,5 +217,5 @@ module _ (basis : Basis) (is : IsBasis basis) (limits : IsWithinLimits basis.sch
     keys = default_key;
     partners = λ host assoc is_host linked here p key. default_partner host assoc here p;
     dependent = λ p among by there.
-        (let above = declared_above basis.schema.model is.sound.model region.ty p among in (default_good p above.0 above.1 among).dependent by there);
+        (let above = declared_above basis.schema.model is.sound.model p region.ty among in (default_good p above.0 above.1 among).dependent by there);
   }

@@ -19,11 +19,11 @@ use Rattle.schema_laws.specs.short_values.Places.{place_in}
 pub record IsAdmissible (basis : Basis) (region : Region) (valuation : Valuation) : Type 0 where
   pub allowed : IsAllowed basis region valuation
   pub keys : (p : PropId) → Contains (key_props basis.schema.model region.ty) p
-      → valuation.prop p ≡ fresh_at basis.schema.model p (focus_key (place_in p (key_props basis.schema.model region.ty)))
+      → valuation.prop p ≡ fresh_at basis.schema.model 0 p (focus_key (place_in p (key_props basis.schema.model region.ty)))
   pub partners : (host : Host) (assoc : Assoc) → Contains (basis.hosts region.set) host → Contains region.linked host.assoc
       → At basis.schema.model.assocs host.assoc.index assoc → (p : PropId) → Contains (key_props basis.schema.model (partner_end host.first_hosts assoc).ty) p
       → valuation.part host.assoc (not host.first_hosts) p
-      ≡ fresh_at basis.schema.model p (partner_key host.assoc.index (place_in p (key_props basis.schema.model (partner_end host.first_hosts assoc).ty)))
+      ≡ fresh_at basis.schema.model 0 p (partner_key host.assoc.index (place_in p (key_props basis.schema.model (partner_end host.first_hosts assoc).ty)))
   pub dependent : (p : PropId) → Contains (props_of basis.schema.model region.ty) p → IsDependent basis.schema.model p → valuation.prop p ≢ Null → IsShort (valuation.prop p)
 
 -- an entity of the region may have this value of a property that is no part of its key, whatever its other values are

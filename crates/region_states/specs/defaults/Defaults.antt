@@ -1,9 +1,8 @@
 -- The values that an entity of a region has where nothing else is said, and values that are changed.
 -- Source: this project's choice of the values in the states that it shows.
-use Rattle.std.specs.Prelude.{◌==◌, ℕ, suc, List, [], ◌∷◌, slice_get, unwrap_or, Option, Some, None, Bool, false, if◌then◌else◌}
-use Rattle.std.specs.List.{list_any}
+use Rattle.std.specs.Prelude.{◌==◌, slice_get, unwrap_or, Option, Some, None, Bool, if◌then◌else◌}
 use Rattle.std.specs.Option.{option_map_or}
-use Rattle.round_trip.specs.Words.{PropId, TypeId, AssocId, Value, Null, EntityModel, Prop, key_props, props_of}
+use Rattle.round_trip.specs.Words.{PropId, TypeId, AssocId, Value, Null, Prop, key_props, props_of}
 use Rattle.round_trip.specs.soundness.mappings.Joined.{prop}
 use Rattle.condition_logic.specs.declared.atoms.Atom.{Atom}
 use Rattle.condition_logic.specs.declared.atoms.Atom.TheVariants as atom
@@ -13,7 +12,8 @@ use Rattle.regions.specs.Basis.{Basis}
 use Rattle.regions.specs.Patterns.{Valuation}
 use Rattle.regions.specs.region_laws.pattern.Allowed.{end_at}
 use Rattle.region_states.specs.defaults.Candidates.{first_free, next_free}
-use Rattle.schema_laws.specs.short_values.Fresh.{dependent_value, focus_key, fresh, lost_value, partner_key}
+use Rattle.schema_laws.specs.short_values.Fresh.{dependent_value, focus_key, fresh, fresh_at, lost_value, partner_key}
+use Rattle.schema_laws.specs.short_values.Places.{is_among, is_dependent, place_in}
 
 -- a value that isn't null and no constant: of a dependent property by its place, else the first free one
 abbrev pub some_value : Basis → TypeId → PropId → Prop → Value
@@ -49,7 +49,7 @@ default_value basis region p = option_map_or (declared_value basis region p) (sl
 -- a part of the key of the partner by an association, at its first end or at its second
 abbrev pub default_part : Basis → AssocId → Bool → PropId → Value
 default_part basis a first p = option_map_or
-    (λ assoc. fresh_at basis.schema.model p (partner_key a.index (place_in p (key_props basis.schema.model (end_at first assoc).ty))))
+    (λ assoc. fresh_at basis.schema.model 0 p (partner_key a.index (place_in p (key_props basis.schema.model (end_at first assoc).ty))))
     (slice_get basis.schema.model.assocs a.index) Null
 
 -- these values
