@@ -70,7 +70,7 @@ module _ (basis : Basis) (state : State) (s : SetId) (entity : Entity) where
 
     -- the parts are those of the partner of each link that the entity hosts, where it hosts few
     tells_partner : HasFewLinks basis state s entity → (link : Link) → Contains links link → TellsPartner basis host link told_part
-    tells_partner few link has assoc here p = by links refl
+    tells_partner few link has assoc here p among = by links refl
       where
         of_link : (first_hosts : Bool) → (by_link basis.schema.model assoc link).part host.assoc (if first_hosts then false else true) p
             ≡ value_beside p (key_props basis.schema.model (partner_end first_hosts assoc).ty) (partner_key first_hosts link)
