@@ -1,7 +1,7 @@
 -- What a state demands of an entity's row is listed by the pattern of its region, where each link that it hosts is flagged.
 use Rattle.std.proofs.Common.{◌≡◌, inl, inr, ◌==◌, ◌&&◌, List, [], append-nil, map, filter, flat_map, if◌then◌else◌, All, Contains, Bool, true, false, IsTrue, refl, sym, ap, subst, ◌∙◌}
 use Rattle.std.proofs.lemmas.Bool.Decides.{Decides-eqb}
-use Rattle.std.proofs.lemmas.List.Elements.{All-contains, Contains-append_left, Contains-append_right}
+use Rattle.std.proofs.lemmas.List.Elements.{Contains-append_left, Contains-append_right}
 use Rattle.emc_base.proofs.Lists.{all_from_members}
 use Rattle.emc_base.proofs.Mapped.{contains_filter, contains_map}
 use Rattle.round_trip.specs.Words.{SetId, TypeId, TableId, ColId, AssocId, PropId, Value, Assoc, DemandsCell, Entity, Fragment, Hosted, IsLegal, Link, LinkFragment, Pair, State, Writing, At, IsA, key_of, key_props, links_in, value_beside, value_of}
