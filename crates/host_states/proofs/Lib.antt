@@ -6,3 +6,4 @@ pub mod Alike
 pub mod Agreeing
 pub mod Rivals
 pub mod Leaves
+pub mod FewPartners
