@@ -1,4 +1,4 @@
--- Where no association set is declared, conflicts are exact: kind by kind, by the laws of each.
+-- Conflicts are exact: kind by kind, by the laws of each.
 use Rattle.std.proofs.Common.{◌↔◌, arith}
 use Rattle.round_trip.specs.Words.{SetId}
 use Rattle.round_trip.specs.declared.FailKind.{FailKind}
@@ -6,15 +6,14 @@ use Rattle.round_trip.specs.declared.FailKind.TheVariants as variant
 use Rattle.cells.specs.Limits.{IsWithinLimits}
 use Rattle.regions.specs.Basis.{Basis}
 use Rattle.regions.specs.region_laws.IsBasis.{IsBasis}
-use Rattle.regions.specs.region_laws.Partners.{HasFewPartners}
 use Rattle.region_states.specs.declared.conflicts.conflict.Conflict.{Conflict}
 use Rattle.region_states.specs.declared.conflicts.conflict.Conflict.TheVariants as conflict
 use Rattle.region_states.specs.conflicts.Conflicts.{IsConflictAt}
 use Rattle.region_states.specs.conflicts.There.{FailsThere, NoneFailsBefore, NoneFailsBy}
 use Rattle.region_states.specs.Hosting.{HostsFocuses}
-use Rattle.region_states.specs.LoneStates.{HasNoAssociationSets, empty_state, lone_focus}
-use Rattle.region_states.proofs.lone.Alike.{lone_hosts, lone_leaves, lone_rivals}
-use Rattle.region_states.proofs.lone.Legal.{no_host}
+use Rattle.host_states.specs.FocusStates.{focus_state, leaving_states, rival_states}
+use Rattle.host_states.proofs.FewPartners.{few_by_clear}
+use Rattle.host_states.proofs.Hosts.{states_host, states_leave, states_rival}
 use Rattle.conflict_laws.proofs.clash.Fails.{fails_there}
 use Rattle.conflict_laws.proofs.clash.Told.{clash_told}
 use Rattle.conflict_laws.proofs.null.Failing.{null_there}
@@ -25,26 +24,20 @@ use Rattle.conflict_laws.specs.same.States.{HasStates}
 use Rattle.conflict_laws.proofs.same.There.{same_there}
 use Rattle.conflict_laws.proofs.same.ToldThere.{same_told}
 
-module _ (basis : Basis) (is : IsBasis basis) (limits : IsWithinLimits basis.schema) (none : HasNoAssociationSets basis.schema.model) where
-  -- nothing is hosted, so partners are few
-  few : (s : SetId) → HasFewPartners basis s
-  few s = λ host has assoc here. absurd (no_host basis is none s host has)
-
-  -- the states of one entity
-  hosts : HostsFocuses basis 0 (lone_focus basis)
-  hosts = lone_hosts basis is none 0
+module _ (basis : Basis) (is : IsBasis basis) (limits : IsWithinLimits basis.schema) where
+  -- each region has a state with an entity of it
+  hosts : HostsFocuses basis 0 (focus_state basis 0)
+  hosts = states_host basis is limits 0 (omega (arith))
 
   -- no legal state clashes, so there are the states that the laws on same tables ask for
-  states : NoneFailsBy basis.schema variant.Clash
-      → HasStates basis (lone_focus basis) (λ one values two others. (lone_focus basis one values, lone_focus basis two others))
-      (λ region values. (lone_focus basis region values, empty_state basis.schema.model))
+  states : NoneFailsBy basis.schema variant.Clash → HasStates basis (focus_state basis 0) (rival_states basis 0) (leaving_states basis 0)
   states clear = record {
     is_basis = is;
     limits = limits;
     hosts = hosts;
-    rival = lone_rivals basis is none 0;
-    leaves = lone_leaves basis is none 0;
-    few = few;
+    rival = states_rival basis is limits 0 (omega (arith));
+    leaves = states_leave basis is limits 0 (omega (arith));
+    few = few_by_clear basis is limits clear;
     no_clash = clear;
   }
 
@@ -61,12 +54,13 @@ module _ (basis : Basis) (is : IsBasis basis) (limits : IsWithinLimits basis.sch
   pub exact : (kind : FailKind) → NoneFailsBefore basis.schema kind → (s : SetId)
       → ((found : Conflict) × IsConflictAt basis s kind found) ↔ FailsThere basis s kind
   exact variant.Clash before s =
-      (λ found. fails_there basis is limits (lone_focus basis) hosts s found.0 found.1, clash_told basis is limits s)
+      (λ found. fails_there basis is limits (focus_state basis 0) hosts s found.0 found.1, clash_told basis is limits s)
   exact variant.Null before s =
-      (λ found. null_there basis is limits (lone_focus basis) hosts (before variant.Clash (omega (arith))) s found.0 found.1, null_told basis is s (few s))
+      (λ found. null_there basis is limits (focus_state basis 0) hosts (before variant.Clash (omega (arith))) s found.0 found.1,
+      null_told basis is s (few_by_clear basis is limits (before variant.Clash (omega (arith))) s))
   exact variant.Disagrees before s =
       let clear = before variant.Clash (omega (arith)) in
-      (λ found. there basis is limits (lone_focus basis) hosts clear s found.0 found.1, told basis is limits (lone_focus basis) hosts clear s (few s))
+      (λ found. there basis is limits (focus_state basis 0) hosts clear s found.0 found.1, told basis is limits (focus_state basis 0) hosts clear s (few_by_clear basis is limits clear s))
   exact variant.Dangling before s = (λ found. absurd (never_dangling found.0 s found.1), λ fails. absurd fails.fails)
   exact variant.Same before s =
       let all = states (before variant.Clash (omega (arith))) in

@@ -7,3 +7,4 @@ pub mod Agreeing
 pub mod Rivals
 pub mod Leaves
 pub mod FewPartners
+pub mod Hosts

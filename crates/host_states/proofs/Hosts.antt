@@ -1,0 +1,40 @@
+-- For each region legal states that hold an entity of it.
+use Rattle.std.proofs.Common.{◌≤◌, ℕ, List}
+use Rattle.cells.specs.Limits.{IsWithinLimits}
+use Rattle.regions.specs.declared.region.Region.{Region}
+use Rattle.regions.specs.Basis.{Basis}
+use Rattle.regions.specs.region_laws.IsBasis.{IsBasis}
+use Rattle.region_states.specs.Hosting.{HostsFocuses, HostsRivals, LeavesOut}
+use Rattle.population.specs.Principals.{PlacedKey}
+use Rattle.host_states.specs.FocusStates.{focus_state, given_by, leaving_states, linked_hosts, rival_states, wanted_by}
+use Rattle.host_states.proofs.Focus.{HasRegion}
+use Rattle.host_states.proofs.FocusHeld.{holds_focus}
+use Rattle.host_states.proofs.HostEnds.{is_linked_host}
+use Rattle.host_states.proofs.Leaves.{focus_leaves}
+use Rattle.host_states.proofs.Rivals.{focus_made, focus_wants_short, rivals_hold}
+
+module _ (basis : Basis) (is : IsBasis basis) (limits : IsWithinLimits basis.schema) (outer : ℕ) (row : outer ≤ 4) where
+  pub states_host : HostsFocuses basis outer (focus_state basis outer)
+  states_host = record {
+    holds = λ s region listed values admissible. (
+        let of : HasRegion basis outer s region = record { is = is; limits = limits; row = row; listed = listed } in
+        let wanted : List PlacedKey = wanted_by basis outer (given_by basis outer (linked_hosts basis region) region values) in
+        holds_focus basis outer s region values (linked_hosts basis region) wanted
+        (focus_made basis outer s region of values admissible wanted (focus_wants_short basis outer s region of values admissible) (λ to has. has))
+        (is_linked_host basis is s region listed));
+  }
+
+  pub states_rival : HostsRivals basis outer (rival_states basis outer)
+  states_rival = record {
+    hold = λ few s one two listed also_listed linked values others admissible also parts keys. (
+        let of : HasRegion basis outer s one = record { is = is; limits = limits; row = row; listed = listed } in
+        let of_two : HasRegion basis outer s two = record { is = is; limits = limits; row = row; listed = also_listed } in
+        rivals_hold basis outer s one two of of_two linked values others admissible also parts keys few);
+  }
+
+  pub states_leave : LeavesOut basis outer (leaving_states basis outer)
+  states_leave = record {
+    leave = λ few s region listed single values admissible. (
+        let of : HasRegion basis outer s region = record { is = is; limits = limits; row = row; listed = listed } in
+        focus_leaves basis outer s region of values admissible single few);
+  }
