@@ -63,10 +63,10 @@ pub fn a_met_case_tells_an_entity()
         → IsReadBack basis is_free s region tables key entity links }
 {}
 
-/// Where no association set is declared, no limit is passed and no legal state fails, each region of a set can be read, and the rows at a key meet the case of one
-/// region alone: at the key of an entity of a legal state that of the region that holds it.
+/// Where no limit is passed and no legal state fails, each region of a set can be read; where besides no association set is declared, the rows at a key meet
+/// the case of one region alone: at the key of an entity of a legal state that of the region that holds it.
 pub fn no_other_case_is_met()
-    ensures readable { (basis : Basis) → IsBasis basis → IsWithinLimits basis.schema → HasNoAssociationSets basis.schema.model → RoundTrips basis.schema
+    ensures readable { (basis : Basis) → IsBasis basis → IsWithinLimits basis.schema → RoundTrips basis.schema
         → (s : SetId) (region : Region) → Contains (regions_of basis s) region → IsReadable basis s region }
     ensures one { (basis : Basis) → IsBasis basis → IsWithinLimits basis.schema → HasNoAssociationSets basis.schema.model → RoundTrips basis.schema
         → (is_free : TableId → ColId → Bool) → DecidesFree basis.schema is_free → (tables : Tables) → HaveOneRowPerKey basis.schema.store tables

@@ -3,7 +3,6 @@ ghost use Rattle.cells.specs.Parts.{AreParts, schema_in};
 ghost use Rattle.round_trip.specs.declared.FailKind.TheVariants as fails;
 ghost use Rattle.regions.specs.Regions.{regions_of};
 ghost use Rattle.region_states.specs.region_basis.BasisOf.{basis_of};
-ghost use Rattle.region_states.specs.LoneStates.{HasNoAssociationSets};
 ghost use Rattle.region_states.specs.conflicts.Conflicts.{IsConflictAt};
 ghost use Rattle.region_states.specs.conflicts.There.{FailsThere, NoneFailsBefore};
 ghost use Rattle.region_states.specs.declared.conflicts.conflict.Conflict.{Conflict};
@@ -21,10 +20,9 @@ use round_trip::FailKind;
 use std::alloc::Global;
 use symbolic_rows::region_pattern;
 
-/// A conflict of this kind at the regions of a set, which are to be all of them, in their order; `None` exactly where there is none. Where no association
-/// set is declared and no legal state fails by a kind that is told before this one, that is exactly where no legal state fails by it at the set. Keys that
-/// dangle aren't told set by set, so that kind isn't asked for. Which conflict it is, where there are several, no clause says. `Memory` comes where memory
-/// ran out.
+/// A conflict of this kind at the regions of a set, which are to be all of them, in their order; `None` exactly where there is none. Where no legal state
+/// fails by a kind that is told before this one, that is exactly where no legal state fails by it at the set. Keys that dangle aren't told set by set, so
+/// that kind isn't asked for. Which conflict it is, where there are several, no clause says. `Memory` comes where memory ran out.
 pub fn first_conflict(
     alloc: Global,
     parts: &Parts<'_>,
@@ -37,7 +35,7 @@ pub fn first_conflict(
     requires regions { regions.now ≡ regions_of (basis_of parts.now) set }
     ensures told { IfOk result (λ found. (conflict : Conflict) → found ≡ Some conflict → IsConflictAt (basis_of parts.now) set kind conflict) }
     ensures free { IfOk result (λ found. found ≡ None → (conflict : Conflict) → ¬ IsConflictAt (basis_of parts.now) set kind conflict) }
-    ensures exact { HasNoAssociationSets (schema_in parts.now).model → NoneFailsBefore (schema_in parts.now) kind
+    ensures exact { NoneFailsBefore (schema_in parts.now) kind
         → IfOk result (λ found. IsSome found ↔ FailsThere (basis_of parts.now) set kind) }
 {
     conflict_of(alloc, parts, kind, set, regions)

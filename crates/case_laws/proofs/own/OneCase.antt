@@ -116,10 +116,10 @@ module _ (basis : Basis) (is : IsBasis basis) (limits : IsWithinLimits basis.sch
     (is_free : TableId → ColId → Bool) (decides : DecidesFree basis.schema is_free) (s : SetId) (tables : Tables) (key : List Value) where
   -- a region whose case the rows meet can be read
   pub reading : (region : Region) (listed : Contains (regions_of basis s) region) → IsMet basis is_free s region tables key
-      → AreAlone is_free basis is decides s region listed (readable basis is limits none round s region listed).clear tables key
+      → AreAlone is_free basis is decides s region listed (readable basis is limits round s region listed).clear tables key
       → IsReading is_free basis is decides s tables key region
   reading region listed met are_alone =
-      let can : IsReadable basis s region = readable basis is limits none round s region listed in
+      let can : IsReadable basis s region = readable basis is limits round s region listed in
       let found = some_told is_free basis is decides s region can tables key met are_alone in
       record { can = can; met = met; are_alone = are_alone; entity = found.0; links = found.1; told = found.2 }
 
@@ -128,6 +128,6 @@ module _ (basis : Basis) (is : IsBasis basis) (limits : IsWithinLimits basis.sch
     where
       by : (b : Bool) → same_region one two ≡ b → one ≡ two
       by true told = told_same one two (set_is basis s one of_one.can.listed ∙ sym (set_is basis s two of_two.can.listed)) told
-      by false apart = absurd (no_rivals basis is limits none round s one two of_one.can.listed of_two.can.listed
+      by false apart = absurd (no_rivals basis is limits round s one two of_one.can.listed of_two.can.listed
           (rivals is_free basis is decides s tables key one two of_one of_two
-          (no_flag basis is limits none round s one of_one.can.listed ∙ sym (no_flag basis is limits none round s two of_two.can.listed)) apart))
+          (no_flag basis is none s one of_one.can.listed ∙ sym (no_flag basis is none s two of_two.can.listed)) apart))

@@ -34,10 +34,10 @@ module _ (basis : Basis) (is : IsBasis basis) (limits : IsWithinLimits basis.sch
     (tables : Tables) (has : HasStateTables basis.schema state tables) (s : SetId) where
   module _ (entity : Entity) (links : List Hosted) (region : Region) (held : IsHeldWith basis state s entity links region) where
     abbrev can : IsReadable basis s region
-    can = readable basis is limits none round s region held.listed
+    can = readable basis is limits round s region held.listed
 
     pub meets_own : MeetsCase basis tables (key_of basis.schema.model entity) (case_of is_free basis region)
-    meets_own = meets is_free basis is decides state legal tables has s (few basis is limits none round s) entity links region held can.clear
+    meets_own = meets is_free basis is decides state legal tables has s (few basis is limits round s) entity links region held can.clear
 
     -- its key has the parts of the set's
     key_whole : length (key_of basis.schema.model entity) ≡ length (set_key basis.schema.model s)
@@ -51,7 +51,7 @@ module _ (basis : Basis) (is : IsBasis basis) (limits : IsWithinLimits basis.sch
         → IsReading is_free basis is decides s tables (key_of basis.schema.model entity) other
     reading_of other listed met = reading basis is limits none round is_free decides s tables (key_of basis.schema.model entity) other listed
         (record { meets = met; whole = key_whole })
-        (alone_in_tables is_free basis is decides state tables has s other listed (readable basis is limits none round s other listed).clear (key_of basis.schema.model entity))
+        (alone_in_tables is_free basis is decides state tables has s other listed (readable basis is limits round s other listed).clear (key_of basis.schema.model entity))
 
     pub own_case : (other : Region) → Contains (regions_of basis s) other → MeetsCase basis tables (key_of basis.schema.model entity) (case_of is_free basis other)
         → other ≡ region
@@ -66,8 +66,8 @@ module _ (basis : Basis) (is : IsBasis basis) (limits : IsWithinLimits basis.sch
         let Told : Region → Type 0 = λ one. AreTold basis is_free s one tables (key_of basis.schema.model entity) it told_links in
         let here : Told region = subst Told (own_case other listed met) told in
         let own : AreTold basis is_free s region tables (key_of basis.schema.model entity) entity links = record {
-          entity_told = entity_told is_free basis is decides state legal tables has s (few basis is limits none round s) entity links region held can.clear;
-          links_told = links_told is_free basis is decides state legal tables has s (few basis is limits none round s) entity links region held can.clear;
+          entity_told = entity_told is_free basis is decides state legal tables has s (few basis is limits round s) entity links region held can.clear;
+          links_told = links_told is_free basis is decides state legal tables has s (few basis is limits round s) entity links region held can.clear;
         } in
         let is_met : IsMet basis is_free s region tables (key_of basis.schema.model entity) = record { meets = meets_own; whole = key_whole } in (
           one_entity is_free basis is decides s region can tables (key_of basis.schema.model entity) is_met it entity told_links links here own,

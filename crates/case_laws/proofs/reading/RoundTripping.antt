@@ -1,5 +1,5 @@
--- Where no association set is declared and no legal state fails, each region can be read, and no two are rivals.
-use Rattle.std.proofs.Common.{◌≡◌, List, [], ◌∷◌, Bool, true, false, Contains, IsTrue, refl, sym, subst}
+-- Where no legal state fails, each region can be read, no two are rivals, and partners are few.
+use Rattle.std.proofs.Common.{◌≡◌, List, [], ◌∷◌, Bool, true, false, Contains, IsTrue, refl, sym, subst, arith}
 use Rattle.round_trip.specs.Words.{SetId, AssocId, RoundTrips}
 use Rattle.round_trip.specs.declared.FailKind.TheVariants as kind
 use Rattle.cells.specs.Limits.{IsWithinLimits}
@@ -15,23 +15,24 @@ use Rattle.region_states.specs.conflicts.SameFacts.{are_rivals, is_absent, is_lo
 use Rattle.region_states.specs.conflicts.There.{FailsThere}
 use Rattle.region_states.specs.declared.conflicts.conflict.Conflict.{Conflict}
 use Rattle.region_states.specs.declared.conflicts.conflict.Conflict.TheVariants as conflict
-use Rattle.region_states.specs.LoneStates.{HasNoAssociationSets, lone_focus}
-use Rattle.region_states.proofs.lone.Alike.{lone_hosts}
+use Rattle.region_states.specs.LoneStates.{HasNoAssociationSets}
 use Rattle.region_states.proofs.lone.Legal.{no_host}
+use Rattle.host_states.specs.FocusStates.{focus_state}
+use Rattle.host_states.proofs.FewPartners.{few_by_clear}
+use Rattle.host_states.proofs.Hosts.{states_host}
 use Rattle.conflict_laws.proofs.clash.Clear.{row_clear}
 use Rattle.conflict_laws.proofs.Exact.{exact}
 use Rattle.case_laws.specs.Told.{IsReadable}
 
-module _ (basis : Basis) (is : IsBasis basis) (limits : IsWithinLimits basis.schema) (none : HasNoAssociationSets basis.schema.model) (round : RoundTrips basis.schema)
-    (s : SetId) where
+module _ (basis : Basis) (is : IsBasis basis) (limits : IsWithinLimits basis.schema) (round : RoundTrips basis.schema) (s : SetId) where
   -- there is no conflict by which states have the same tables
   never_same : (it : Conflict) → ¬ IsConflictAt basis s kind.Same it
   never_same it at =
-      let fails : FailsThere basis s kind.Same = (exact basis is limits none kind.Same (λ earlier less place c d. round earlier place c d) s).0 (it, at) in
+      let fails : FailsThere basis s kind.Same = (exact basis is limits kind.Same (λ earlier less place c d. round earlier place c d) s).0 (it, at) in
       round kind.Same fails.place fails.c fails.d (record { legal = fails.legal; fails = fails.fails.0 })
 
   pub few : HasFewPartners basis s
-  few host hosts assoc here = absurd (no_host basis is none s host hosts)
+  few = few_by_clear basis is limits (round kind.Clash) s
 
   -- what isn't so is computed to be false
   false_if : (b : Bool) → ¬ IsTrue b → b ≡ false
@@ -41,7 +42,7 @@ module _ (basis : Basis) (is : IsBasis basis) (limits : IsWithinLimits basis.sch
   pub readable : (region : Region) → Contains (regions_of basis s) region → IsReadable basis s region
   readable region listed = record {
     listed = listed;
-    clear = λ row has. row_clear basis is limits (lone_focus basis) (lone_hosts basis is none 0) (λ place c d. round kind.Clash place c d) s region listed row has;
+    clear = λ row has. row_clear basis is limits (focus_state basis 0) (states_host basis is limits 0 (omega (arith))) (round kind.Clash) s region listed row has;
     present = false_if (is_absent basis region) (λ absent. never_same (conflict.Absent region) (record { of_kind = refl; of_set = listed; holds = absent }));
     kept = λ p. false_if (is_lost basis region p) (λ lost. never_same (conflict.Lost region p) (record { of_kind = refl; of_set = listed; holds = lost }));
   }
@@ -49,7 +50,8 @@ module _ (basis : Basis) (is : IsBasis basis) (limits : IsWithinLimits basis.sch
   pub no_rivals : (one two : Region) → Contains (regions_of basis s) one → Contains (regions_of basis s) two → ¬ IsTrue (are_rivals basis one two)
   no_rivals one two has_one has_two rivals = never_same (conflict.Rival one two) (record { of_kind = refl; of_set = (has_one, has_two); holds = rivals })
 
-  -- no region has a flag
+-- without association sets no region has a flag
+module _ (basis : Basis) (is : IsBasis basis) (none : HasNoAssociationSets basis.schema.model) (s : SetId) where
   pub no_flag : (region : Region) → Contains (regions_of basis s) region → region.linked ≡ []
   no_flag region listed = by region.linked refl
     where

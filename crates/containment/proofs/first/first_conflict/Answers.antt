@@ -6,7 +6,7 @@ use Rattle.containment.proofs.Exact.{found_exactly}
 use Rattle.containment.proofs.first.first_conflict.Goals as goal
 
 pub returns-clause-exact : goal.returns-clause-exact
-returns-clause-exact c none before =
+returns-clause-exact c before =
     let parts = c.args.parts.now in
     found_exactly (basis_of parts) c.args.set c.args.kind c.conflict_of.result c.conflict_of.ensures.told c.conflict_of.ensures.free
-    (exact (basis_of parts) (basis_is parts c.requires.parts) c.requires.parts.limits none c.args.kind before c.args.set)
+    (exact (basis_of parts) (basis_is parts c.requires.parts) c.requires.parts.limits c.args.kind before c.args.set)
