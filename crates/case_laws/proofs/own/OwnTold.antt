@@ -114,7 +114,7 @@ module _ (is_free : TableId → ColId → Bool) (basis : Basis) (is : IsBasis ba
         let value : _ ≡ value_beside p keys (partner_key host.first_hosts link) =
         symbol_value is_free basis is decides state legal tables has s few entity links region held clear one _ shown
         ∙ ap (λ b. part is_free basis is decides state legal tables has s few entity links region held clear host.assoc b p) (not_is host.first_hosts)
-        ∙ told.2 by.assoc by.is_assoc p ∙ ap (λ one_link. value_beside p keys (partner_key host.first_hosts one_link)) (sym same) in
+        ∙ told.2 by.assoc by.is_assoc p part_of ∙ ap (λ one_link. value_beside p keys (partner_key host.first_hosts one_link)) (sym same) in
         shows_part is_free basis is decides s region held.listed clear tables the_key host.assoc (not host.first_hosts) p
         (value_beside p keys (partner_key host.first_hosts link)) (subst P value shown)
 
