@@ -1,17 +1,18 @@
 -- An accepted mapping meets what storing a legal state asks.
-use Rattle.std.proofs.Common.{◌<◌, ℕ, [], subst, arith}
-use Rattle.std.proofs.lemmas.Option.{slice_get_within}
-use Rattle.round_trip.specs.Words.{Assoc, At, IsLegal, Schema, SetId, State}
+use Rattle.round_trip.specs.Words.{IsLegal, Schema, SetId, State}
 use Rattle.round_trip.specs.TablesAre.{HasNoClash}
-use Rattle.regions.specs.Basis.{Basis}
+use Rattle.round_trip.specs.declared.FailKind.TheVariants as kind
+use Rattle.cells.specs.Parts.{AreParts, schema_in}
+use Rattle.cells.specs.declared.parts.Parts.{Parts}
 use Rattle.regions.specs.region_laws.Partners.{HasFewPartners}
-use Rattle.region_states.specs.LoneStates.{HasNoAssociationSets}
+use Rattle.region_states.specs.region_basis.BasisOf.{basis_of}
+use Rattle.region_states.proofs.region_basis.Bases.{basis_is}
+use Rattle.host_states.proofs.FewPartners.{few_by_clear}
 use Rattle.mapping_core.specs.Accepted.{IsAccepted}
 
--- without association sets no entity has partners
-pub few_partners : (basis : Basis) → HasNoAssociationSets basis.schema.model → (s : SetId) → HasFewPartners basis s
-few_partners basis none s host has assoc at =
-    let within : host.assoc.index < 0 = slice_get_within [] host.assoc.index assoc (subst (λ assocs. At assocs host.assoc.index assoc) none at) in absurd (omega arith)
+-- partners are few
+pub few_partners : (parts : Parts) → AreParts parts → IsAccepted (schema_in parts) → (s : SetId) → HasFewPartners (basis_of parts) s
+few_partners parts are accepted = few_by_clear (basis_of parts) (basis_is parts are) are.limits (accepted.round_trips kind.Clash)
 
 -- each legal state has tables, and so no clash
 pub clear : (schema : Schema) → IsAccepted schema → (state : State) → IsLegal schema.model state → HasNoClash schema state

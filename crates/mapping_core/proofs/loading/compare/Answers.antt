@@ -12,7 +12,7 @@ use Rattle.mapping_core.proofs.Telling.{cells_decide}
 use Rattle.mapping_core.proofs.loading.compare.Goals as goal
 
 pub tables_of-requires-clause-few : goal.tables_of-requires-clause-few
-tables_of-requires-clause-few c = few_partners (basis_of c.args.made.now.parts) c.requires.made.read.read.form.alone
+tables_of-requires-clause-few c = few_partners c.args.made.now.parts c.requires.made.parts c.requires.made.accepted
 
 pub tables_of-requires-clause-clear : goal.tables_of-requires-clause-clear
 tables_of-requires-clause-clear c = clear (schema_in c.args.made.now.parts) c.requires.made.accepted c.args.state.now c.requires.legal

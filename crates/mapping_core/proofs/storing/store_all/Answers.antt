@@ -3,16 +3,14 @@ use Rattle.round_trip.specs.Words.{Breach, IsLegal, Schema}
 use Rattle.round_trip.specs.TablesAre.{HasNoClash}
 use Rattle.state_legality.specs.Tells.{TellsState}
 use Rattle.cells.specs.Parts.{schema_in}
-use Rattle.region_states.specs.region_basis.BasisOf.{basis_of}
-use Rattle.region_states.specs.LoneStates.{HasNoAssociationSets}
+use Rattle.mapping_core.specs.Accepted.{IsAccepted}
 use Rattle.mapping_core.proofs.Stored.{clear, few_partners}
 use Rattle.mapping_core.proofs.storing.store_all.Goals as goal
 
 pub tables_of-requires-clause-few : goal.tables_of-requires-clause-few
 tables_of-requires-clause-few c =
     let parts = c.parts-made.ensures in
-    let Alone : Schema → Type 0 = λ schema. HasNoAssociationSets schema.model in
-    few_partners (basis_of c.parts-made.result.parts) (subst Alone (sym parts.lends) parts.read.read.form.alone)
+    few_partners c.parts-made.result.parts parts.parts (subst IsAccepted (sym parts.lends) parts.accepted)
 
 pub tables_of-requires-clause-clear : goal.tables_of-requires-clause-clear
 tables_of-requires-clause-clear c =

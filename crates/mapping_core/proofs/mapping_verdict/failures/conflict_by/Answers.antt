@@ -25,7 +25,7 @@ loop-index-preserved c =
     let i = c.loop-index.index in
     let Found : Option Conflict → Type 0 = λ found. IsSome found in
     so_of_one_more (λ s. ¬ FailsThere (basis_of c.args.parts.now) s c.args.kind) i c.loop-index.invariant
-    (λ fails. let no : Found None = subst Found c.in_default.is ((c.in_ok-conflict.ensures.exact c.requires.alone c.requires.earlier).1 fails) in absurd cc)
+    (λ fails. let no : Found None = subst Found c.in_default.is ((c.in_ok-conflict.ensures.exact c.requires.earlier).1 fails) in absurd cc)
 
 -- each set has been looked at
 pub returns-clause-none : goal.returns-clause-none
