@@ -6,3 +6,6 @@ pub mod Alike
 pub mod Agreeing
 pub mod Rivals
 pub mod Leaves
+pub mod Clear
+pub mod Refers
+pub mod LedBack
