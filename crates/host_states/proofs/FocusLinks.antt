@@ -63,7 +63,7 @@ module _ (basis : Basis) (outer : ℕ) (s : SetId) (region : Region) (values : V
   abbrev focus_key : List Value
   focus_key = key_of basis.schema.model entity
 
-  given_well : AreGiven basis.schema.model outer given
+  pub given_well : AreGiven basis.schema.model outer given
   given_well = are_given basis outer s region made.of values made.admissible hosts made.each made.order
 
   pub keys_well : AreKeys basis.schema.model outer given keys

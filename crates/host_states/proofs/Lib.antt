@@ -9,3 +9,4 @@ pub mod Leaves
 pub mod Clear
 pub mod Refers
 pub mod LedBack
+pub mod BaseLinks
