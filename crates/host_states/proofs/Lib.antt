@@ -10,3 +10,5 @@ pub mod Clear
 pub mod Refers
 pub mod LedBack
 pub mod BaseLinks
+pub mod BaseValues
+pub mod BaseFor
