@@ -12,3 +12,4 @@ pub mod LedBack
 pub mod BaseLinks
 pub mod BaseValues
 pub mod BaseFor
+pub mod OuterRow

@@ -1,6 +1,8 @@
 //! For each region of a set legal states that hold an entity of it: one, two that differ in this entity alone, one without it, a base to which nothing refers, and small parts of these.
 #![tactic(auto)]
 
+pub mod base_states;
+
 ghost use Rattle.std.specs.Prelude.{◌≤◌, ℕ};
 ghost use Rattle.cells.specs.Limits.{IsWithinLimits};
 ghost use Rattle.regions.specs.Basis.{Basis};
