@@ -1,20 +1,20 @@
 -- The links of an entity of a region by hosted associations with few partners alone: the region holds it with them, and no others name it but those that ends `1` ask of it.
-use Rattle.std.proofs.Common.{◌≡◌, ◌≢◌, ◌⊎◌, ⊎_elim, inl, inr, ℕ, ◌<◌, List, [], ◌++◌, slice_get, Any, Contains, Bool, true, false, true≢false, not, if◌then◌else◌, Option, Some, None, refl, sym, ap, subst, ◌∙◌}
+use Rattle.std.proofs.Common.{◌≡◌, ◌≢◌, ◌⊎◌, ⊎_elim, inl, inr, ℕ, List, [], ◌++◌, Any, Contains, Bool, true, false, true≢false, not, if◌then◌else◌, Option, Some, None, refl, sym, ap, subst, ◌∙◌}
 use Rattle.std.specs.Option.{option_map_or}
 use Rattle.std.proofs.lemmas.List.Elements.{Contains-append_cases}
 use Rattle.emc_base.proofs.FoundItems.{member_of, some_member}
 use Rattle.emc_base.proofs.Lists.{all_from_members}
 use Rattle.emc_base.proofs.Mapped.{contains_at, contains_filter}
 use Rattle.emc_base.proofs.Members.{contains_nil}
-use Rattle.round_trip.specs.Words.{SetId, AssocId, Value, Assoc, Constraint, End, Entity, Hosted, Link, Mult, State, At, IsA, IsIndependent, entities_in, key_of, links_in}
+use Rattle.round_trip.specs.Words.{SetId, AssocId, Value, Assoc, Constraint, End, Entity, Hosted, Link, Mult, State, At, IsA, IsIndependent, key_of, links_in}
 use Rattle.edm_types.specs.declared.model.Mult.TheVariants.{One, ZeroOrOne, Many}
 use Rattle.schema_laws.proofs.sound_demand.Deriving.{decides_types}
 use Rattle.schema_laws.proofs.state_demand.lists.Lists.{same_by_key}
 use Rattle.schema_laws.proofs.state_demand.writings.Decisions.{so_or_not}
 use Rattle.regions.specs.declared.region.Region.{Region}
-use Rattle.regions.specs.Basis.{Basis, Host, IsHostedLink, host_end, host_key, partner_end, partner_key}
+use Rattle.regions.specs.Basis.{Basis, Host, IsHostedLink, partner_end, partner_key}
 use Rattle.regions.specs.Patterns.{Valuation}
-use Rattle.regions.specs.Regions.{Holds, TellsLinks}
+use Rattle.regions.specs.Regions.{TellsLinks}
 use Rattle.regions.specs.Symbols.{is_linked}
 use Rattle.regions.specs.region_laws.IsBasis.{AreHostedLinks, IsHostOf}
 use Rattle.regions.specs.region_laws.RegionAt.{hosted_links}
@@ -150,9 +150,9 @@ module _ (basis : Basis) (outer : ℕ) (s : SetId) (region : Region) (values : V
       typed = refl;
       atoms = atoms_lie basis made.of.is s region made.of.listed values made.admissible.allowed;
       flags = all_from_members (TellsLinks basis region hosted_here) (basis.hosts region.set) (λ host there assoc here few. (
-          flag_there host (subst (λ u. Contains (basis.hosts u) host) (set_is basis s region made.of.listed) there) assoc here few,
-          flag_back host,
-        ));
+        flag_there host (subst (λ u. Contains (basis.hosts u) host) (set_is basis s region made.of.listed) there) assoc here few,
+        flag_back host,
+      ));
     };
   }
 

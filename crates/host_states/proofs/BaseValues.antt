@@ -1,5 +1,5 @@
 -- The values of a region with a stated key: they are admissible, and no other dependent property has a value of the key.
-use Rattle.std.proofs.Common.{◌≡◌, ◌≢◌, ⊎_elim, inl, inr, ℕ, ◌<◌, ◌≤◌, ◌==◌, List, [], map, length, slice_get, All, AllPairs, Contains, Option, Some, None, Bool, true, false, if◌then◌else◌, refl, sym, ap, subst, ◌∙◌}
+use Rattle.std.proofs.Common.{◌≡◌, ◌≢◌, inr, ℕ, ◌<◌, ◌≤◌, List, Contains, Option, Some, None, refl, sym, ap, subst, ◌∙◌}
 use Rattle.std.specs.Option.{option_map_or}
 use Rattle.std.proofs.lemmas.Bool.{cond-true, cond_both}
 use Rattle.std.proofs.lemmas.Bool.Decides.{not_from_Decides}
@@ -7,7 +7,7 @@ use Rattle.std.proofs.lemmas.List.Elements.{All-contains}
 use Rattle.std.proofs.lemmas.Slice.Zip.{AllZip-long}
 use Rattle.emc_base.proofs.Lists.{all_from_members, at_once}
 use Rattle.emc_base.proofs.Members.{contains_nil}
-use Rattle.round_trip.specs.Words.{SetId, PropId, Value, Null, EntityModel, Prop, Entity, Kind, At, InDomain, key_of, key_props, props_of, value_beside, value_of}
+use Rattle.round_trip.specs.Words.{SetId, PropId, Value, Null, Prop, Entity, Kind, At, InDomain, key_of, key_props, props_of, value_beside, value_of}
 use Rattle.round_trip.specs.soundness.mappings.Joined.{IsDependent, prop}
 use Rattle.condition_logic.specs.declared.atoms.Atom.{Atom}
 use Rattle.condition_logic.specs.declared.atoms.Atom.TheVariants as atom

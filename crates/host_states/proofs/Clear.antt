@@ -1,11 +1,11 @@
 -- Keys without a part of a given key, which has no value of the row of numbers: plain entities of such keys ask for such keys alone.
-use Rattle.std.proofs.Common.{◌≡◌, ◌≢◌, ⊎_elim, ℕ, ◌<◌, ◌==◌, List, [], ◌∷◌, map, All, Contains, refl, sym, ap, subst, ◌∙◌, arith}
+use Rattle.std.proofs.Common.{◌≢◌, ⊎_elim, ℕ, ◌<◌, ◌==◌, List, [], ◌∷◌, map, Contains, refl, sym, subst, ◌∙◌, arith}
 use Rattle.std.proofs.lemmas.Bool.{cond_both}
 use Rattle.std.proofs.lemmas.List.Elements.{All-contains}
 use Rattle.emc_base.proofs.Mapped.{contains_map}
 use Rattle.emc_base.proofs.Members.{contains_head, contains_tail}
 use Rattle.emc_base.proofs.Numbered.{map_contains}
-use Rattle.round_trip.specs.Words.{SetId, TypeId, PropId, Value, Null, Kind, EntityModel, EntitySet, Prop, Assoc, Constraint, Entity, At, dependent_end, principal_end, key_props, props_of, value_beside, value_of, values_of}
+use Rattle.round_trip.specs.Words.{SetId, TypeId, PropId, Value, Null, Kind, EntityModel, EntitySet, Prop, Constraint, Entity, At, dependent_end, principal_end, key_props, props_of, value_beside, value_of, values_of}
 use Rattle.round_trip.specs.soundness.Lookups.{set_key}
 use Rattle.round_trip.specs.soundness.models.Constraints.{HasMatchedLists}
 use Rattle.round_trip.specs.soundness.models.Inheritance.{IsKeyProp}

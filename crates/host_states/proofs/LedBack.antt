@@ -1,9 +1,9 @@
 -- Where the principals that an entity asks for lead back to its key, something refers to it.
-use Rattle.std.proofs.Common.{◌≡◌, ◌⊎◌, ⊎_elim, inl, inr, ℕ, ◌<◌, List, flat_map, Contains, refl, sym, ap, subst, ◌∙◌, arith}
+use Rattle.std.proofs.Common.{◌≡◌, ◌⊎◌, ⊎_elim, inl, inr, ℕ, ◌<◌, List, flat_map, Contains, refl, sym, ap, subst, ◌∙◌}
 use Rattle.std.proofs.lemmas.List.{length-map}
 use Rattle.emc_base.proofs.FoundItems.{contains_flat_map}
 use Rattle.emc_base.proofs.Members.{contains_head}
-use Rattle.round_trip.specs.Words.{SetId, Value, EntityModel, EntitySet, Entity, State, At, dependent_end, principal_end, entities_in, key_of, key_props, value_of, values_of}
+use Rattle.round_trip.specs.Words.{SetId, Value, Entity, State, At, principal_end, entities_in, key_of, key_props, value_of, values_of}
 use Rattle.round_trip.specs.soundness.Lookups.{set_key}
 use Rattle.schema_laws.proofs.state_demand.writings.Decisions.{so_or_not}
 use Rattle.regions.specs.declared.region.Region.{Region}
@@ -15,7 +15,7 @@ use Rattle.population.specs.Numbered.{number_count, numbered_key}
 use Rattle.population.specs.Plain.{plain}
 use Rattle.population.specs.Principals.{AsksFor, PlacedKey, principal_by, principals}
 use Rattle.population.specs.Support.{IsTaken, is_taken, steps, support}
-use Rattle.population.specs.Supported.{Placed, given_in, stands_in}
+use Rattle.population.specs.Supported.{Placed, given_in}
 use Rattle.population.proofs.Arrows.{step_from}
 use Rattle.population.proofs.Asked.{of_asked}
 use Rattle.population.proofs.Ends.{given_from}
@@ -24,7 +24,7 @@ use Rattle.population.proofs.Matched.{as_many, principal_values, sound_constrain
 use Rattle.population.proofs.Principals.{principal_key_is}
 use Rattle.population.proofs.Support.{Decides-taken, in_keys, support_closed, support_free, support_wanted}
 use Rattle.host_states.specs.BaseStates.{IsLed, IsReferred, RefersBack, begins, goes}
-use Rattle.host_states.specs.FocusStates.{by_assoc, focus, given_by, links_by, partner_of, state_by, told_key, wanted_by}
+use Rattle.host_states.specs.FocusStates.{by_assoc, focus, given_by, links_by, partner_of, state_by, wanted_by}
 use Rattle.host_states.proofs.Clear.{IsClear, number_clear, step_clear}
 use Rattle.host_states.proofs.Focus.{IsGiven, IsMade, a_partner, numbers, partner_has, region_key, region_set, the_focus}
 use Rattle.host_states.proofs.FocusLinks.{focus_given, focus_stands}

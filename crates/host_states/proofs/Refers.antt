@@ -1,12 +1,12 @@
 -- Who refers to an entity of a region: an entity that does is led to by principals that the entity asks for, by a part of its key and a nullable property.
-use Rattle.std.proofs.Common.{◌≡◌, ◌≢◌, ◌⊎◌, ⊎_elim, inl, inr, ℕ, ◌<◌, List, [], ◌∷◌, map, flat_map, slice_get, All, Any, Contains, Option, Some, None, Bool, true, false, IsTrue, refl, sym, ap, subst, ◌∙◌, arith}
+use Rattle.std.proofs.Common.{◌≡◌, ◌≢◌, ◌⊎◌, ⊎_elim, inl, inr, ℕ, ◌<◌, List, [], slice_get, All, Contains, Option, Some, None, Bool, true, false, refl, sym, ap, subst, ◌∙◌, arith}
 use Rattle.std.specs.Option.{option_map_or}
 use Rattle.std.proofs.lemmas.List.Elements.{All-contains}
 use Rattle.emc_base.proofs.FoundItems.{some_member}
 use Rattle.emc_base.proofs.Joined.{in_flat_map}
 use Rattle.emc_base.proofs.Lists.{all_from_members, at_once}
 use Rattle.emc_base.proofs.Mapped.{contains_map}
-use Rattle.round_trip.specs.Words.{SetId, PropId, Value, Null, EntityModel, EntitySet, Prop, Assoc, Constraint, Entity, State, At, dependent_end, principal_end, entities_in, key_of, key_props, props_of, value_of, values_of}
+use Rattle.round_trip.specs.Words.{SetId, PropId, Value, Null, EntityModel, EntitySet, Prop, Assoc, Constraint, Entity, State, At, dependent_end, principal_end, key_of, key_props, props_of}
 use Rattle.round_trip.specs.soundness.Lookups.{IsNeeded, set_key}
 use Rattle.round_trip.specs.soundness.models.Constraints.{DependsByKey, HasArrow, HasMatchedLists, Leads, arrow}
 use Rattle.round_trip.specs.soundness.mappings.Joined.{IsDependent}
@@ -24,17 +24,17 @@ use Rattle.regions.specs.Patterns.{Valuation}
 use Rattle.region_states.specs.Entities.{focus_entity}
 use Rattle.region_states.proofs.Entities.{has_value}
 use Rattle.population.specs.Given.{HasNumbers}
-use Rattle.population.specs.Numbered.{number_count, numbered, numbered_key}
+use Rattle.population.specs.Numbered.{number_count, numbered_key}
 use Rattle.population.specs.Plain.{plain}
 use Rattle.population.specs.Principals.{AsksFor, PlacedKey, principal_by, principal_key, principals}
-use Rattle.population.specs.Support.{IsTaken, steps, support}
-use Rattle.population.specs.Supported.{Placed, given_in, keys_in, stands_in}
+use Rattle.population.specs.Support.{steps, support}
+use Rattle.population.specs.Supported.{Placed, stands_in}
 use Rattle.population.proofs.Arrows.{leads_then, step_arrow}
 use Rattle.population.proofs.Asked.{asked_of, of_asked}
 use Rattle.population.proofs.Ends.{given_from}
 use Rattle.population.proofs.Entities.{Stands, entities_are, of_given, of_key, of_number, set_there, stands_cases}
 use Rattle.population.proofs.Matched.{principal_has, sound_constraint}
-use Rattle.population.proofs.Numbered.{asked_concrete, some_part}
+use Rattle.population.proofs.Numbered.{some_part}
 use Rattle.population.proofs.Principals.{is_dependent_by, principal_key_is}
 use Rattle.population.proofs.Support.{key_in, support_all}
 use Rattle.host_states.specs.BaseStates.{HasNullable, IsNullable, IsLed, IsOuterKey, IsReferred, RefersBack, begins, goes}

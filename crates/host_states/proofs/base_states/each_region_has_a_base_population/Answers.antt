@@ -1,5 +1,5 @@
 -- For each region and each key that can stand a base.
-use Rattle.std.proofs.Common.{◌≤◌, length, sym, subst}
+use Rattle.std.proofs.Common.{◌≤◌, sym, subst}
 use Rattle.std.proofs.lemmas.Slice.Zip.{AllZip-long}
 use Rattle.round_trip.specs.Words.{key_props}
 use Rattle.schema_laws.proofs.sound_demand.Keys.{keys_few}
