@@ -170,7 +170,7 @@ module _ (basis : Basis) (outer : ℕ) (s : SetId) (region : Region) (values : V
 
     -- it is its own, or asked of it
     abbrev IsTold : Type 0
-    IsTold = IsOwnLink basis s region a first ⊎ IsAskedLink basis s region entity a first assoc
+    IsTold = IsOwnLink basis s region a first ⊎ IsAskedLink basis s entity a first assoc
 
     -- a given one is its own
     from_own : Contains own link → IsTold
@@ -216,7 +216,7 @@ module _ (basis : Basis) (outer : ℕ) (s : SetId) (region : Region) (values : V
               (number_clear basis.schema.model outer has key free.outer_key (end_of (not side) assoc).set sound.under.0 sound.under.1 (end_number (not side) a)
               (end_within basis.schema.model made.of.is.sound.model a assoc here (not side))))
 
-          asked : first ≡ side → IsAskedLink basis s region entity a first assoc
+          asked : first ≡ side → IsAskedLink basis s entity a first assoc
           asked near =
               let set = in_set basis outer s region made.of in
               let at : (end_of side assoc).set ≡ s = ap (λ b. (end_of b assoc).set) (sym near) ∙ at_set in
@@ -232,7 +232,7 @@ module _ (basis : Basis) (outer : ℕ) (s : SetId) (region : Region) (values : V
               (((decides_types basis.schema.model made.of.is.sound.model).tells by.entity.ty (end_of side assoc).ty).0
               (covered basis.schema.model outer has given keys (given_well basis outer s region values hosts wanted made) (keys_well basis outer s region values hosts wanted made)
               links (links_well basis outer s region values hosts wanted made) a assoc here independent side link by)) in
-              subst (λ b. IsAskedLink basis s region entity a b assoc) (sym near) (record {
+              subst (λ b. IsAskedLink basis s entity a b assoc) (sym near) (record {
                 far_one = by.far_one;
                 covers = covers;
                 not_host = λ hosted. (

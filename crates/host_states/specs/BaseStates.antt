@@ -91,26 +91,27 @@ pub record RefersBack (model : EntityModel) (outer : ℕ) (u : SetId) (entity : 
   pub nullable : HasNullable model constraint.dependent
   pub back : IsLed model outer (principal_by model assoc constraint entity) (record { set = u; key = key_of model entity })
 
-module _ (basis : Basis) (s : SetId) (region : Region) where
-  -- the association is hosted at this end of the entity, of which the region has a link, and few partners
-  pub record IsOwnLink (a : AssocId) (first : Bool) : Type 0 where
-    pub host : Host
-    pub is_host : Contains (basis.hosts s) host
-    pub of_assoc : host.assoc ≡ a
-    pub at_first : host.first_hosts ≡ first
-    pub linked : Contains region.linked a
-    pub few : (assoc : Assoc) → At basis.schema.model.assocs a.index assoc → (partner_end host.first_hosts assoc).mult ≢ Many
-
+module _ (basis : Basis) (s : SetId) where
   -- the other end is `1` and asks the entity for a partner; the association isn't hosted at this one
   pub record IsAskedLink (entity : Entity) (a : AssocId) (first : Bool) (assoc : Assoc) : Type 0 where
     pub far_one : (end_of (not first) assoc).mult ≡ One
     pub covers : IsA basis.schema.model entity.ty (end_of first assoc).ty
     pub not_host : ¬ Contains (basis.hosts s) (record { assoc = a; first_hosts = first })
 
-  -- no link names the entity but its own by associations that are hosted at it, and those that ends `1` ask of it
-  abbrev pub NoOtherLink : State → Entity → Type 0
-  NoOtherLink state entity = (a : AssocId) (assoc : Assoc) → At basis.schema.model.assocs a.index assoc → (link : Link) → Contains (links_in state a) link → (first : Bool)
-      → (end_of first assoc).set ≡ s → end_key first link ≡ key_of basis.schema.model entity → IsOwnLink a first ⊎ IsAskedLink entity a first assoc
+  module _ (region : Region) where
+    -- the association is hosted at this end of the entity, the region has a link of it, and the partners are few
+    pub record IsOwnLink (a : AssocId) (first : Bool) : Type 0 where
+      pub host : Host
+      pub is_host : Contains (basis.hosts s) host
+      pub of_assoc : host.assoc ≡ a
+      pub at_first : host.first_hosts ≡ first
+      pub linked : Contains region.linked a
+      pub few : (assoc : Assoc) → At basis.schema.model.assocs a.index assoc → (partner_end host.first_hosts assoc).mult ≢ Many
+
+    -- no link names the entity but its own by associations that are hosted at it, and those that ends `1` ask of it
+    abbrev pub NoOtherLink : State → Entity → Type 0
+    NoOtherLink state entity = (a : AssocId) (assoc : Assoc) → At basis.schema.model.assocs a.index assoc → (link : Link) → Contains (links_in state a) link → (first : Bool)
+        → (end_of first assoc).set ≡ s → end_key first link ≡ key_of basis.schema.model entity → IsOwnLink a first ⊎ IsAskedLink entity a first assoc
 
 -- the state is legal and holds an entity of the region with this key; no other link names it, and something refers to it exactly where what it asks for does
 pub record IsBaseFor (basis : Basis) (outer : ℕ) (s : SetId) (region : Region) (key : List Value) (state : State) : Type 0 where
