@@ -63,7 +63,7 @@ module _ (basis : Basis) (outer : ℕ) (s : SetId) (region : Region) (values : V
   abbrev focus_key : List Value
   focus_key = key_of basis.schema.model entity
 
-  given_well : AreGiven basis.schema.model outer given
+  pub given_well : AreGiven basis.schema.model outer given
   given_well = are_given basis outer s region made.of values made.admissible hosts made.each made.order
 
   pub keys_well : AreKeys basis.schema.model outer given keys
@@ -246,8 +246,7 @@ module _ (basis : Basis) (outer : ℕ) (s : SetId) (region : Region) (values : V
         let same_id : by.host.assoc ≡ host.assoc = sym (ap (λ (one : PlacedLink). one.assoc) by.is) ∙ found.2 in
         let same_host : by.host ≡ host = one_host (basis.hosts s) (made.of.is.order s) by.host host (made.each by.host by.there).0 hosted same_id in
         let P : Host → Type 0 = λ h. At basis.schema.model.assocs h.assoc.index by.assoc in
-        let same_assoc : by.assoc ≡ assoc = at_once basis.schema.model.assocs host.assoc.index by.assoc assoc (subst P same_host by.here) here in
-        (
+        let same_assoc : by.assoc ≡ assoc = at_once basis.schema.model.assocs host.assoc.index by.assoc assoc (subst P same_host by.here) here in (
           subst (Contains hosts) same_host by.there,
           sym found.3 ∙ ap (λ (one : PlacedLink). one.link) by.is ∙ ap (λ h. (link_to basis region values h by.assoc).link) same_host
               ∙ ap (λ a. (link_to basis region values host a).link) same_assoc,

@@ -8,3 +8,10 @@ pub mod Rivals
 pub mod Leaves
 pub mod FewPartners
 pub mod Hosts
+pub mod Clear
+pub mod Refers
+pub mod LedBack
+pub mod BaseLinks
+pub mod BaseValues
+pub mod BaseFor
+pub mod OuterRow

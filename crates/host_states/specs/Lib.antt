@@ -1,2 +1,3 @@
+pub mod BaseStates
 pub mod FocusStates
 pub mod SmallStates

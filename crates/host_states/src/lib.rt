@@ -1,6 +1,7 @@
 //! For each region of a set legal states that hold an entity of it: one, two that differ in this entity alone, one without it, a base to which nothing refers, and small parts of these.
 #![tactic(auto)]
 
+pub mod base_states;
 mod few_partners;
 
 ghost use Rattle.std.specs.Prelude.{◌≤◌, ℕ};

@@ -115,7 +115,7 @@ module _ (model : EntityModel) (outer : ℕ) (has : HasNumbers model outer) wher
         (λ d. so_or_not (is_among d (key_props model (dependent_end assoc constraint).ty)) (Decides-among (key_props model (dependent_end assoc constraint).ty) d)) constraint.dependent)
 
   -- a step from a key, with the set that it stands in
-  step_from : (from to : PlacedKey) → Contains (steps model outer from) to
+  pub step_from : (from to : PlacedKey) → Contains (steps model outer from) to
       → (set : EntitySet) × At model.sets from.set.index set × AsksFor model from.set (plain model outer 0 set.element from.key) to
   step_from from to has_step = by (slice_get model.sets from.set.index) refl has_step
     where
