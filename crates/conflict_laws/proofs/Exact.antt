@@ -31,8 +31,8 @@ module _ (basis : Basis) (is : IsBasis basis) (limits : IsWithinLimits basis.sch
   few s = λ host has assoc here. absurd (no_host basis is none s host has)
 
   -- the states of one entity
-  hosts : HostsFocuses basis (lone_focus basis)
-  hosts = lone_hosts basis is none
+  hosts : HostsFocuses basis 0 (lone_focus basis)
+  hosts = lone_hosts basis is none 0
 
   -- no legal state clashes, so there are the states that the laws on same tables ask for
   states : NoneFailsBy basis.schema variant.Clash
@@ -42,8 +42,8 @@ module _ (basis : Basis) (is : IsBasis basis) (limits : IsWithinLimits basis.sch
     is_basis = is;
     limits = limits;
     hosts = hosts;
-    rival = lone_rivals basis is none;
-    leaves = lone_leaves basis is none;
+    rival = lone_rivals basis is none 0;
+    leaves = lone_leaves basis is none 0;
     few = few;
     no_clash = clear;
   }

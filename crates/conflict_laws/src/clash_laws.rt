@@ -28,20 +28,20 @@ ghost use Rattle.conflict_laws.specs.clash.ClashValues.{clash_values};
 pub fn symbols_that_clash_differ()
     ensures values { (basis : Basis) → IsBasis basis → IsWithinLimits basis.schema → (s : SetId) (region : Region) → Contains (regions_of basis s) region
         → (t : TableId) (c : ColId) (one two : Symbol) → IsTrue (is_clash basis (focus.Entity region) t c one two)
-        → IsAdmissible basis region (clash_values basis region one two)
+        → IsAdmissible basis 0 region (clash_values basis region one two)
         × (value_under (clash_values basis region one two) one ≢ value_under (clash_values basis region one two) two) }
 {}
 
 /// Where a pattern lists two symbols in a cell that can differ, the state with an entity of the region fails by a clash, at the cell of the entity's row.
 pub fn a_clash_fails()
-    ensures fails { (basis : Basis) → IsBasis basis → IsWithinLimits basis.schema → (state : Region → Valuation → State) → HostsFocuses basis state
+    ensures fails { (basis : Basis) → IsBasis basis → IsWithinLimits basis.schema → (state : Region → Valuation → State) → HostsFocuses basis 0 state
         → (s : SetId) (region : Region) → Contains (regions_of basis s) region
         → (t : TableId) (c : ColId) (one two : Symbol) → IsTrue (is_clash basis (focus.Entity region) t c one two)
         → (table : Table) (column : Column) → HasColumn basis.schema t table c column → (pairing : List Pair) → IsOwned basis.schema t s pairing → (d : State)
         → FailsAt basis.schema kind.Clash
         (place_at table.name (paired_key basis.schema.model pairing (focus_entity basis region (clash_values basis region one two))) column.name)
         (state region (clash_values basis region one two)) d }
-    ensures there { (basis : Basis) → IsBasis basis → IsWithinLimits basis.schema → (state : Region → Valuation → State) → HostsFocuses basis state
+    ensures there { (basis : Basis) → IsBasis basis → IsWithinLimits basis.schema → (state : Region → Valuation → State) → HostsFocuses basis 0 state
         → (s : SetId) (conflict : Conflict) → IsConflictAt basis s kind.Clash conflict → FailsThere basis s kind.Clash }
 {}
 
@@ -54,7 +54,7 @@ pub fn a_clash_is_told()
 
 /// Where no legal state clashes, no pattern does.
 pub fn patterns_are_clear()
-    ensures clear { (basis : Basis) → IsBasis basis → IsWithinLimits basis.schema → (state : Region → Valuation → State) → HostsFocuses basis state
+    ensures clear { (basis : Basis) → IsBasis basis → IsWithinLimits basis.schema → (state : Region → Valuation → State) → HostsFocuses basis 0 state
         → NoneFailsBy basis.schema kind.Clash → (s : SetId) (region : Region) → Contains (regions_of basis s) region
         → (row : PatternRow) → Contains (pattern_of basis (focus.Entity region)).rows row → HasNoClashes basis.schema.model region.atoms row }
 {}

@@ -23,18 +23,18 @@ ghost use Rattle.region_states.specs.Hosting.{HostsFocuses};
 /// Where a fragment and a region disagree, so do the fragment and the state with the usual entity of the region, at the entity's key. The same of the
 /// fragment of links that are hosted at the set.
 pub fn a_disagreement_fails()
-    ensures fails { (basis : Basis) → IsBasis basis → IsWithinLimits basis.schema → (state : Region → Valuation → State) → HostsFocuses basis state
+    ensures fails { (basis : Basis) → IsBasis basis → IsWithinLimits basis.schema → (state : Region → Valuation → State) → HostsFocuses basis 0 state
         → NoneFailsBy basis.schema kind.Clash → (s : SetId) (region : Region) → Contains (regions_of basis s) region
         → (fragment : Fragment) → Contains basis.schema.mapping.fragments fragment → IsTrue (differs_at basis region fragment) → (d : State)
-        → FailsAt basis.schema kind.Disagrees (place_at fragment.place (key_of basis.schema.model (focus_entity basis region (default_valuation basis region))) [])
-        (state region (default_valuation basis region)) d }
-    ensures there { (basis : Basis) → IsBasis basis → IsWithinLimits basis.schema → (state : Region → Valuation → State) → HostsFocuses basis state
+        → FailsAt basis.schema kind.Disagrees (place_at fragment.place (key_of basis.schema.model (focus_entity basis region (default_valuation basis 0 region))) [])
+        (state region (default_valuation basis 0 region)) d }
+    ensures there { (basis : Basis) → IsBasis basis → IsWithinLimits basis.schema → (state : Region → Valuation → State) → HostsFocuses basis 0 state
         → NoneFailsBy basis.schema kind.Clash → (s : SetId) (conflict : Conflict) → IsConflictAt basis s kind.Disagrees conflict → FailsThere basis s kind.Disagrees }
 {}
 
 /// Where a legal state and a fragment of a set, or of links that are hosted at it, disagree, so do the fragment and a region of the set.
 pub fn a_disagreement_is_told()
-    ensures told { (basis : Basis) → IsBasis basis → IsWithinLimits basis.schema → (state : Region → Valuation → State) → HostsFocuses basis state
+    ensures told { (basis : Basis) → IsBasis basis → IsWithinLimits basis.schema → (state : Region → Valuation → State) → HostsFocuses basis 0 state
         → NoneFailsBy basis.schema kind.Clash → (s : SetId) → HasFewPartners basis s → FailsThere basis s kind.Disagrees
         → (conflict : Conflict) × IsConflictAt basis s kind.Disagrees conflict }
 {}

@@ -23,7 +23,7 @@ pub fn alike_patterns_match()
 /// Where the cells match one by one, these admissible values write entities of both regions alike. Of each group of properties one value serves.
 pub fn matching_patterns_are_alike()
     ensures admissible { (basis : Basis) → IsBasis basis → IsWithinLimits basis.schema → (s : SetId) (one two : Region) → AreComparable basis s one two
-        → PatternsMatch basis one two → IsAdmissible basis one (first_values basis one two) × IsAdmissible basis two (second_values basis one two) }
+        → PatternsMatch basis one two → IsAdmissible basis 0 one (first_values basis one two) × IsAdmissible basis 0 two (second_values basis one two) }
     ensures key { (basis : Basis) → IsBasis basis → (s : SetId) (one two : Region) → AreComparable basis s one two
         → HaveOneKey basis one (first_values basis one two) (second_values basis one two) }
     ensures alike { (basis : Basis) → IsBasis basis → IsWithinLimits basis.schema → (s : SetId) (one two : Region) → AreComparable basis s one two

@@ -48,8 +48,8 @@ pub fn absent_entities_fail()
     ensures none { (basis : Basis) (state : Region → Valuation → State) (rivals : Region → Valuation → Region → Valuation → State × State)
         (leaving : Region → Valuation → State × State) → HasStates basis state rivals leaving → (s : SetId) (set : EntitySet) → At basis.schema.model.sets s.index set
         → (region : Region) → Contains (regions_of basis s) region → IsTrue (is_absent basis region) → first_several basis region ≡ None
-        → FailsAt basis.schema kind.Same (place_at set.name (key_of basis.schema.model (focus_entity basis region (default_valuation basis region))) [])
-        (leaving region (default_valuation basis region)).0 (leaving region (default_valuation basis region)).1 }
+        → FailsAt basis.schema kind.Same (place_at set.name (key_of basis.schema.model (focus_entity basis region (default_valuation basis 0 region))) [])
+        (leaving region (default_valuation basis 0 region)).0 (leaving region (default_valuation basis 0 region)).1 }
 {}
 
 /// Where there is a conflict, some two legal states that differ at the set have the same tables, and where there are such states, there is a conflict.

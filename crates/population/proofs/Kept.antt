@@ -1,5 +1,5 @@
 -- What a part of a state holds, and the rules of links at one end.
-use Rattle.std.proofs.Common.{◌≡◌, ◌↔◌, ◌<◌, ◌≤◌, List, [], filter, length, slice_get, get_or, All, AllPairs, Contains, Bool, true, false, not, IsTrue, Decides, sym, ap, subst, ◌∙◌, arith}
+use Rattle.std.proofs.Common.{◌≡◌, ◌↔◌, ◌<◌, ◌≤◌, List, [], filter, length, get_or, Contains, Bool, true, false, not, IsTrue, Decides, sym, ap, subst, ◌∙◌, arith}
 use Rattle.std.specs.Option.{option_map_or}
 use Rattle.std.proofs.lemmas.Bool.Decides.{Decides-and}
 use Rattle.std.proofs.lemmas.List.{length-map}

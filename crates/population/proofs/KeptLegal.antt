@@ -1,5 +1,5 @@
 -- A part of a legal state is legal exactly where it is closed: it holds with each entity its principals, and the partners that ends `1` ask for.
-use Rattle.std.proofs.Common.{◌≡◌, ◌≢◌, ◌↔◌, List, AllPairs, All, Contains, Bool, true, false, not, IsTrue, Some, refl, sym, subst, ◌∙◌}
+use Rattle.std.proofs.Common.{◌≡◌, ◌≢◌, ◌↔◌, List, All, Contains, Bool, true, false, not, IsTrue, Some, refl, sym, subst, ◌∙◌}
 use Rattle.std.proofs.lemmas.List.Elements.{All-contains, All-filter}
 use Rattle.std.proofs.lemmas.List.Kept.{AllPairs-filter}
 use Rattle.emc_base.specs.Lists.{AreApart, At}
@@ -9,9 +9,9 @@ use Rattle.edm_types.specs.declared.model.Mult.TheVariants.{One}
 use Rattle.round_trip.specs.Words.{SetId, AssocId, Value, Null, EntityModel, EntitySet, Assoc, Constraint, Entity, Link, Mult, State, AreLegalLinks, HasAllowedNulls, HasCount, HasFittingType, HasPrincipal, HasValuesInDomain, IsA, IsEntity, IsIndependent, IsLegal, IsLegalSet, IsLink, IsState, dependent_end, entities_in, key_of, links_in, principal_end, values_of}
 use Rattle.round_trip.specs.soundness.models.Models.{IsSoundModel}
 use Rattle.schema_laws.proofs.state_demand.lists.Lists.{any_of, of_any}
-use Rattle.population.specs.Kept.{IsClosed, has_ends, kept_state}
+use Rattle.population.specs.Kept.{AsksPartner, IsClosed, has_ends, kept_state}
 use Rattle.population.specs.Numbered.{end_of}
-use Rattle.population.specs.Principals.{AsksFor, PlacedKey, principal_by, principals}
+use Rattle.population.specs.Principals.{AsksFor, PlacedKey, principal_by}
 use Rattle.population.specs.Supported.{end_key}
 use Rattle.population.proofs.Asked.{asked_of, is_principal}
 use Rattle.population.proofs.Kept.{AreLegalAt, Decides-ends, HasKeptEnd, at_ends, count_left, entities_kept, entities_long, entity_kept, from_ends, link_kept, links_kept_of, links_long}
@@ -107,7 +107,18 @@ module _ (model : EntityModel) (sound : IsSoundModel model) (keep : SetId → En
             (both_sides (λ side. HasKeptEnd model keep state side assoc link) first
             (entity, both.0, both.1, sym is)
             (let other = entity_at model state legal a assoc here link stands (not first) in
-            (other.0, other.1, closed.partner a assoc here first one link stands entity both.0 (sym is) both.1 other.0 other.1 other.3, other.3)))) count);
+            let asks : AsksPartner model state first assoc entity other.0 = record {
+              a = a;
+              link = link;
+              is_assoc = here;
+              is_link = stands;
+              one = one;
+              stands = both.0;
+              at_key = sym is;
+              other_stands = other.1;
+              other_key = other.3;
+            } in
+            (other.0, other.1, closed.partner first assoc entity other.0 asks both.1, other.3)))) count);
       }
 
       legal_links : AreLegalLinks model part assoc (links_in part a)
@@ -128,8 +139,9 @@ module _ (model : EntityModel) (sound : IsSoundModel model) (keep : SetId → En
         let both = (entity_kept model keep state legal.shape u entity).0 has in
         let found = of_any HasValues (entities_in state over) principal in
         let keyed = principal_has_key model sound state legal assoc constraint (sound_constraint model sound assoc constraint is_assoc constrained) found.0 found.1 values found.2 in
-        let kept = closed.principal u entity both.0 both.1 (principal_by model assoc constraint entity) (is_principal model sound u entity assoc constraint is_assoc constrained (refl, covers, there))
-        found.0 found.1 keyed in
+        let to : PlacedKey = principal_by model assoc constraint entity in
+        let asked = is_principal model sound u entity assoc constraint is_assoc constrained (refl, covers, there) in
+        let kept = closed.principal u entity to found.0 (record { stands = both.0; asks = asked; other_stands = found.1; other_key = keyed }) both.1 in
         any_of HasValues (entities_in part over) found.0 ((entity_kept model keep state legal.shape over found.0).1 (found.1, kept)) found.2
 
     pub kept_legal : IsLegal model part
@@ -172,29 +184,28 @@ module _ (model : EntityModel) (sound : IsSoundModel model) (keep : SetId → En
         subst P (sym asks.is) (λ other other_stands is.
         subst (λ one. IsTrue (keep over one)) (one_entity model state legal over found.0 other both.0 other_stands (keyed ∙ sym is)) both.1)
 
-    partner_kept : (a : AssocId) (assoc : Assoc) → At model.assocs a.index assoc → (first : Bool) → (end_of (not first) assoc).mult ≡ One
-        → (link : Link) → Contains (links_in state a) link
-        → (entity : Entity) → Contains (entities_in state (end_of first assoc).set) entity → key_of model entity ≡ end_key first link → IsTrue (keep (end_of first assoc).set entity)
-        → (other : Entity) → Contains (entities_in state (end_of (not first) assoc).set) other → key_of model other ≡ end_key (not first) link
-        → IsTrue (keep (end_of (not first) assoc).set other)
-    partner_kept a assoc here first one link stands entity entity_stands is kept other other_stands other_is =
+    partner_kept : (first : Bool) (assoc : Assoc) (entity other : Entity) → AsksPartner model state first assoc entity other
+        → IsTrue (keep (end_of first assoc).set entity) → IsTrue (keep (end_of (not first) assoc).set other)
+    partner_kept first assoc entity other asks kept =
         let u : SetId = (end_of first assoc).set in
+        let a : AssocId = asks.a in
+        let link : Link = asks.link in
         let P : Link → Type 0 = λ some. end_key first some ≡ key_of model entity in
-        let independent = has_no_constraint model state legal a assoc here link stands in
-        let covers = covers_at model state legal a assoc here link stands first entity entity_stands is in
-        let in_part = (entity_kept model keep state legal.shape u entity).1 (entity_stands, kept) in
-        let count : HasCount One P (links_in part a) = subst (λ mult. HasCount mult P (links_in part a)) one
-        ((at_ends model part assoc (links_in part a) (legal_part.links a assoc here independent) first).partners entity in_part covers) in
+        let independent = has_no_constraint model state legal a assoc asks.is_assoc link asks.is_link in
+        let covers = covers_at model state legal a assoc asks.is_assoc link asks.is_link first entity asks.stands asks.at_key in
+        let in_part = (entity_kept model keep state legal.shape u entity).1 (asks.stands, kept) in
+        let count : HasCount One P (links_in part a) = subst (λ mult. HasCount mult P (links_in part a)) asks.one
+        ((at_ends model part assoc (links_in part a) (legal_part.links a assoc asks.is_assoc independent) first).partners entity in_part covers) in
         let found = of_any P (links_in part a) count.0 in
-        let both = (link_kept model keep state a assoc here found.0).0 found.1 in
-        let whole : HasCount One P (links_in state a) = subst (λ mult. HasCount mult P (links_in state a)) one
-        ((at_ends model state assoc (links_in state a) (legal.links a assoc here independent) first).partners entity entity_stands covers) in
-        let same : found.0 ≡ link = same_of_most P (links_in state a) whole.1 found.0 link both.0 stands found.2 (sym is) in
-        kept_end (not first) assoc link (subst (λ some. HasKeptEnd model keep state (not first) assoc some) same (both.1 (not first))) other other_stands other_is
+        let both = (link_kept model keep state a assoc asks.is_assoc found.0).0 found.1 in
+        let whole : HasCount One P (links_in state a) = subst (λ mult. HasCount mult P (links_in state a)) asks.one
+        ((at_ends model state assoc (links_in state a) (legal.links a assoc asks.is_assoc independent) first).partners entity asks.stands covers) in
+        let same : found.0 ≡ link = same_of_most P (links_in state a) whole.1 found.0 link both.0 asks.is_link found.2 (sym asks.at_key) in
+        kept_end (not first) assoc link (subst (λ some. HasKeptEnd model keep state (not first) assoc some) same (both.1 (not first))) other asks.other_stands asks.other_key
 
     pub closed_from_legal : IsClosed model keep state
     closed_from_legal = record {
-      principal = λ u entity stands kept to asked. principal_kept u entity stands kept to (asked_of model sound u entity to asked);
+      principal = λ u entity to other asks kept. principal_kept u entity asks.stands kept to (asked_of model sound u entity to asks.asks) other asks.other_stands asks.other_key;
       partner = partner_kept;
     }
 

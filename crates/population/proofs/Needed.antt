@@ -191,18 +191,19 @@ module _ (model : EntityModel) (states : List State) (roots : List PlacedKey) wh
         let leads : (from to : PlacedKey) → Contains keys from → Contains (needs model state from) to → Contains keys to =
         λ from to stands needed. needed_leads from to stands (contains_flat_map (λ one. needs model one from) states state to has needed) in
         record {
-          principal = λ u entity stands kept to asked other other_stands is.
+          principal = λ u entity to other asks kept.
               let from = (Decides-needed u entity).0 kept in
-              let same : to ≡ key_in model to.set other = λ k. record { set = to.set; key = sym is k } in
-              (Decides-needed to.set other).1 (subst (Contains keys) same (leads (key_in model u entity) to from (principal_needed model state u entity stands to asked)));
-          partner = λ a assoc here first one link stands entity entity_stands is kept other other_stands other_is.
+              let same : to ≡ key_in model to.set other = λ k. record { set = to.set; key = sym asks.other_key k } in
+              (Decides-needed to.set other).1 (subst (Contains keys) same (leads (key_in model u entity) to from (principal_needed model state u entity asks.stands to asks.asks)));
+          partner = λ first assoc entity other asks kept.
               let u : SetId = (end_of first assoc).set in
               let v : SetId = (end_of (not first) assoc).set in
-              let here_is : key_in model u entity ≡ key_at_end first assoc link = λ k. record { set = u; key = is k } in
-              let there_is : key_at_end (not first) assoc link ≡ key_in model v other = λ k. record { set = v; key = sym other_is k } in
+              let here_is : key_in model u entity ≡ key_at_end first assoc asks.link = λ k. record { set = u; key = asks.at_key k } in
+              let there_is : key_at_end (not first) assoc asks.link ≡ key_in model v other = λ k. record { set = v; key = sym asks.other_key k } in
               let from = subst (Contains keys) here_is ((Decides-needed u entity).0 kept) in
               (Decides-needed v other).1 (subst (Contains keys) there_is
-              (leads (key_at_end first assoc link) (key_at_end (not first) assoc link) from (partner_needed model state a assoc here first one link stands)));
+              (leads (key_at_end first assoc asks.link) (key_at_end (not first) assoc asks.link) from
+              (partner_needed model state asks.a assoc asks.is_assoc first asks.one asks.link asks.is_link)));
         }
 
 pub needed_keys_least : (model : EntityModel) → IsSoundModel model → (states : List State) → ((one : State) → Contains states one → IsLegal model one) → (roots : List PlacedKey)

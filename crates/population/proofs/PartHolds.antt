@@ -1,18 +1,16 @@
 -- A row of a state's tables stands in those of the part that its writers need, which shows and finds no more: so failures at the row stand in the part.
-use Rattle.std.proofs.Common.{◌≡◌, ◌↔◌, ◌⊎◌, ⊎_elim, inl, inr, List, [], map, length, All, Any, Contains, refl, sym, ap, subst, ◌∙◌}
+use Rattle.std.proofs.Common.{◌≡◌, ◌⊎◌, ⊎_elim, inl, inr, List, [], length, Contains, refl, sym, subst, ◌∙◌}
 use Rattle.std.proofs.lemmas.List.Elements.{All-contains}
 use Rattle.emc_base.specs.Lists.{At}
 use Rattle.emc_base.proofs.Lists.{item_at}
-use Rattle.round_trip.specs.Words.{TableId, ColId, Value, Null, place_at, Assoc, Column, ForeignKey, Fragment, LinkFragment, Place, Row, Schema, State, Table, Tables, DemandsCell, DemandsRow, FindsRow, HasDemandedCells, IsLegal, IsShownLinkTuple, IsShownTuple, IsWrittenLinkTuple, IsWrittenTuple, Shows, ShowsLink, TablesAre, cell_of, cells_of, key_columns, row_key, rows_in}
-use Rattle.round_trip.specs.FailsAt.{Clashes, Dangles, Disagrees, FailsAt, IsInOneOnly, LeavesNull, element_of, key_in_tuple, keys_in_tuple}
-use Rattle.round_trip.specs.declared.FailKind.TheVariants as kind
+use Rattle.round_trip.specs.Words.{TableId, ColId, Value, Null, place_at, Assoc, ForeignKey, Fragment, LinkFragment, Place, Row, Schema, State, Table, Tables, DemandsCell, DemandsRow, FindsRow, HasDemandedCells, IsLegal, IsShownLinkTuple, IsShownTuple, IsWrittenLinkTuple, IsWrittenTuple, TablesAre, cell_of, cells_of, key_columns, row_key, rows_in}
+use Rattle.round_trip.specs.FailsAt.{Clashes, Dangles, Disagrees, IsInOneOnly, LeavesNull, element_of, key_in_tuple, keys_in_tuple}
 use Rattle.round_trip.specs.soundness.Stores.{HasForeignIds, IsSoundForeignKey}
 use Rattle.round_trip.specs.soundness.mappings.Mappings.{IsSoundSchema}
 use Rattle.round_trip.proofs.Lookups.{key_columns_at}
 use Rattle.schema_laws.specs.sound_demand.Disagreeing.{IsOneOnly}
 use Rattle.schema_laws.specs.sound_demand.Made.{tables_for}
 use Rattle.schema_laws.specs.state_demand.ByRows.{IsLinkedAt, IsSelectedAt}
-use Rattle.schema_laws.specs.state_demand.WellWritten.{cols_of}
 use Rattle.schema_laws.proofs.sound_demand.Fitting.{has_tables, well_written}
 use Rattle.schema_laws.proofs.sound_demand.Kept.{tables_there}
 use Rattle.schema_laws.proofs.sound_demand.tuples.OneRow.{at_linked, at_selected}

@@ -1,5 +1,5 @@
 -- What the part of a state writes that the writers of a row need: to this row the same as the state, and elsewhere nothing else.
-use Rattle.std.proofs.Common.{◌≡◌, ◌↔◌, ⊎_elim, inl, inr, List, [], ◌∷◌, ◌++◌, map, filter, flat_map, slice_get, Contains, Bool, true, false, refl, sym, ap, subst, ◌∙◌}
+use Rattle.std.proofs.Common.{◌≡◌, inl, inr, List, [], ◌∷◌, filter, flat_map, Contains, Bool, true, false, refl, sym, ap, subst, ◌∙◌}
 use Rattle.std.specs.Option.{option_map_or}
 use Rattle.std.proofs.lemmas.List.Elements.{Contains-append_left, Contains-append_right}
 use Rattle.emc_base.specs.Lists.{At}

@@ -47,15 +47,30 @@ module _ (model : EntityModel) where
       links = map (λ n. kept_links (record { index = n })) (numbers_from 0 (length model.assocs));
     }
 
+  -- an entity asks for a principal, and the other one is it
+  pub record AsksPrincipal (state : State) (u : SetId) (entity : Entity) (to : PlacedKey) (other : Entity) : Type 0 where
+    pub stands : Contains (entities_in state u) entity
+    pub asks : Contains (principals model u entity) to
+    pub other_stands : Contains (entities_in state to.set) other
+    pub other_key : key_of model other ≡ to.key
+
+  -- two entities stand at the ends of a link, and the other one's end asks for exactly one partner
+  pub record AsksPartner (state : State) (first : Bool) (assoc : Assoc) (entity other : Entity) : Type 0 where
+    pub a : AssocId
+    pub link : Link
+    pub is_assoc : At model.assocs a.index assoc
+    pub is_link : Contains (links_in state a) link
+    pub one : (end_of (not first) assoc).mult ≡ One
+    pub stands : Contains (entities_in state (end_of first assoc).set) entity
+    pub at_key : key_of model entity ≡ end_key first link
+    pub other_stands : Contains (entities_in state (end_of (not first) assoc).set) other
+    pub other_key : key_of model other ≡ end_key (not first) link
+
   -- each principal of an entity that is kept is kept, and each partner of it that an end `1` asks for
   pub record IsClosed (keep : SetId → Entity → Bool) (state : State) : Type 0 where
-    pub principal : (u : SetId) (entity : Entity) → Contains (entities_in state u) entity → IsTrue (keep u entity) → (to : PlacedKey) → Contains (principals model u entity) to
-        → (other : Entity) → Contains (entities_in state to.set) other → key_of model other ≡ to.key → IsTrue (keep to.set other)
-    pub partner : (a : AssocId) (assoc : Assoc) → At model.assocs a.index assoc → (first : Bool) → (end_of (not first) assoc).mult ≡ One
-        → (link : Link) → Contains (links_in state a) link
-        → (entity : Entity) → Contains (entities_in state (end_of first assoc).set) entity → key_of model entity ≡ end_key first link → IsTrue (keep (end_of first assoc).set entity)
-        → (other : Entity) → Contains (entities_in state (end_of (not first) assoc).set) other → key_of model other ≡ end_key (not first) link
-        → IsTrue (keep (end_of (not first) assoc).set other)
+    pub principal : (u : SetId) (entity : Entity) (to : PlacedKey) (other : Entity) → AsksPrincipal state u entity to other → IsTrue (keep u entity) → IsTrue (keep to.set other)
+    pub partner : (first : Bool) (assoc : Assoc) (entity other : Entity) → AsksPartner state first assoc entity other
+        → IsTrue (keep (end_of first assoc).set entity) → IsTrue (keep (end_of (not first) assoc).set other)
 
   -- the entities of a state with a key
   abbrev pub at_key : State → PlacedKey → List Entity

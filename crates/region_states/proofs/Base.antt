@@ -1,5 +1,5 @@
 -- The state that holds an entity of a region with a stated key, to which nothing refers.
-use Rattle.std.proofs.Common.{◌≡◌, ⊎_elim, inr, ◌==◌, List, [], ◌∷◌, map, length, Contains, sym, subst, ◌∙◌}
+use Rattle.std.proofs.Common.{◌≡◌, ⊎_elim, inr, ◌==◌, List, [], ◌∷◌, map, length, Contains, sym, subst, ◌∙◌, arith}
 use Rattle.std.specs.List.{AllZip}
 use Rattle.std.proofs.lemmas.Bool.{cond-true, cond_both}
 use Rattle.std.proofs.lemmas.Bool.Decides.{not_from_Decides}
@@ -75,13 +75,13 @@ module _ (basis : Basis) (is : IsBasis basis) (limits : IsWithinLimits basis.sch
     abbrev entity : Entity
     entity = focus_entity basis region values
 
-    defaults : IsAdmissible basis region (default_valuation basis region)
-    defaults = default_admissible basis is limits s region has
+    defaults : IsAdmissible basis 0 region (default_valuation basis 0 region)
+    defaults = default_admissible basis is limits s region has 0 (omega arith)
 
     -- a value is a part of the key, or the one where nothing is said
-    either : (p : PropId) (P : Value → Type 0) → (Contains props p → P (value_beside p props key)) → (¬ Contains props p → P ((default_valuation basis region).prop p))
+    either : (p : PropId) (P : Value → Type 0) → (Contains props p → P (value_beside p props key)) → (¬ Contains props p → P ((default_valuation basis 0 region).prop p))
         → P (values.prop p)
-    either p P part default = cond_both (is_among p props) (value_beside p props key) ((default_valuation basis region).prop p) P
+    either p P part default = cond_both (is_among p props) (value_beside p props key) ((default_valuation basis 0 region).prop p) P
         (λ told. part ((Decides-among props p).0 told))
         (λ told. default (not_from_Decides (is_among p props) (Decides-among props p) told))
 
@@ -90,7 +90,7 @@ module _ (basis : Basis) (is : IsBasis basis) (limits : IsWithinLimits basis.sch
     keyed_allowed = record {
       atoms = all_from_members (λ (told : AtomOf). LiesIn (basis.constants (prop told.prop)) told.atom (values.prop told.prop)) region.atoms (λ told there.
           let of_type = told_is basis is s region has told there in
-          let Lies : AtomOf → Type 0 = λ one. LiesIn (basis.constants (prop one.prop)) one.atom ((default_valuation basis region).prop one.prop) in
+          let Lies : AtomOf → Type 0 = λ one. LiesIn (basis.constants (prop one.prop)) one.atom ((default_valuation basis 0 region).prop one.prop) in
           either told.prop (LiesIn (basis.constants (prop told.prop)) told.atom)
           (λ part. absurd (tested_no_key basis is told.prop of_type.declared of_type.is_declared region.ty of_type.of_type of_type.tested part))
           (λ no_part. All-contains Lies region.atoms told defaults.allowed.atoms there));
@@ -105,7 +105,7 @@ module _ (basis : Basis) (is : IsBasis basis) (limits : IsWithinLimits basis.sch
     keyed_key =
         map_agree (value_of basis.schema.model entity) (λ p. value_beside p props key) props (λ p part.
         has_value basis region values p (key_among basis.schema.model is.sound.model p region.ty part)
-        ∙ cond-true (is_among p props) (value_beside p props key) ((default_valuation basis region).prop p) ((Decides-among props p).1 part))
+        ∙ cond-true (is_among p props) (value_beside p props key) ((default_valuation basis 0 region).prop p) ((Decides-among props p).1 part))
         ∙ key_beside props key (keys_apart basis.schema.model is.sound.model region.ty) (AllZip-long (FitsProp basis.schema.model) props key of_region)
 
   module _ (none : HasNoAssociationSets basis.schema.model) (s : SetId) (region : Region) (has : Contains (regions_of basis s) region) (key : List Value)

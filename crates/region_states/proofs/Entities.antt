@@ -1,5 +1,5 @@
 -- An entity that is made of values has them, and so does all that is told of these values.
-use Rattle.std.proofs.Common.{◌≡◌, ◌≢◌, All, Contains, refl, sym, subst, ◌∙◌}
+use Rattle.std.proofs.Common.{◌≡◌, ◌≢◌, ℕ, All, Contains, refl, sym, subst}
 use Rattle.std.proofs.lemmas.List.Elements.{All-contains}
 use Rattle.emc_base.proofs.Lists.{all_from_members}
 use Rattle.round_trip.specs.Words.{SetId, PropId, TableId, ColId, Value, Null, Entity, props_of, value_of}
@@ -20,7 +20,7 @@ use Rattle.regions.specs.region_laws.pattern.Listed.{Lists}
 use Rattle.regions.proofs.region_laws.pattern.Laws.{listed_from}
 use Rattle.regions.proofs.region_laws.pattern.symbols.Standing.{listed_prop}
 use Rattle.schema_laws.proofs.sound_types.Inherited.{key_among}
-use Rattle.region_states.specs.defaults.Admissible.{IsAdmissible}
+use Rattle.region_states.specs.defaults.Admissible.{IsAdmissible, IsApart}
 use Rattle.schema_laws.specs.short_values.Short.{IsShort}
 use Rattle.region_states.proofs.defaults.Listed.{told_is}
 use Rattle.region_states.specs.Entities.{focus_entity}
@@ -69,10 +69,10 @@ module _ (basis : Basis) (is : IsBasis basis) (s : SetId) (region : Region) (has
   }
 
   -- and so are admissible ones
-  pub admissible_by : IsAdmissible basis region values → IsAdmissible basis region (by_focus basis region values)
-  admissible_by admissible = record {
+  pub admissible_by : (outer : ℕ) → IsAdmissible basis outer region values → IsAdmissible basis outer region (by_focus basis region values)
+  admissible_by outer admissible = record {
     allowed = allowed_by admissible.allowed;
-    keys = λ p key. has_value basis region values p (key_among basis.schema.model is.sound.model p region.ty key) ∙ admissible.keys p key;
+    keys = λ p key. carried basis region values p (key_among basis.schema.model is.sound.model p region.ty key) (IsApart outer) (admissible.keys p key);
     partners = admissible.partners;
     dependent = λ p among by. carried basis region values p among (λ v. v ≢ Null → IsShort v) (admissible.dependent p among by);
   }

@@ -22,8 +22,8 @@ IsKeyOf basis region key = AllZip (FitsProp basis.schema.model) (key_props basis
 -- the values where nothing else is said, with this key
 abbrev pub keyed_values : Basis → Region → List Value → Valuation
 keyed_values basis region key = record {
-  prop = λ p. if is_among p (key_props basis.schema.model region.ty) then value_beside p (key_props basis.schema.model region.ty) key else (default_valuation basis region).prop p;
-  part = (default_valuation basis region).part;
+  prop = λ p. if is_among p (key_props basis.schema.model region.ty) then value_beside p (key_props basis.schema.model region.ty) key else (default_valuation basis 0 region).prop p;
+  part = (default_valuation basis 0 region).part;
 }
 
 -- the entity of the region with this key, alone

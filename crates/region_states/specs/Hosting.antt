@@ -1,7 +1,7 @@
 -- Which states there are: for each region one that holds an entity of it, and two that differ in this entity alone. The tests for failing states use
 -- these laws and nothing else about which states are legal.
 -- Source: this project's; CSDL version 3, EntitySet, AssociationSet, Multiplicity and ReferentialConstraint.
-use Rattle.std.specs.Prelude.{◌≡◌, ◌≢◌, ◌↔◌, List, [], Contains}
+use Rattle.std.specs.Prelude.{◌≡◌, ◌≢◌, ◌↔◌, ℕ, List, [], Contains}
 use Rattle.round_trip.specs.Words.{SetId, TableId, PropId, Value, Assoc, Entity, Link, LinkFragment, State, IsLegal, entities_in, links_in, key_of, key_props, props_of}
 use Rattle.schema_laws.specs.state_demand.Owners.{IsJoinedTo}
 use Rattle.regions.specs.declared.region.Region.{Region}
@@ -54,19 +54,20 @@ pub record HasOneEntityPerKey (basis : Basis) (region : Region) : Type 0 where
   pub single : (p : PropId) → Contains (props_of basis.schema.model region.ty) p → ¬ Contains (key_props basis.schema.model region.ty) p
       → (value : Value) × (possible basis.schema.model region.atoms (symbol.Prop p) ≡ single value)
 
-module _ (basis : Basis) where
+module _ (basis : Basis) (outer : ℕ) where
   -- for each region and admissible values, this state holds an entity that has them
   pub record HostsFocuses (state : Region → Valuation → State) : Type 0 where
-    pub holds : (s : SetId) (region : Region) → Contains (regions_of basis s) region → (values : Valuation) → IsAdmissible basis region values
+    pub holds : (s : SetId) (region : Region) → Contains (regions_of basis s) region → (values : Valuation) → IsAdmissible basis outer region values
         → HoldsFocus basis region values (state region values)
 
-  -- for two regions of a set with the same flags, equal or not, and admissible values with the same partners, these states hold rivals
+  -- for two regions of a set with the same flags, equal or not, and admissible values with the same key and the same partners, these states hold rivals
   pub record HostsRivals (states : Region → Valuation → Region → Valuation → State × State) : Type 0 where
     pub hold : HaveFewPartners basis → (s : SetId) (one two : Region) → Contains (regions_of basis s) one → Contains (regions_of basis s) two
-        → one.linked ≡ two.linked → (values others : Valuation) → IsAdmissible basis one values → IsAdmissible basis two others → values.part ≡ others.part
+        → one.linked ≡ two.linked → (values others : Valuation) → IsAdmissible basis outer one values → IsAdmissible basis outer two others → values.part ≡ others.part
+        → key_of basis.schema.model (focus_entity basis one values) ≡ key_of basis.schema.model (focus_entity basis two others)
         → HoldRivals basis one two values others (states one values two others).0 (states one values two others).1
 
   -- for a region that has one entity for each key alone, these states hold it or leave it out
   pub record LeavesOut (states : Region → Valuation → State × State) : Type 0 where
     pub leave : HaveFewPartners basis → (s : SetId) (region : Region) → Contains (regions_of basis s) region → HasOneEntityPerKey basis region
-        → (values : Valuation) → IsAdmissible basis region values → LeavesFocusOut basis region values (states region values).0 (states region values).1
+        → (values : Valuation) → IsAdmissible basis outer region values → LeavesFocusOut basis region values (states region values).0 (states region values).1

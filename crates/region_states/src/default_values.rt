@@ -14,7 +14,7 @@ ghost use Rattle.regions.specs.Patterns.{Valuation};
 ghost use Rattle.regions.specs.Regions.{regions_of};
 ghost use Rattle.regions.specs.declared.region.Region.{Region};
 ghost use Rattle.regions.specs.region_laws.IsBasis.{IsBasis};
-ghost use Rattle.region_states.specs.defaults.Admissible.{AreChoices, AreTwoChoices, DifferAt, HasSeveral, IsAdmissible, IsChoice};
+ghost use Rattle.region_states.specs.defaults.Admissible.{AreChoices, AreTwoChoices, DifferAt, HasNumberedKey, HasSeveral, IsAdmissible, IsChoice};
 ghost use Rattle.region_states.specs.defaults.Candidates.{AreTwoFree, first_free, next_free};
 ghost use Rattle.schema_laws.specs.short_values.Numbers.{number};
 ghost use Rattle.region_states.specs.defaults.Defaults.{alone, changed, default_valuation, one_value, other_value};
@@ -58,10 +58,12 @@ pub fn each_atom_has_a_value()
         → (value : Value) × Allows declared value × LiesIn (basis.constants (prop p)) atom value }
 {}
 
-/// The values that an entity of a region has where nothing else is said are admissible.
+/// The values that an entity of a region has where nothing else is said are admissible, with the numbers of any of the five rows; and the parts of its key
+/// are the first of the row.
 pub fn each_region_has_values()
     ensures values { (basis : Basis) → IsBasis basis → IsWithinLimits basis.schema → (s : SetId) (region : Region) → Contains (regions_of basis s) region
-        → IsAdmissible basis region (default_valuation basis region) }
+        → (outer : ℕ) → outer ≤ 4 → IsAdmissible basis outer region (default_valuation basis outer region) }
+    ensures keys { (basis : Basis) → IsBasis basis → (region : Region) (outer : ℕ) → HasNumberedKey basis outer region (default_valuation basis outer region) }
 {}
 
 /// What a property that may have several values may be, whatever the other values are: null if it is nullable, each value that is no constant, and
@@ -77,16 +79,19 @@ pub fn choices_are_told()
         → (value : Value) → IsShort value → IsOfSort declared.kind value → IsChoice basis region p value }
 {}
 
-/// A property that may have several values has two that aren't null, whatever the other values are; one value is changed alone, or several together.
+/// A property that may have several values has two that aren't null, whatever the other values are; one value is changed alone, or several together;
+/// and a numbered key stays as it is.
 pub fn properties_can_differ()
     ensures choices { (basis : Basis) → IsBasis basis → IsWithinLimits basis.schema → (s : SetId) (region : Region) → Contains (regions_of basis s) region
         → (p : PropId) (declared : Prop) (nullable : Bool) → HasSeveral basis region p declared nullable
         → AreTwoChoices basis region p (one_value basis p declared) (other_value basis p declared) }
     ensures alone { (basis : Basis) → IsBasis basis → (s : SetId) (region : Region) → Contains (regions_of basis s) region
-        → (values : Valuation) → IsAdmissible basis region values → (p : PropId) (one two : Value) → AreTwoChoices basis region p one two
-        → IsAdmissible basis region (changed values (alone p one)) × IsAdmissible basis region (changed values (alone p two))
+        → (outer : ℕ) (values : Valuation) → IsAdmissible basis outer region values → (p : PropId) (one two : Value) → AreTwoChoices basis region p one two
+        → IsAdmissible basis outer region (changed values (alone p one)) × IsAdmissible basis outer region (changed values (alone p two))
         × DifferAt values (changed values (alone p one)) (changed values (alone p two)) p }
     ensures together { (basis : Basis) → IsBasis basis → (s : SetId) (region : Region) → Contains (regions_of basis s) region
-        → (values : Valuation) → IsAdmissible basis region values → (changes : PropId → Option Value) → AreChoices basis region changes
-        → IsAdmissible basis region (changed values changes) }
+        → (outer : ℕ) (values : Valuation) → IsAdmissible basis outer region values → (changes : PropId → Option Value) → AreChoices basis region changes
+        → IsAdmissible basis outer region (changed values changes) }
+    ensures keys { (basis : Basis) (outer : ℕ) (region : Region) (values : Valuation) → HasNumberedKey basis outer region values
+        → (changes : PropId → Option Value) → AreChoices basis region changes → HasNumberedKey basis outer region (changed values changes) }
 {}

@@ -8,7 +8,7 @@ mod focus_laws;
 pub mod joined_laws;
 pub mod region_basis;
 
-ghost use Rattle.std.specs.Prelude.{◌≡◌, Contains, List};
+ghost use Rattle.std.specs.Prelude.{◌≡◌, ℕ, Contains, List};
 ghost use Rattle.round_trip.specs.Words.{ColId, Entity, EntityModel, IsLegal, PropId, SetId, State, TableId, Value, props_of, value_of};
 ghost use Rattle.cells.specs.Limits.{IsWithinLimits};
 ghost use Rattle.regions.specs.Basis.{Basis};
@@ -53,7 +53,7 @@ pub fn an_entity_has_its_values()
         (one : Symbol) → Lists (pattern_of basis (focus.Entity region)) t c one
         → value_under (by_entity basis.schema.model (focus_entity basis region values) values.part) one ≡ value_under values one }
     ensures admissible { (basis : Basis) → IsBasis basis → (s : SetId) (region : Region) → Contains (regions_of basis s) region → (values : Valuation)
-        → IsAdmissible basis region values → IsAdmissible basis region (by_entity basis.schema.model (focus_entity basis region values) values.part) }
+        → (outer : ℕ) → IsAdmissible basis outer region values → IsAdmissible basis outer region (by_entity basis.schema.model (focus_entity basis region values) values.part) }
 {}
 
 /// In a state that holds an entity of allowed values, the region holds it with the partners that are told; and it hosts few links.
@@ -69,11 +69,11 @@ pub fn lone_states_serve()
     ensures legal { (basis : Basis) → IsBasis basis → HasNoAssociationSets basis.schema.model → (s : SetId) (region : Region) → Contains (regions_of basis s) region
         → (values : Valuation) → IsAllowed basis region values → HoldsFocus basis region values (lone_focus basis region values) }
     ensures empty { (basis : Basis) → IsBasis basis → HasNoAssociationSets basis.schema.model → IsLegal basis.schema.model (empty_state basis.schema.model) }
-    ensures hosts { (basis : Basis) → IsBasis basis → HasNoAssociationSets basis.schema.model → HostsFocuses basis (lone_focus basis) }
-    ensures rivals { (basis : Basis) → IsBasis basis → HasNoAssociationSets basis.schema.model
-        → HostsRivals basis (λ one values two others. (lone_focus basis one values, lone_focus basis two others)) }
-    ensures leaves { (basis : Basis) → IsBasis basis → HasNoAssociationSets basis.schema.model
-        → LeavesOut basis (λ region values. (lone_focus basis region values, empty_state basis.schema.model)) }
+    ensures hosts { (basis : Basis) → IsBasis basis → HasNoAssociationSets basis.schema.model → (outer : ℕ) → HostsFocuses basis outer (lone_focus basis) }
+    ensures rivals { (basis : Basis) → IsBasis basis → HasNoAssociationSets basis.schema.model → (outer : ℕ)
+        → HostsRivals basis outer (λ one values two others. (lone_focus basis one values, lone_focus basis two others)) }
+    ensures leaves { (basis : Basis) → IsBasis basis → HasNoAssociationSets basis.schema.model → (outer : ℕ)
+        → LeavesOut basis outer (λ region values. (lone_focus basis region values, empty_state basis.schema.model)) }
     ensures small { (model : EntityModel) (s : SetId) (entity : Entity) → HasOneAtMost (lone_state model s entity) s entity × HasOneAtMost (empty_state model) s entity }
 {}
 

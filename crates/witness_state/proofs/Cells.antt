@@ -73,7 +73,7 @@ module _ (parts : Parts) (region : Region) (t : TableId) (c : ColId) where
         → IsFailureOf (schema_in parts) (shown_alone kind.Clash place (lone_focus basis region values))
     clash_fails place at =
         let shown : State = lone_focus basis region values in
-        let fails = fails_at basis first.is_basis first.are.limits (lone_focus basis) (lone_hosts basis first.is_basis first.alone) first.of_set region has t c one two
+        let fails = fails_at basis first.is_basis first.are.limits (lone_focus basis) (lone_hosts basis first.is_basis first.alone 0) first.of_set region has t c one two
         first.is_conflict.holds at.table at.column at.has_column at.pairing at.owned shown in
         let P : Place → Type 0 = λ p. FailsAt (schema_in parts) kind.Clash p shown shown in
         alone_is (schema_in parts) kind.Clash first.earlier (λ same. cc) place shown (subst P (sym at.place_is) fails)
@@ -88,7 +88,7 @@ module _ (parts : Parts) (region : Region) (t : TableId) (c : ColId) where
 
   module _ (one : Symbol) (first : IsFirstConflict parts (conflict.NullIn (focus.Entity region) t c one)) where
     abbrev usual : Valuation
-    usual = default_valuation basis region
+    usual = default_valuation basis 0 region
 
     abbrev listed : Contains (regions_of basis first.of_set) region
     listed = first.is_conflict.of_set
@@ -108,7 +108,7 @@ module _ (parts : Parts) (region : Region) (t : TableId) (c : ColId) where
         → IsFailureOf (schema_in parts) (shown_alone kind.Null place (lone_focus basis region usual))
     null_fails_there place at =
         let shown : State = lone_focus basis region usual in
-        let fails = null_fails basis first.is_basis first.are.limits (lone_focus basis) (lone_hosts basis first.is_basis first.alone)
+        let fails = null_fails basis first.is_basis first.are.limits (lone_focus basis) (lone_hosts basis first.is_basis first.alone 0)
         (first.earlier kind.Clash (omega (arith))) first.of_set region listed t c one
         first.is_conflict.holds at.table at.column at.has_column at.pairing at.owned shown in
         let P : Place → Type 0 = λ p. FailsAt (schema_in parts) kind.Null p shown shown in

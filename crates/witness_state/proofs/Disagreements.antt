@@ -30,7 +30,7 @@ module _ (parts : Parts) (region : Region) (fragment : List ℕ) (first : IsFirs
   basis = basis_of parts
 
   abbrev values : Valuation
-  values = default_valuation basis region
+  values = default_valuation basis 0 region
 
   abbrev shown : State
   shown = lone_focus basis region values
@@ -43,7 +43,7 @@ module _ (parts : Parts) (region : Region) (fragment : List ℕ) (first : IsFirs
   by_fragment : SomeDiffers basis region fragment → FailsWith fragment
   by_fragment (found, mapped, differs) =
       subst FailsWith differs.0
-      (fails basis first.is_basis first.are.limits (lone_focus basis) (lone_hosts basis first.is_basis first.alone) (first.earlier kind.Clash (omega (arith)))
+      (fails basis first.is_basis first.are.limits (lone_focus basis) (lone_hosts basis first.is_basis first.alone 0) (first.earlier kind.Clash (omega (arith)))
       first.of_set region first.is_conflict.of_set found mapped differs.1 shown)
 
   -- none of links does, since nothing is hosted

@@ -58,9 +58,9 @@ module _ (parts : Parts) where
   states told first clear = record {
     is_basis = first.is_basis;
     limits = first.are.limits;
-    hosts = lone_hosts basis first.is_basis first.alone;
-    rival = lone_rivals basis first.is_basis first.alone;
-    leaves = lone_leaves basis first.is_basis first.alone;
+    hosts = lone_hosts basis first.is_basis first.alone 0;
+    rival = lone_rivals basis first.is_basis first.alone 0;
+    leaves = lone_leaves basis first.is_basis first.alone 0;
     few = λ s host has assoc at. absurd (no_host basis first.is_basis first.alone s host has);
     no_clash = clear;
   }
@@ -109,11 +109,11 @@ module _ (parts : Parts) where
     }
 
     -- where there is none, the usual entity and none fail
-    pub absent_are : first_several basis region ≡ None → (entity : Entity) → entity ≡ focus_entity basis region (default_valuation basis region)
+    pub absent_are : first_several basis region ≡ None → (entity : Entity) → entity ≡ focus_entity basis region (default_valuation basis 0 region)
         → (other : State) → other ≡ empty_state (schema_in parts).model
         → IsFailureOf (schema_in parts) (shown_of (set_of first.of_set region first.is_conflict.of_set).0 region entity other)
     absent_are none =
         let set = set_of first.of_set region first.is_conflict.of_set in
-        shown_by (conflict.Absent region) first first.earlier set.0 region (default_valuation basis region) (empty_state (schema_in parts).model)
+        shown_by (conflict.Absent region) first first.earlier set.0 region (default_valuation basis 0 region) (empty_state (schema_in parts).model)
         (absent_fails basis (lone_focus basis) two_of with_empty (states (conflict.Absent region) first (first.earlier kind.Clash (omega (arith)))) first.of_set set.0
         set.2 region first.is_conflict.of_set first.is_conflict.holds none)

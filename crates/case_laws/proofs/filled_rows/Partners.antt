@@ -72,7 +72,7 @@ module _ (basis : Basis) (is : IsBasis basis) (state : State) (s : SetId) (entit
         ap (λ (h : Hosted). h.partner) by.seen ∙ ap (λ (h : Host). partner_key h.first_hosts by.link) same ∙ ap (partner_key host.first_hosts) alike
 
     value_told : (hosted : Hosted) → find of_assoc links ≡ Some hosted → TellsPartner basis host link parts
-    value_told hosted found assoc here p =
+    value_told hosted found assoc here p among =
         let first : Bool = if host.first_hosts then false else true in
         let of_link : Option Assoc → Hosted → Value = λ at one_of. option_map_or (λ other. value_beside p (key_props basis.schema.model (end_at first other).ty) one_of.partner) at Null in
         let passes = found_passes of_assoc links hosted found in

@@ -41,7 +41,7 @@ module _ (basis : Basis) (is : IsBasis basis) (limits : IsWithinLimits basis.sch
   pub readable : (region : Region) → Contains (regions_of basis s) region → IsReadable basis s region
   readable region listed = record {
     listed = listed;
-    clear = λ row has. row_clear basis is limits (lone_focus basis) (lone_hosts basis is none) (λ place c d. round kind.Clash place c d) s region listed row has;
+    clear = λ row has. row_clear basis is limits (lone_focus basis) (lone_hosts basis is none 0) (λ place c d. round kind.Clash place c d) s region listed row has;
     present = false_if (is_absent basis region) (λ absent. never_same (conflict.Absent region) (record { of_kind = refl; of_set = listed; holds = absent }));
     kept = λ p. false_if (is_lost basis region p) (λ lost. never_same (conflict.Lost region p) (record { of_kind = refl; of_set = listed; holds = lost }));
   }

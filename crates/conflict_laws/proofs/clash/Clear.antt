@@ -23,7 +23,7 @@ use Rattle.region_states.specs.Hosting.{HostsFocuses}
 use Rattle.conflict_laws.proofs.clash.Clashing.{Decides-clash}
 use Rattle.conflict_laws.proofs.clash.Fails.{fails_there}
 
-module _ (basis : Basis) (is : IsBasis basis) (limits : IsWithinLimits basis.schema) (state : Region → Valuation → State) (hosts : HostsFocuses basis state)
+module _ (basis : Basis) (is : IsBasis basis) (limits : IsWithinLimits basis.schema) (state : Region → Valuation → State) (hosts : HostsFocuses basis 0 state)
     (none : NoneFailsBy basis.schema kind.Clash) (s : SetId) (region : Region) (has : Contains (regions_of basis s) region) (row : PatternRow)
     (is_row : Contains (pattern_of basis (focus.Entity region)).rows row) where
   -- two symbols of a cell that can differ are a conflict

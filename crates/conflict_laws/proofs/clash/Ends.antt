@@ -119,12 +119,12 @@ module _ (basis : Basis) (is : IsBasis basis) (limits : IsWithinLimits basis.sch
         (omega (arith, inside, most), omega (arith, place, few))
 
     -- its value is the one that is numbered for it
-    numbered : (k : Kind) × (default_part basis a first p ≡ fresh k 0 (partner_key a.index (place_in p key)))
+    numbered : (k : Kind) × (default_part basis 0 a first p ≡ fresh k 0 (partner_key a.index (place_in p key)))
     numbered =
-        let is_key : IsKeyProp basis.schema.model p = key_prop basis.schema.model is.sound.model (end_at first end.assoc).ty p end.among in
-        let at : Assoc → Value = λ assoc. fresh_at basis.schema.model p (partner_key a.index (place_in p (key_props basis.schema.model (end_at first assoc).ty))) in (
+        let is_key : IsKeyProp basis.schema.model p = key_prop basis.schema.model is.sound.model p (end_at first end.assoc).ty end.among in
+        let at : Assoc → Value = λ assoc. fresh_at basis.schema.model 0 p (partner_key a.index (place_in p (key_props basis.schema.model (end_at first assoc).ty))) in (
           is_key.declared.kind,
-          ap (λ found. option_map_or at found Null) end.here ∙ fresh_is basis.schema.model p is_key.declared is_key.is_declared (partner_key a.index (place_in p key)),
+          ap (λ found. option_map_or at found Null) end.here ∙ fresh_is basis.schema.model p is_key.declared is_key.is_declared 0 (partner_key a.index (place_in p key)),
         )
 
   -- ends with one number are one: they are of one association, at one end, and of one property
@@ -158,7 +158,7 @@ module _ (basis : Basis) (is : IsBasis basis) (limits : IsWithinLimits basis.sch
   -- two ends have different values
   pub ends_differ : (a b : AssocId) (first second : Bool) (p q : PropId) → Lists (pattern_of basis (focus.Entity region)) t c (symbol.End a first p)
       → Lists (pattern_of basis (focus.Entity region)) t c (symbol.End b second q) → symbol.End a first p ≢ symbol.End b second q
-      → default_part basis a first p ≢ default_part basis b second q
+      → default_part basis 0 a first p ≢ default_part basis 0 b second q
   ends_differ a b first second p q lists_one lists_two different alike =
       let one : IsEnd a first p = listed_end a first p lists_one in
       let two : IsEnd b second q = listed_end b second q lists_two in

@@ -32,7 +32,7 @@ use Rattle.conflict_laws.specs.clash.ClashValues.{clash_values}
 use Rattle.conflict_laws.proofs.clash.Clashing.{Decides-clash, IsClash}
 use Rattle.conflict_laws.proofs.clash.Values.{values_differ}
 
-module _ (basis : Basis) (is : IsBasis basis) (limits : IsWithinLimits basis.schema) (state : Region → Valuation → State) (hosts : HostsFocuses basis state) (s : SetId) where
+module _ (basis : Basis) (is : IsBasis basis) (limits : IsWithinLimits basis.schema) (state : Region → Valuation → State) (hosts : HostsFocuses basis 0 state) (s : SetId) where
   module _ (region : Region) (has : Contains (regions_of basis s) region) (t : TableId) (c : ColId) (one two : Symbol)
       (told : IsTrue (is_clash basis (focus.Entity region) t c one two)) where
     abbrev values : Valuation
@@ -48,7 +48,7 @@ module _ (basis : Basis) (is : IsBasis basis) (limits : IsWithinLimits basis.sch
     clash = (Decides-clash basis (focus.Entity region) t c one two).0 told
 
     -- the chosen values make the symbols differ
-    chosen : IsAdmissible basis region values × (value_under values one ≢ value_under values two)
+    chosen : IsAdmissible basis 0 region values × (value_under values one ≢ value_under values two)
     chosen = values_differ basis is limits s region has t c one two told
 
     -- so the state holds an entity of them, and the region holds this with its partners

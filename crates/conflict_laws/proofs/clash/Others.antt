@@ -1,5 +1,5 @@
 -- Other values of a property that may have several: they are admissible, and by one of two of them the property differs from each other symbol.
-use Rattle.std.proofs.Common.{◌≡◌, ◌≢◌, ⊎_elim, List, [], ◌∷◌, Contains, Option, Bool, refl, sym, ap, subst, ◌∙◌}
+use Rattle.std.proofs.Common.{◌≡◌, ◌≢◌, ⊎_elim, List, [], ◌∷◌, Contains, Option, Bool, refl, sym, ap, subst, ◌∙◌, arith}
 use Rattle.std.specs.Option.{option_map_or}
 use Rattle.emc_base.proofs.Numbered.{map_contains}
 use Rattle.round_trip.specs.Words.{SetId, TableId, ColId, PropId, Pair, Prop, key_columns}
@@ -49,7 +49,7 @@ clash_no_key basis is s region has t c one two clash key =
 module _ (basis : Basis) (is : IsBasis basis) (limits : IsWithinLimits basis.schema) (s : SetId) (region : Region) (has : Contains (regions_of basis s) region)
     (t : TableId) (c : ColId) (no_key : ¬ Contains (key_columns basis.schema.store t) c) where
   abbrev usual : Valuation
-  usual = default_valuation basis region
+  usual = default_valuation basis 0 region
 
   module _ (p : PropId) (nullable : Bool) (lists : Lists (pattern_of basis (focus.Entity region)) t c (symbol.Prop p))
       (several : possible basis.schema.model region.atoms (symbol.Prop p) ≡ multi nullable) where
@@ -79,8 +79,8 @@ module _ (basis : Basis) (is : IsBasis basis) (limits : IsWithinLimits basis.sch
     with_other = changed usual (alone p (other_value basis p declared))
 
     -- both are admissible, and differ in the property alone
-    both : IsAdmissible basis region with_one × IsAdmissible basis region with_other × DifferAt usual with_one with_other p
-    both = differ_at basis is s region has usual (default_admissible basis is limits s region has) p (one_value basis p declared) (other_value basis p declared)
+    both : IsAdmissible basis 0 region with_one × IsAdmissible basis 0 region with_other × DifferAt usual with_one with_other p
+    both = differ_at basis is s region has 0 usual (default_admissible basis is limits s region has 0 (omega arith)) p (one_value basis p declared) (other_value basis p declared)
         (two_choices basis is s region has p declared nullable has_several.1 limits)
 
     -- these are the other values that are tried
@@ -120,24 +120,24 @@ module _ (basis : Basis) (is : IsBasis basis) (limits : IsWithinLimits basis.sch
 
     -- and they are admissible
     others_admissible : (values : Valuation) → Contains (with_others basis region (symbol.Prop p) (possible basis.schema.model region.atoms (symbol.Prop p))) values
-        → IsAdmissible basis region values
+        → IsAdmissible basis 0 region values
     others_admissible values there = ⊎_elim
-        (λ (here : values ≡ with_one). subst (IsAdmissible basis region) (sym here) both.0)
+        (λ (here : values ≡ with_one). subst (IsAdmissible basis 0 region) (sym here) both.0)
         (λ (later : Contains (with_other ∷ []) values). ⊎_elim
-        (λ (here : values ≡ with_other). subst (IsAdmissible basis region) (sym here) both.1)
+        (λ (here : values ≡ with_other). subst (IsAdmissible basis 0 region) (sym here) both.1)
         (λ (none : Contains [] values). absurd (none_in_nil values none))
         (member_cases with_other [] values later))
         (member_cases with_one (with_other ∷ []) values (subst (λ list. Contains list values) others_are there))
 
   -- all other values that are tried for a symbol are admissible
   pub with_others_admissible : (one : Symbol) → Lists (pattern_of basis (focus.Entity region)) t c one → (values : Valuation)
-      → Contains (with_others basis region one (possible basis.schema.model region.atoms one)) values → IsAdmissible basis region values
+      → Contains (with_others basis region one (possible basis.schema.model region.atoms one)) values → IsAdmissible basis 0 region values
   with_others_admissible symbol.Null lists values there = absurd (none_in_nil values there)
   with_others_admissible (symbol.Const v) lists values there = absurd (none_in_nil values there)
   with_others_admissible (symbol.End a first p) lists values there = absurd (none_in_nil values there)
   with_others_admissible (symbol.Prop p) lists values there = by (possible basis.schema.model region.atoms (symbol.Prop p)) refl
     where
-      by : (can : Possible) → possible basis.schema.model region.atoms (symbol.Prop p) ≡ can → IsAdmissible basis region values
+      by : (can : Possible) → possible basis.schema.model region.atoms (symbol.Prop p) ≡ can → IsAdmissible basis 0 region values
       by (multi nullable) several = others_admissible p nullable lists several values there
       by (single v) one =
           let others : Possible → List Valuation = with_others basis region (symbol.Prop p) in

@@ -1,5 +1,5 @@
 -- The keys of an entity's partners: of a link that it hosts where there is one, else the usual ones. An entity that hosts few links has them.
-use Rattle.std.proofs.Common.{◌≡◌, ⊎_elim, inl, inr, ◌==◌, List, [], ◌∷◌, find, slice_get, if◌then◌else◌, Bool, true, false, not, Contains, refl, sym, ap, subst, ◌∙◌}
+use Rattle.std.proofs.Common.{◌≡◌, ⊎_elim, inl, inr, ◌==◌, List, [], ◌∷◌, find, slice_get, if◌then◌else◌, Bool, true, false, not, Contains, refl, sym, ap, subst, ◌∙◌, arith}
 use Rattle.std.specs.Option.{option_map_or}
 use Rattle.std.proofs.lemmas.List.Elements.{All-contains}
 use Rattle.emc_base.proofs.Numbered.{filter_contains}
@@ -41,7 +41,7 @@ module _ (basis : Basis) (state : State) (s : SetId) (entity : Entity) where
 
   -- a part of a key at an end of the first of these links, or the usual one where there is none
   abbrev part_or : AssocId → Bool → PropId → List Link → Value
-  part_or a first p [] = default_part basis a first p
+  part_or a first p [] = default_part basis 0 a first p
   part_or a first p (link ∷ links) = option_map_or (λ assoc. (by_link basis.schema.model assoc link).part a first p) (slice_get basis.schema.model.assocs a.index) Null
 
   abbrev pub told_part : AssocId → Bool → PropId → Value
@@ -58,7 +58,7 @@ module _ (basis : Basis) (state : State) (s : SetId) (entity : Entity) where
         (λ other has passes. one_host basis is s other host has hosts ((Decides-assoc other.assoc host.assoc).0 passes)))
 
     -- without a link it is the usual one
-    usual_told : links ≡ [] → (first : Bool) (p : PropId) → told_part host.assoc first p ≡ default_part basis host.assoc first p
+    usual_told : links ≡ [] → (first : Bool) (p : PropId) → told_part host.assoc first p ≡ default_part basis 0 host.assoc first p
     usual_told none first p = ap (part_or host.assoc first p) (hosted_are ∙ none)
 
     -- with one it is the link's
@@ -70,7 +70,7 @@ module _ (basis : Basis) (state : State) (s : SetId) (entity : Entity) where
 
     -- the parts are those of the partner of each link that the entity hosts, where it hosts few
     tells_partner : HasFewLinks basis state s entity → (link : Link) → Contains links link → TellsPartner basis host link told_part
-    tells_partner few link has assoc here p = by links refl
+    tells_partner few link has assoc here p among = by links refl
       where
         of_link : (first_hosts : Bool) → (by_link basis.schema.model assoc link).part host.assoc (if first_hosts then false else true) p
             ≡ value_beside p (key_props basis.schema.model (partner_end first_hosts assoc).ty) (partner_key first_hosts link)
@@ -118,7 +118,7 @@ module _ (basis : Basis) (is : IsBasis basis) (limits : IsWithinLimits basis.sch
         by [] none =
             let P : Value → Type 0 = λ value. InDomain value declared.kind in
             subst P (sym (usual_told basis state s entity is host hosts_here none (not host.first_hosts) p))
-            ((default_admissible basis is limits s region of.listed).allowed.parts host assoc is_host linked here p declared key is_declared)
+            ((default_admissible basis is limits s region of.listed 0 (omega arith)).allowed.parts host assoc is_host linked here p declared key is_declared)
         by (link ∷ rest) some =
             let at_key = λ (one : Link). same_key (host_key host.first_hosts one) (key_of basis.schema.model entity) in
             let stands = (filter_contains at_key (links_in state host.assoc) link (subst (λ list. Contains list link) (sym some) (head_stands link rest))).0 in

@@ -1,5 +1,5 @@
 -- The values by which two symbols that clash differ.
-use Rattle.std.proofs.Common.{◌≡◌, ◌≢◌, ⊎_elim, List, ◌++◌, Contains, Bool, true≢false, IsTrue, refl, sym, subst, ◌∙◌}
+use Rattle.std.proofs.Common.{◌≡◌, ◌≢◌, ⊎_elim, List, ◌++◌, Contains, Bool, true≢false, IsTrue, refl, sym, subst, ◌∙◌, arith}
 use Rattle.std.proofs.lemmas.Bool.Decides.{Decides-not}
 use Rattle.std.proofs.lemmas.List.Elements.{Contains-append_cases, Contains-append_left, Contains-append_right}
 use Rattle.round_trip.specs.Words.{SetId, TableId, ColId, AssocId, PropId, Value, Null, key_columns}
@@ -53,11 +53,11 @@ module _ (basis : Basis) (is : IsBasis basis) (limits : IsWithinLimits basis.sch
   Listed one = Lists (pattern_of basis (focus.Entity region)) t c one
 
   abbrev usual : Valuation
-  usual = default_valuation basis region
+  usual = default_valuation basis 0 region
 
   -- the usual value of a symbol is one that is possible
   usual_can : (one : Symbol) → Listed one → CanBe (possible basis.schema.model region.atoms one) (value_under usual one)
-  usual_can one lists = symbol_possible basis is (focus.Entity region) (s, has) usual (default_admissible basis is limits s region has).allowed t c one lists
+  usual_can one lists = symbol_possible basis is (focus.Entity region) (s, has) usual (default_admissible basis is limits s region has 0 (omega arith)).allowed t c one lists
 
   -- and the only one where only one is
   usual_is : (one : Symbol) → Listed one → (v : Value) → possible basis.schema.model region.atoms one ≡ single v → value_under usual one ≡ v
@@ -89,9 +89,9 @@ module _ (basis : Basis) (is : IsBasis basis) (limits : IsWithinLimits basis.sch
         (values, tail_stands usual (others one ++ others two) values (Contains-append_right (others one) (others two) values there), λ same. different (sym same))
 
     -- all values that are tried are admissible
-    tried_admissible : (values : Valuation) → Contains tried values → IsAdmissible basis region values
+    tried_admissible : (values : Valuation) → Contains tried values → IsAdmissible basis 0 region values
     tried_admissible values there = ⊎_elim
-        (λ (here : values ≡ usual). subst (IsAdmissible basis region) (sym here) (default_admissible basis is limits s region has))
+        (λ (here : values ≡ usual). subst (IsAdmissible basis 0 region) (sym here) (default_admissible basis is limits s region has 0 (omega arith)))
         (λ (later : Contains (others one ++ others two) values). ⊎_elim
         (λ (first : Contains (others one) values). with_others_admissible basis is limits s region has t c no_key one clash.lists_one values first)
         (λ (second : Contains (others two) values). with_others_admissible basis is limits s region has t c no_key two clash.lists_two values second)
@@ -132,7 +132,7 @@ module _ (basis : Basis) (is : IsBasis basis) (limits : IsWithinLimits basis.sch
 
   -- the first such values are chosen
   pub values_differ : (one two : Symbol) → IsTrue (is_clash basis (focus.Entity region) t c one two)
-      → IsAdmissible basis region (clash_values basis region one two)
+      → IsAdmissible basis 0 region (clash_values basis region one two)
       × (value_under (clash_values basis region one two) one ≢ value_under (clash_values basis region one two) two)
   values_differ one two told =
       let clash : IsClash basis (focus.Entity region) t c one two = (Decides-clash basis (focus.Entity region) t c one two).0 told in

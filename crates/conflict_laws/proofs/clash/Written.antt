@@ -1,7 +1,7 @@
 -- What a state demands of an entity's row is listed by the pattern of its region, where each link that it hosts is flagged.
 use Rattle.std.proofs.Common.{◌≡◌, inl, inr, ◌==◌, ◌&&◌, List, [], append-nil, map, filter, flat_map, if◌then◌else◌, All, Contains, Bool, true, false, IsTrue, refl, sym, ap, subst, ◌∙◌}
 use Rattle.std.proofs.lemmas.Bool.Decides.{Decides-eqb}
-use Rattle.std.proofs.lemmas.List.Elements.{All-contains, Contains-append_left, Contains-append_right}
+use Rattle.std.proofs.lemmas.List.Elements.{Contains-append_left, Contains-append_right}
 use Rattle.emc_base.proofs.Lists.{all_from_members}
 use Rattle.emc_base.proofs.Mapped.{contains_filter, contains_map}
 use Rattle.round_trip.specs.Words.{SetId, TypeId, TableId, ColId, AssocId, PropId, Value, Assoc, DemandsCell, Entity, Fragment, Hosted, IsLegal, Link, LinkFragment, Pair, State, Writing, At, IsA, key_of, key_props, links_in, value_beside, value_of}
@@ -16,6 +16,7 @@ use Rattle.schema_laws.proofs.state_demand.owners.Owners.{beside_map}
 use Rattle.schema_laws.proofs.state_demand.writings.Selecting.{Decides-key}
 use Rattle.schema_laws.proofs.sound_demand.Fitting.{sound_link}
 use Rattle.schema_laws.proofs.sound_demand.Keys.{inherits_keys}
+use Rattle.schema_laws.proofs.sound_demand.owners.Pairing.{written_part}
 use Rattle.regions.specs.declared.region.Region.{Region}
 use Rattle.regions.specs.declared.pattern.Focus.TheVariants as focus
 use Rattle.regions.specs.Basis.{Basis, Host, host_end, host_key, partner_end, partner_key}
@@ -73,15 +74,20 @@ module _ (basis : Basis) (is : IsBasis basis) (fragment : LinkFragment) (mapped 
   end_key true = (sound_link basis.schema is.sound fragment mapped assoc here).first
   end_key false = (sound_link basis.schema is.sound fragment mapped assoc here).second
 
-  -- which is that of each entity of the end's type
+  -- and the pairs at the other end the key of the partner
+  partner_part : (b : Bool) (pair : Pair) → Contains (pairs_beyond b fragment) pair → Contains (key_props basis.schema.model (partner_end b assoc).ty) pair.prop
+  partner_part true pair has =
+      written_part basis.schema is.sound assoc.second.ty fragment.second (sound_link basis.schema is.sound fragment mapped assoc here).second pair has
+  partner_part false pair has =
+      written_part basis.schema is.sound assoc.first.ty fragment.first (sound_link basis.schema is.sound fragment mapped assoc here).first pair has
+
+  -- the key here is that of each entity of the end's type
   own_part : (entity : Entity) (b : Bool) → IsA basis.schema.model entity.ty (host_end b assoc).ty → (pair : Pair) → Contains (pairs_at b fragment) pair
       → value_of basis.schema.model entity pair.prop ≡ value_beside pair.prop (key_props basis.schema.model (host_end b assoc).ty) (key_of basis.schema.model entity)
   own_part entity b under pair has =
       let end : TypeId = (host_end b assoc).ty in
       let keys : key_props basis.schema.model entity.ty ≡ key_props basis.schema.model end = (inherits_keys basis.schema.model is.sound.model).same entity.ty end under in
-      let in_key : Contains (key_props basis.schema.model end) pair.prop =
-      All-contains (Contains (key_props basis.schema.model end)) (map (λ (one : Pair). one.prop) (pairs_at b fragment)) pair.prop (end_key b).only
-      (contains_map (λ (one : Pair). one.prop) (pairs_at b fragment) pair has) in
+      let in_key : Contains (key_props basis.schema.model end) pair.prop = written_part basis.schema is.sound end (pairs_at b fragment) (end_key b) pair has in
       let in_own : Contains (key_props basis.schema.model entity.ty) pair.prop = subst (λ props. Contains props pair.prop) (sym keys) in_key in
       sym (ap (λ props. value_beside pair.prop props (key_of basis.schema.model entity)) (sym keys)
       ∙ beside_map (value_of basis.schema.model entity) (key_props basis.schema.model entity.ty) pair.prop in_own)
@@ -157,7 +163,8 @@ module _ (basis : Basis) (is : IsBasis basis) (state : State) (s : SetId) (entit
 
     other_told : All (TellsOther host.first_hosts) (pairs_beyond host.first_hosts by.fragment)
     other_told = all_from_members (TellsOther host.first_hosts) (pairs_beyond host.first_hosts by.fragment) (λ pair has.
-        ap (λ a. part a partner_hosts pair.prop) by.of_assoc ∙ has_told.told host by.hosts by.link here by.assoc at_host pair.prop)
+        ap (λ a. part a partner_hosts pair.prop) by.of_assoc ∙ has_told.told host by.hosts by.link here by.assoc at_host pair.prop
+        (partner_part basis is by.fragment by.writes.mapped by.assoc by.writes.is_assoc host.first_hosts pair has))
 
     ends_told : (b : Bool) → All (TellsOwn b) (pairs_at b by.fragment) → All (TellsOther b) (pairs_beyond b by.fragment)
         → TellsEnd basis.schema.model values by.fragment.assoc true b by.assoc.first.ty by.fragment.first by.link.first

@@ -1,5 +1,5 @@
 -- Where a fragment and a region disagree, so do the fragment and the state that is shown for the region.
-use Rattle.std.proofs.Common.{◌≡◌, ⊎_elim, inl, inr, ◌==◌, List, [], Bool, Contains, IsTrue, refl, subst, ◌∙◌}
+use Rattle.std.proofs.Common.{◌≡◌, ⊎_elim, inl, inr, ◌==◌, List, [], Bool, Contains, IsTrue, refl, subst, ◌∙◌, arith}
 use Rattle.std.proofs.lemmas.Bool.{and_parts}
 use Rattle.std.proofs.lemmas.Bool.Decides.{Decides-eqb}
 use Rattle.round_trip.specs.Words.{SetId, TableId, Entity, FailsAt, Fragment, IsLegal, LinkFragment, Pair, State, Table, Tables, At, key_of, place_at}
@@ -43,7 +43,7 @@ use Rattle.conflict_laws.proofs.disagreement.OneOnly.{one_is_so}
 use Rattle.conflict_laws.proofs.disagreement.PatternRows.{linked_row, selected_row, shown_row}
 use Rattle.conflict_laws.proofs.disagreement.Deciding.{Decides-disagrees, Decides-hosted, SomeDiffers, SomeLinksDiffer}
 
-module _ (basis : Basis) (is : IsBasis basis) (limits : IsWithinLimits basis.schema) (state : Region → Valuation → State) (hosts : HostsFocuses basis state)
+module _ (basis : Basis) (is : IsBasis basis) (limits : IsWithinLimits basis.schema) (state : Region → Valuation → State) (hosts : HostsFocuses basis 0 state)
     (none : NoneFailsBy basis.schema kind.Clash) where
   -- no legal state clashes, and so each has tables
   pub stored : (c : State) → IsLegal basis.schema.model c → IsStoredIn basis.schema c (tables_for basis.schema c)
@@ -54,7 +54,7 @@ module _ (basis : Basis) (is : IsBasis basis) (limits : IsWithinLimits basis.sch
 
   module _ (s : SetId) (region : Region) (has : Contains (regions_of basis s) region) where
     abbrev values : Valuation
-    values = default_valuation basis region
+    values = default_valuation basis 0 region
 
     abbrev c : State
     c = state region values
@@ -66,8 +66,8 @@ module _ (basis : Basis) (is : IsBasis basis) (limits : IsWithinLimits basis.sch
     entity = focus_entity basis region values
 
     -- the usual values are admissible, so the state holds the entity
-    admissible : IsAdmissible basis region values
-    admissible = default_admissible basis is limits s region has
+    admissible : IsAdmissible basis 0 region values
+    admissible = default_admissible basis is limits s region has 0 (omega arith)
 
     holds : HoldsFocus basis region values c
     holds = hosts.holds s region has values admissible
@@ -123,7 +123,7 @@ module _ (basis : Basis) (is : IsBasis basis) (limits : IsWithinLimits basis.sch
 
       -- so the state fails there
       pub fails : (d : State) → FailsAt basis.schema kind.Disagrees
-          (place_at fragment.place (key_of basis.schema.model (focus_entity basis region (default_valuation basis region))) []) (state region (default_valuation basis region)) d
+          (place_at fragment.place (key_of basis.schema.model (focus_entity basis region (default_valuation basis 0 region))) []) (state region (default_valuation basis 0 region)) d
       fails d = record { legal = holds.legal; fails = disagrees }
 
       -- and that is a failure of the set

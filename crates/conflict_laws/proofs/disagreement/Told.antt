@@ -42,7 +42,7 @@ use Rattle.conflict_laws.proofs.disagreement.Deciding.{Decides-disagrees, Decide
 use Rattle.conflict_laws.proofs.disagreement.Differing.{entity_differs, host_differs}
 use Rattle.conflict_laws.proofs.disagreement.Places.{no_fragment, one_fragment, one_link_fragment}
 
-module _ (basis : Basis) (is : IsBasis basis) (limits : IsWithinLimits basis.schema) (state : Region → Valuation → State) (hosts : HostsFocuses basis state)
+module _ (basis : Basis) (is : IsBasis basis) (limits : IsWithinLimits basis.schema) (state : Region → Valuation → State) (hosts : HostsFocuses basis 0 state)
     (none : NoneFailsBy basis.schema kind.Clash) (s : SetId) (few : HasFewPartners basis s) where
   abbrev SomeConflict : Type 0
   SomeConflict = (one : Conflict) × IsConflictAt basis s kind.Disagrees one

@@ -1,5 +1,5 @@
 -- A symbol that can be null, or none, in a column that isn't nullable: the state with the usual entity of the region fails there.
-use Rattle.std.proofs.Common.{◌≡◌, List, Contains, false, IsTrue, refl, subst, ◌∙◌}
+use Rattle.std.proofs.Common.{◌≡◌, List, Contains, false, IsTrue, refl, subst, ◌∙◌, arith}
 use Rattle.std.proofs.lemmas.Bool.{and_parts}
 use Rattle.std.proofs.lemmas.List.Elements.{All-contains}
 use Rattle.emc_base.proofs.Mapped.{contains_at}
@@ -40,11 +40,11 @@ use Rattle.conflict_laws.proofs.null.Listed.{Decides-row}
 use Rattle.conflict_laws.proofs.null.Nulls.{default_null, stands_listed}
 use Rattle.conflict_laws.proofs.null.Required.{required_there, told_needed}
 
-module _ (basis : Basis) (is : IsBasis basis) (limits : IsWithinLimits basis.schema) (state : Region → Valuation → State) (hosts : HostsFocuses basis state)
+module _ (basis : Basis) (is : IsBasis basis) (limits : IsWithinLimits basis.schema) (state : Region → Valuation → State) (hosts : HostsFocuses basis 0 state)
     (none : NoneFailsBy basis.schema kind.Clash) where
   module _ (s : SetId) (region : Region) (has : Contains (regions_of basis s) region) where
     abbrev values : Valuation
-    values = default_valuation basis region
+    values = default_valuation basis 0 region
 
     abbrev usual : State
     usual = state region values
@@ -58,8 +58,8 @@ module _ (basis : Basis) (is : IsBasis basis) (limits : IsWithinLimits basis.sch
     abbrev key_by : List Pair → List Value
     key_by pairing = paired_key basis.schema.model pairing entity
 
-    admissible : IsAdmissible basis region values
-    admissible = default_admissible basis is limits s region has
+    admissible : IsAdmissible basis 0 region values
+    admissible = default_admissible basis is limits s region has 0 (omega arith)
 
     in_state : HoldsFocus basis region values usual
     in_state = hosts.holds s region has values admissible

@@ -1,5 +1,5 @@
 -- Which symbols stand for null in a cell, and that those which can be null are so where nothing else is said.
-use Rattle.std.proofs.Common.{◌≡◌, ◌⊎◌, ⊎_elim, inl, inr, ◌&&◌, List, [], ◌∷◌, Contains, Bool, true, true≢false, if◌then◌else◌, Option, Some, None, IsTrue, refl, sym, ap, subst, ◌∙◌}
+use Rattle.std.proofs.Common.{◌≡◌, ◌⊎◌, ⊎_elim, inl, inr, ◌&&◌, List, [], ◌∷◌, Contains, Bool, true, true≢false, if◌then◌else◌, Option, Some, None, IsTrue, refl, sym, ap, subst, ◌∙◌, arith}
 use Rattle.std.specs.Option.{option_map_or}
 use Rattle.std.proofs.lemmas.Bool.{and_parts, cond_both}
 use Rattle.emc_base.proofs.Lists.{at_once}
@@ -71,22 +71,22 @@ module _ (basis : Basis) (is : IsBasis basis) where
     -- a nullable property is no part of the key
     no_key : ¬ Contains keys p
     no_key key =
-        let is_key : IsKeyProp basis.schema.model p = key_prop basis.schema.model is.sound.model region.ty p key in
+        let is_key : IsKeyProp basis.schema.model p = key_prop basis.schema.model is.sound.model p region.ty key in
         let same : is_key.declared ≡ declared = at_once basis.schema.model.props p.index is_key.declared declared is_key.is_declared here in
         true≢false (sym nullable ∙ sym (ap (λ (one : Prop). one.nullable) same) ∙ is_key.needed)
 
     -- and it is null where nothing is told of it
     null_by : (found : Option Atom) → option_map_or of_atom found (multi (is_nullable basis.schema.model p)) ≡ multi true
-        → value_by basis region.ty p declared found ≡ Null
-    null_by None several = ap (λ (b : Bool). if b then Null else some_value basis region.ty p declared) nullable
+        → value_by basis 0 region.ty p declared found ≡ Null
+    null_by None several = ap (λ (b : Bool). if b then Null else some_value basis 0 region.ty p declared) nullable
     null_by (Some atom.Null) several = cc
     null_by (Some (atom.Is one)) several = cc
     null_by (Some atom.Other) several = cc
 
-    several_null : possible basis.schema.model region.atoms (symbol.Prop p) ≡ multi true → default_value basis region p ≡ Null
+    several_null : possible basis.schema.model region.atoms (symbol.Prop p) ≡ multi true → default_value basis 0 region p ≡ Null
     several_null several =
-        ap (λ found. option_map_or (declared_value basis region p) found Null) here
-        ∙ cond_both (is_among p keys) (fresh declared.kind 0 (focus_key (place_in p keys))) (value_by basis region.ty p declared (atom_at region.atoms p))
+        ap (λ found. option_map_or (declared_value basis 0 region p) found Null) here
+        ∙ cond_both (is_among p keys) (fresh declared.kind 0 (focus_key (place_in p keys))) (value_by basis 0 region.ty p declared (atom_at region.atoms p))
         (λ value. value ≡ Null)
         (λ told. absurd (no_key ((Decides-among keys p).0 told)))
         (λ told. null_by (atom_at region.atoms p) several)
@@ -94,9 +94,9 @@ module _ (basis : Basis) (is : IsBasis basis) where
   -- a listed symbol that can be null is null where nothing else is said
   pub default_null : IsWithinLimits basis.schema → (s : SetId) (region : Region) → Contains (regions_of basis s) region → (t : TableId) (col : ColId) (one : Symbol)
       → Lists (pattern_of basis (focus.Entity region)) t col one → IsTrue (can_be_null (possible basis.schema.model region.atoms one))
-      → value_under (default_valuation basis region) one ≡ Null
+      → value_under (default_valuation basis 0 region) one ≡ Null
   default_null limits s region has t col one lists told =
-      let values : Valuation = default_valuation basis region in
+      let values : Valuation = default_valuation basis 0 region in
       let can : Possible = possible basis.schema.model region.atoms one in
       let Several : Symbol → Type 0 = λ other. possible basis.schema.model region.atoms other ≡ multi true in
       ⊎_elim
@@ -105,4 +105,4 @@ module _ (basis : Basis) (is : IsBasis basis) where
       let found = null_of_nullable basis.schema.model region.atoms one several in
       ap (value_under values) found.2 ∙ several_null region found.0 found.1 found.3 found.4 (subst Several found.2 several))
       (null_or_several can (value_under values one) told
-      (symbol_possible basis is (focus.Entity region) (s, has) values (default_admissible basis is limits s region has).allowed t col one lists))
+      (symbol_possible basis is (focus.Entity region) (s, has) values (default_admissible basis is limits s region has 0 (omega arith)).allowed t col one lists))

@@ -68,7 +68,7 @@ module _ (basis : Basis) (is : IsBasis basis) where
 
   module _ (s : SetId) (one two region other : Region) (comparable : AreComparable basis s region other) (matched : AreMatched basis region other) where
     abbrev values : Valuation
-    values = changed (default_valuation basis region) (rival_value basis one two region other)
+    values = changed (default_valuation basis 0 region) (rival_value basis one two region other)
 
     module _ (t : TableId) (c : ColId) (cell cell_too : List Symbol) (has : HasCell (pattern_of basis (focus.Entity region)) t c cell)
         (has_too : HasCell (pattern_of basis (focus.Entity other)) t c cell_too) where
@@ -92,7 +92,7 @@ module _ (basis : Basis) (is : IsBasis basis) where
               listed = listed;
               null = ap (settle model other.atoms) (listed_is basis other t c cell_too has_too) ∙ settled;
             } in
-            ap (λ found. unwrap_or found (default_value basis region p))
+            ap (λ found. unwrap_or found (default_value basis 0 region p))
             (rival_null basis one two region other p n (rival (nullable_no_key region p declared here nullable)) (faces_by basis region other p faces))
 
         -- where it isn't, the property faces null nowhere
@@ -117,7 +117,7 @@ module _ (basis : Basis) (is : IsBasis basis) where
         pub group_value : StandsFree basis t c p → (q : Symbol) (m : Bool) → settle model other.atoms cell_too ≡ free q m
             → (declared : Prop) → At model.props p.index declared → values.prop p ≡ shared_value basis one two p declared
         group_value stands q m settled declared here =
-            ap (λ found. unwrap_or found (default_value basis region p))
+            ap (λ found. unwrap_or found (default_value basis 0 region p))
             (rival_shared basis one two region other p n (rival (free_no_key region p stands.free_prop)) (faces_none stands q m settled) declared here)
 
         -- it is of no enumeration, where another property is in its group
@@ -151,7 +151,7 @@ module _ (basis : Basis) (is : IsBasis basis) where
       pub faced : IsWithinLimits basis.schema → (v : Value) → settle model other.atoms cell_too ≡ known v → (one_symbol : Symbol) (n : Bool)
           → settle model region.atoms cell ≡ free one_symbol n → value_in values cell ≡ v
       faced limits v settled one_symbol n settled_here =
-          let admissible : IsAdmissible basis region values = rival_admissible basis is s one two limits region other comparable matched in
+          let admissible : IsAdmissible basis 0 region values = rival_admissible basis is s one two limits region other comparable matched in
           let told = free_value basis region comparable.clear_one t c cell has is s comparable.is_one values admissible.allowed one_symbol n settled_here in
           let Compatible : Settled → Settled → Type 0 = λ first second. are_compatible first second ≡ true in
           let match : Compatible (free one_symbol n) (known v) =

@@ -1,10 +1,10 @@
 -- The values by which entities of two regions are written alike: which they are, that they are admissible, and that the keys are one.
-use Rattle.std.proofs.Common.{◌≡◌, ◌⊎◌, ⊎_elim, inl, inr, ◌&&◌, List, slice_get, unwrap_or, Contains, Option, Some, None, Bool, true, false, not, if◌then◌else◌, refl, sym, ap, subst, ◌∙◌}
+use Rattle.std.proofs.Common.{◌≡◌, ◌⊎◌, ⊎_elim, inl, inr, ◌&&◌, List, slice_get, unwrap_or, Contains, Option, Some, None, Bool, true, false, not, if◌then◌else◌, refl, sym, ap, subst, ◌∙◌, arith, map}
 use Rattle.std.specs.Option.{option_map_or}
 use Rattle.std.proofs.lemmas.Bool.{and_from, and_parts, cond-false, cond-true, cond_both}
 use Rattle.std.proofs.lemmas.Bool.Decides.{Decides-not}
 use Rattle.std.proofs.lemmas.Option.{same_Some}
-use Rattle.round_trip.specs.Words.{SetId, PropId, TableId, ColId, Value, Null, Prop, At, key_props}
+use Rattle.round_trip.specs.Words.{SetId, PropId, TableId, ColId, Value, Null, Prop, At, key_props, Entity, key_of, value_of}
 use Rattle.round_trip.specs.soundness.Lookups.{set_key}
 use Rattle.cells.specs.Limits.{IsWithinLimits}
 use Rattle.regions.specs.declared.region.Region.{Region}
@@ -12,10 +12,10 @@ use Rattle.regions.specs.declared.pattern.Symbol.TheVariants as symbol
 use Rattle.regions.specs.declared.pattern.Focus.TheVariants as focus
 use Rattle.regions.specs.Atoms.{atom_at}
 use Rattle.regions.specs.Basis.{Basis}
-use Rattle.regions.specs.Patterns.{pattern_of}
+use Rattle.regions.specs.Patterns.{pattern_of, Valuation}
 use Rattle.regions.specs.Settled.{Possible, multi, possible, single}
 use Rattle.regions.specs.region_laws.IsBasis.{IsBasis}
-use Rattle.schema_laws.proofs.sound_types.Inherited.{declared_above}
+use Rattle.schema_laws.proofs.sound_types.Inherited.{declared_above, key_among}
 use Rattle.regions.specs.region_laws.pattern.Listed.{Lists}
 use Rattle.regions.proofs.region_laws.pattern.Laws.{listed_from}
 use Rattle.regions.proofs.region_laws.pattern.types.Regions.{key_is, parts_of}
@@ -27,7 +27,10 @@ use Rattle.region_states.specs.defaults.Admissible.{AreChoices, HasSeveral, IsAd
 use Rattle.region_states.proofs.defaults.Changes.{changed_admissible, null_choice}
 use Rattle.region_states.proofs.defaults.Defaults.{default_admissible}
 use Rattle.schema_laws.proofs.short_values.Places.{Decides-among}
+use Rattle.schema_laws.proofs.state_demand.lists.Places.{map_agree}
 use Rattle.region_states.specs.conflicts.SameFacts.{is_multi, is_one_of, lists_anywhere}
+use Rattle.region_states.proofs.Entities.{has_value}
+use Rattle.region_states.specs.Entities.{focus_entity}
 use Rattle.conflict_laws.specs.rival.Alike.{AreComparable, HaveOneKey}
 use Rattle.conflict_laws.specs.rival.RivalValues.{faces_null, first_values, rival_value, second_values, shared_value}
 use Rattle.conflict_laws.proofs.rival.Reading.{anywhere, faces_nullable, faces_told, somewhere}
@@ -145,7 +148,7 @@ module _ (basis : Basis) (is : IsBasis basis) (s : SetId) (one two : Region) whe
         let rival : IsRival basis region p n = told.0.1 in
         let among = listed_prop basis is s region comparable.is_one rival.t rival.c p
         (listed_from basis is (focus.Entity region) rival.t rival.c (symbol.Prop p) rival.lists) in
-        let above = declared_above basis.schema.model is.sound.model region.ty p among in
+        let above = declared_above basis.schema.model is.sound.model p region.ty among in
         let several : (declared : Prop) → At basis.schema.model.props p.index declared → HasSeveral basis region p declared n =
         λ declared here. record { is_declared = here; among = among; no_key = rival.no_key; several = rival.several } in
         ⊎_elim
@@ -158,9 +161,9 @@ module _ (basis : Basis) (is : IsBasis basis) (s : SetId) (one two : Region) whe
         told.1
 
     -- so they are admissible together
-    pub rival_admissible : IsAdmissible basis region (changed (default_valuation basis region) (rival_value basis one two region other))
-    rival_admissible = changed_admissible basis is s region comparable.is_one (default_valuation basis region)
-        (default_admissible basis is limits s region comparable.is_one) (rival_value basis one two region other) choices
+    pub rival_admissible : IsAdmissible basis 0 region (changed (default_valuation basis 0 region) (rival_value basis one two region other))
+    rival_admissible = changed_admissible basis is s region comparable.is_one 0 (default_valuation basis 0 region)
+        (default_admissible basis is limits s region comparable.is_one 0 (omega arith)) (rival_value basis one two region other) choices
 
   module _ (comparable : AreComparable basis s one two) where
     -- types of one set have one key
@@ -170,19 +173,31 @@ module _ (basis : Basis) (is : IsBasis basis) (s : SetId) (one two : Region) whe
         ∙ ap (set_key basis.schema.model) ((parts_of basis s one comparable.is_one).of_set ∙ sym (parts_of basis s two comparable.is_two).of_set)
         ∙ sym (key_is basis is s two comparable.is_two)
 
-    -- whose parts have the usual values
+    -- so values that give one key give it to entities of both
+    pub one_focus_key : (values others : Valuation) → HaveOneKey basis one values others
+        → key_of basis.schema.model (focus_entity basis one values) ≡ key_of basis.schema.model (focus_entity basis two others)
+    one_focus_key values others keyed =
+        let mine : Entity = focus_entity basis one values in
+        let theirs : Entity = focus_entity basis two others in
+        map_agree (value_of basis.schema.model mine) (value_of basis.schema.model theirs) (key_props basis.schema.model one.ty) (λ p among.
+        has_value basis one values p (key_among basis.schema.model is.sound.model p one.ty among)
+        ∙ keyed.keys p among
+        ∙ sym (has_value basis two others p (key_among basis.schema.model is.sound.model p two.ty (subst (λ props. Contains props p) same_keys among))))
+        ∙ ap (map (value_of basis.schema.model theirs)) same_keys
+
+    -- the parts have the usual values
     default_same : (p : PropId) → Contains (key_props basis.schema.model one.ty) p → Contains (key_props basis.schema.model two.ty) p
-        → default_value basis one p ≡ default_value basis two p
+        → default_value basis 0 one p ≡ default_value basis 0 two p
     default_same p key key_too = by (slice_get basis.schema.model.props p.index)
       where
         is_number : (region : Region) (declared : Prop) → Contains (key_props basis.schema.model region.ty) p
-            → declared_value basis region p declared ≡ fresh declared.kind 0 (focus_key (place_in p (key_props basis.schema.model region.ty)))
+            → declared_value basis 0 region p declared ≡ fresh declared.kind 0 (focus_key (place_in p (key_props basis.schema.model region.ty)))
         is_number region declared among =
             let props : List PropId = key_props basis.schema.model region.ty in
-            cond-true (is_among p props) (fresh declared.kind 0 (focus_key (place_in p props))) (value_by basis region.ty p declared (atom_at region.atoms p))
+            cond-true (is_among p props) (fresh declared.kind 0 (focus_key (place_in p props))) (value_by basis 0 region.ty p declared (atom_at region.atoms p))
             ((Decides-among props p).1 among)
 
-        by : (found : Option Prop) → option_map_or (declared_value basis one p) found Null ≡ option_map_or (declared_value basis two p) found Null
+        by : (found : Option Prop) → option_map_or (declared_value basis 0 one p) found Null ≡ option_map_or (declared_value basis 0 two p) found Null
         by None = refl
         by (Some declared) =
             is_number one declared key ∙ ap (λ props. fresh declared.kind 0 (focus_key (place_in p props))) same_keys ∙ sym (is_number two declared key_too)
@@ -191,8 +206,8 @@ module _ (basis : Basis) (is : IsBasis basis) (s : SetId) (one two : Region) whe
     pub rival_keys : HaveOneKey basis one (first_values basis one two) (second_values basis one two)
     rival_keys = record {
       keys = λ p key. (let key_too = subst (λ props. Contains props p) same_keys key in
-          ap (λ found. unwrap_or found (default_value basis one p)) (rival_key basis one two one two p key)
+          ap (λ found. unwrap_or found (default_value basis 0 one p)) (rival_key basis one two one two p key)
           ∙ default_same p key key_too
-          ∙ sym (ap (λ found. unwrap_or found (default_value basis two p)) (rival_key basis one two two one p key_too)));
+          ∙ sym (ap (λ found. unwrap_or found (default_value basis 0 two p)) (rival_key basis one two two one p key_too)));
       parts = refl;
     }

@@ -196,7 +196,7 @@ module _ (basis : Basis) (is : IsBasis basis) (one two : Region) where
         key_kind : (q : PropId) → IsDependent basis.schema.model q → AreInOneGroup basis.schema (prop q) (prop p) → IsKeyKind declared.kind
         key_kind q dependent (inl same) =
             let is_p : q ≡ p = cc in
-            dependent_is basis.schema is.sound p (subst (IsDependent basis.schema.model) is_p dependent) declared several.is_declared
+            dependent_is basis.schema.model is.sound.model p (subst (IsDependent basis.schema.model) is_p dependent) declared several.is_declared
         key_kind q dependent (inr joins) = joined_key_kind basis.schema is.sound q p dependent joins declared several.is_declared
 
     -- another group
@@ -209,7 +209,7 @@ module _ (basis : Basis) (is : IsBasis basis) (one two : Region) where
         free_choice basis is s region has p declared n several (first_free declared.kind constants) two_free.one_fits two_free.one_free
         (λ dependent. let Short : List Value → Type 0 = λ list. IsShort (first_free declared.kind list) in
         subst Short (sym (dependent_none basis is p declared several.is_declared dependent))
-        (first_short declared.kind (dependent_is basis.schema is.sound p dependent declared several.is_declared)))
+        (first_short declared.kind (dependent_is basis.schema.model is.sound.model p dependent declared several.is_declared)))
 
     -- an entity of either region may have it
     pub shared_choice : IsChoice basis region p (shared_value basis one two p declared)

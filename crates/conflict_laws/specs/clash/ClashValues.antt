@@ -19,15 +19,15 @@ module _ (basis : Basis) (region : Region) where
   -- the usual values, with one of two others of a property
   abbrev pub with_others : Symbol → Possible → List Valuation
   with_others (symbol.Prop p) (multi nullable) = option_map_or (λ declared.
-      changed (default_valuation basis region) (alone p (one_value basis p declared)) ∷ changed (default_valuation basis region) (alone p (other_value basis p declared)) ∷ [])
+      changed (default_valuation basis 0 region) (alone p (one_value basis p declared)) ∷ changed (default_valuation basis 0 region) (alone p (other_value basis p declared)) ∷ [])
       (slice_get basis.schema.model.props p.index) []
   with_others one can = []
 
   -- the usual values, and those with another value of a property that may have several
   abbrev pub values_tried : Symbol → Symbol → List Valuation
-  values_tried one two = default_valuation basis region ∷ with_others one (possible basis.schema.model region.atoms one)
+  values_tried one two = default_valuation basis 0 region ∷ with_others one (possible basis.schema.model region.atoms one)
       ++ with_others two (possible basis.schema.model region.atoms two)
 
   -- the first of these by which the two symbols differ
   abbrev pub clash_values : Symbol → Symbol → Valuation
-  clash_values one two = unwrap_or (find (differ_under one two) (values_tried one two)) (default_valuation basis region)
+  clash_values one two = unwrap_or (find (differ_under one two) (values_tried one two)) (default_valuation basis 0 region)

@@ -76,8 +76,8 @@ module _ (basis : Basis) where
 
     -- the values of the one region's entity
     abbrev pub first_values : Valuation
-    first_values = changed (default_valuation basis one) (rival_value one two)
+    first_values = changed (default_valuation basis 0 one) (rival_value one two)
 
     -- those of the other region's
     abbrev pub second_values : Valuation
-    second_values = changed (default_valuation basis two) (rival_value two one)
+    second_values = changed (default_valuation basis 0 two) (rival_value two one)

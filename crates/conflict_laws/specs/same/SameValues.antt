@@ -14,13 +14,13 @@ use Rattle.region_states.specs.conflicts.SameFacts.{is_multi, is_one_of}
 module _ (basis : Basis) (region : Region) where
   -- the usual values, with the one value of the property
   abbrev pub with_one : PropId → Valuation
-  with_one p = option_map_or (λ declared. changed (default_valuation basis region) (alone p (one_value basis p declared))) (slice_get basis.schema.model.props p.index)
-      (default_valuation basis region)
+  with_one p = option_map_or (λ declared. changed (default_valuation basis 0 region) (alone p (one_value basis p declared))) (slice_get basis.schema.model.props p.index)
+      (default_valuation basis 0 region)
 
   -- the same, with the other value
   abbrev pub with_other : PropId → Valuation
-  with_other p = option_map_or (λ declared. changed (default_valuation basis region) (alone p (other_value basis p declared))) (slice_get basis.schema.model.props p.index)
-      (default_valuation basis region)
+  with_other p = option_map_or (λ declared. changed (default_valuation basis 0 region) (alone p (other_value basis p declared))) (slice_get basis.schema.model.props p.index)
+      (default_valuation basis 0 region)
 
   -- whether a property is no part of the key and may have several values
   abbrev pub may_differ : PropId → Bool

@@ -15,8 +15,8 @@ pub record HasStates (basis : Basis) (state : Region → Valuation → State) (r
     (leaving : Region → Valuation → State × State) : Type 0 where
   pub is_basis : IsBasis basis
   pub limits : IsWithinLimits basis.schema
-  pub hosts : HostsFocuses basis state
-  pub rival : HostsRivals basis rivals
-  pub leaves : LeavesOut basis leaving
+  pub hosts : HostsFocuses basis 0 state
+  pub rival : HostsRivals basis 0 rivals
+  pub leaves : LeavesOut basis 0 leaving
   pub few : HaveFewPartners basis
   pub no_clash : NoneFailsBy basis.schema kind.Clash

@@ -22,6 +22,7 @@ use Rattle.round_trip.specs.soundness.Kinds.{IsSoundKind}
 use Rattle.condition_logic.specs.declared.atoms.Atom.{Atom}
 use Rattle.condition_logic.specs.declared.atoms.Atom.TheVariants as atom
 use Rattle.condition_logic.specs.declared.atoms.AtomOf.{AtomOf}
+use Rattle.schema_laws.proofs.sound_types.Dependent.{sound_kind}
 use Rattle.schema_laws.proofs.state_demand.lists.Lists.{member_cases, none_in_nil}
 use Rattle.regions.specs.Atoms.{atoms_of, kind_atoms}
 use Rattle.regions.specs.Basis.{Basis}
@@ -29,7 +30,6 @@ use Rattle.regions.specs.Regions.{atoms_at, model_of}
 use Rattle.regions.specs.region_laws.IsBasis.{IsBasis}
 use Rattle.regions.specs.region_laws.RegionAt.{atom_in}
 use Rattle.regions.proofs.region_laws.lists.Choices.{pairs_nil}
-use Rattle.regions.proofs.region_laws.values.Told.{sound_kind}
 use Rattle.region_partition.specs.region_search.Standing.{Rises, Stand, atom_cmp, told_cmp}
 use Rattle.region_partition.proofs.region_search.Rising.{pairs_also, pairs_one}
 
@@ -154,7 +154,7 @@ module _ (basis : Basis) (is : IsBasis basis) (entity : Entity) where
           (pairs_also Before (λ one later. Stand (told_cmp basis entity (as_told one)) (told_cmp basis entity (as_told later))) atoms
           (λ one later has_one has_later before. stand_by one later (atom_in basis entity p).atom before)
           (atoms_rise basis.fits (basis.constants (prop p)) (is.constants (prop p) (slice_get_within basis.schema.model.props p.index declared here)).sorted declared
-          (sound_kind basis is p declared here)))
+          (sound_kind basis.schema.model is.sound.model p declared here)))
 
   -- the atom of the entity's value
   pub told_itself : (p : PropId) → told_cmp basis entity (atom_in basis entity p) ≡ Equal

@@ -1,5 +1,5 @@
 -- Which values of an admissible valuation may be changed, and that they may be changed together.
-use Rattle.std.proofs.Common.{◌≡◌, ◌≢◌, ◌⊎◌, inl, inr, ◌==◌, List, unwrap_or, Contains, Option, Some, None, Bool, true, false, if◌then◌else◌, refl, sym, ap, subst, ◌∙◌, arith}
+use Rattle.std.proofs.Common.{◌≡◌, ◌≢◌, ◌⊎◌, ℕ, inl, inr, ◌==◌, List, unwrap_or, Contains, Option, Some, None, Bool, true, false, if◌then◌else◌, refl, sym, ap, subst, ◌∙◌, arith}
 use Rattle.std.specs.Option.{option_map_or}
 use Rattle.std.proofs.lemmas.Bool.{cond-true, cond_both}
 use Rattle.std.proofs.lemmas.List.Elements.{All-contains}
@@ -27,10 +27,11 @@ use Rattle.region_states.specs.defaults.Candidates.{AreTwoFree, first_free, next
 use Rattle.schema_laws.specs.short_values.Fresh.{focus_key, fresh, lost, lost_value, fresh_at}
 use Rattle.region_states.specs.defaults.Defaults.{alone, changed, one_value, other_value}
 use Rattle.schema_laws.specs.short_values.Places.{is_dependent, place_in}
-use Rattle.region_states.specs.defaults.Admissible.{AreChoices, AreTwoChoices, DifferAt, HasSeveral, IsAdmissible, IsChoice}
+use Rattle.region_states.specs.defaults.Admissible.{AreChoices, AreTwoChoices, DifferAt, HasNumberedKey, HasSeveral, IsAdmissible, IsApart, IsChoice}
 use Rattle.region_states.proofs.defaults.groups.Constants.{dependent_none, joined_none}
 use Rattle.region_states.proofs.defaults.Defaults.{IsSome, either_some, is_open, lies_open, open_two}
-use Rattle.region_states.proofs.defaults.Fitting.{dependent_takes, joined_takes}
+use Rattle.region_states.proofs.defaults.Fitting.{joined_takes}
+use Rattle.schema_laws.proofs.short_values.Fitting.{dependent_takes}
 use Rattle.region_states.proofs.defaults.Listed.{told_found}
 use Rattle.schema_laws.proofs.short_values.Short.{fresh_same}
 use Rattle.schema_laws.proofs.short_values.Uses.{index_below}
@@ -60,8 +61,19 @@ alone_is p q v w =
     (λ told same. ((Decides-prop q p).0 told, same_Some v w same))
     (λ told same. absurd (let never : None ≡ Some w = same in cc))
 
+-- choices change no part of a key, and so a numbered key stays as it is
+pub changed_key : (basis : Basis) (outer : ℕ) (region : Region) (values : Valuation) → HasNumberedKey basis outer region values → (changes : PropId → Option Value)
+    → AreChoices basis region changes → HasNumberedKey basis outer region (changed values changes)
+changed_key basis outer region values numbered changes choices p key = by (changes p) refl
+  where
+    by : (found : Option Value) → changes p ≡ found
+        → unwrap_or found (values.prop p) ≡ fresh_at basis.schema.model outer p (focus_key (place_in p (key_props basis.schema.model region.ty)))
+    by None none = numbered p key
+    by (Some v) at = absurd ((choices p v at).no_key key)
+
 module _ (basis : Basis) (is : IsBasis basis) (s : SetId) (region : Region) (has : Contains (regions_of basis s) region) where
-  module _ (values : Valuation) (admissible : IsAdmissible basis region values) (changes : PropId → Option Value) (choices : AreChoices basis region changes) where
+  module _ (outer : ℕ) (values : Valuation) (admissible : IsAdmissible basis outer region values) (changes : PropId → Option Value)
+      (choices : AreChoices basis region changes) where
     -- what holds of each old value and of each choice holds of each value
     each : (p : PropId) (P : Value → Type 0) → P (values.prop p) → ((v : Value) → IsChoice basis region p v → P v) → P (unwrap_or (changes p) (values.prop p))
     each p P old new = by (changes p) refl
@@ -70,7 +82,7 @@ module _ (basis : Basis) (is : IsBasis basis) (s : SetId) (region : Region) (has
         by None none = old
         by (Some v) at = new v (choices p v at)
 
-    pub changed_admissible : IsAdmissible basis region (changed values changes)
+    pub changed_admissible : IsAdmissible basis outer region (changed values changes)
     changed_admissible = record {
       allowed = record {
         atoms = all_from_members (λ (told : AtomOf). LiesIn (basis.constants (prop told.prop)) told.atom (unwrap_or (changes told.prop) (values.prop told.prop))) region.atoms
@@ -81,24 +93,23 @@ module _ (basis : Basis) (is : IsBasis basis) (s : SetId) (region : Region) (has
         props = λ p declared among here. each p (Allows declared) (admissible.allowed.props p declared among here) (λ v choice. choice.allowed declared here);
         parts = admissible.allowed.parts;
       };
-      keys = λ p key. (let Is : Value → Type 0 = λ v. v ≡ fresh_at basis.schema.model p (focus_key (place_in p (key_props basis.schema.model region.ty))) in
-          each p Is (admissible.keys p key) (λ v choice. absurd (choice.no_key key)));
+      keys = λ p key. each p (IsApart outer) (admissible.keys p key) (λ v choice. absurd (choice.no_key key));
       partners = admissible.partners;
       dependent = λ p among by. each p (λ v. v ≢ Null → IsShort v) (admissible.dependent p among by) (λ v choice. choice.dependent by);
     }
 
-  module _ (values : Valuation) (admissible : IsAdmissible basis region values) (p : PropId) where
+  module _ (outer : ℕ) (values : Valuation) (admissible : IsAdmissible basis outer region values) (p : PropId) where
     alone_choices : (v : Value) → IsChoice basis region p v → AreChoices basis region (alone p v)
     alone_choices v choice q w at =
         let same = alone_is p q v w at in
         subst (λ r. IsChoice basis region r w) (sym same.0) (subst (IsChoice basis region p) same.1 choice)
 
-    alone_admissible : (v : Value) → IsChoice basis region p v → IsAdmissible basis region (changed values (alone p v))
-    alone_admissible v choice = changed_admissible values admissible (alone p v) (alone_choices v choice)
+    alone_admissible : (v : Value) → IsChoice basis region p v → IsAdmissible basis outer region (changed values (alone p v))
+    alone_admissible v choice = changed_admissible outer values admissible (alone p v) (alone_choices v choice)
 
     -- two choices of one property alone
     pub differ_at : (one two : Value) → AreTwoChoices basis region p one two
-        → IsAdmissible basis region (changed values (alone p one)) × IsAdmissible basis region (changed values (alone p two))
+        → IsAdmissible basis outer region (changed values (alone p one)) × IsAdmissible basis outer region (changed values (alone p two))
         × DifferAt values (changed values (alone p one)) (changed values (alone p two)) p
     differ_at one two choices = (
       alone_admissible one choices.one_choice,
@@ -155,7 +166,7 @@ module _ (basis : Basis) (is : IsBasis basis) (s : SetId) (region : Region) (has
     short_choice q dependent (inl same) v short sort =
         let is_p : q ≡ p = cc in
         let by : IsDependent basis.schema.model p = subst (IsDependent basis.schema.model) is_p dependent in
-        free_choice v (dependent_takes basis is p by declared several.is_declared v short sort)
+        free_choice v (dependent_takes basis.schema.model is.sound.model p by declared several.is_declared v short sort)
         (λ has. none_in_nil v (subst (λ list. Contains list v) (dependent_none basis is p declared several.is_declared by) has)) (λ any. short)
     short_choice q dependent (inr joins) v short sort =
         free_choice v (joined_takes basis is q p dependent joins declared several.is_declared v short sort)
@@ -202,9 +213,9 @@ module _ (basis : Basis) (is : IsBasis basis) (s : SetId) (region : Region) (has
         let two : AreTwoFree declared.kind constants (first_free declared.kind constants) (next_free declared.kind constants) =
         open_two basis is limits s region has p declared several.is_declared several.among several.no_key open_atom in
         let one : IsSome basis is p declared (one_value basis p declared) =
-        either_some basis is p declared several.is_declared (lost_value 0) (index_below (lost 0) (omega arith)) (first_free declared.kind constants) two.one_fits two.one_free in
+        either_some basis is p declared several.is_declared 0 (lost_value 0) (omega arith) (index_below (lost 0) (omega arith)) (first_free declared.kind constants) two.one_fits two.one_free in
         let other_ : IsSome basis is p declared (other_value basis p declared) =
-        either_some basis is p declared several.is_declared (lost_value 1) (index_below (lost 1) (omega arith)) (next_free declared.kind constants) two.two_fits two.two_free in
+        either_some basis is p declared several.is_declared 0 (lost_value 1) (omega arith) (index_below (lost 1) (omega arith)) (next_free declared.kind constants) two.two_fits two.two_free in
         record {
           one_choice = chosen (one_value basis p declared) one;
           two_choice = chosen (other_value basis p declared) other_;

@@ -1,11 +1,9 @@
 -- Which properties take each short value, and of which two candidates are left.
-use Rattle.std.proofs.Common.{◌≢◌, Contains, subst}
-use Rattle.emc_base.proofs.Lists.{at_once}
+use Rattle.std.proofs.Common.{◌≢◌}
 use Rattle.emc_base.specs.declared.value.Kind.TheVariants as kind
-use Rattle.round_trip.specs.Words.{PropId, TypeId, Prop, At, key_props}
-use Rattle.round_trip.specs.soundness.models.Inheritance.{IsKeyProp}
+use Rattle.round_trip.specs.Words.{PropId, Prop, At}
 use Rattle.round_trip.specs.soundness.mappings.Joined.{IsDependent, Joined, prop}
-use Rattle.round_trip.specs.soundness.Kinds.{IsEnum, IsKeyKind}
+use Rattle.round_trip.specs.soundness.Kinds.{IsEnum}
 use Rattle.cells.specs.Limits.{IsWithinLimits}
 use Rattle.regions.specs.region_laws.IsBasis.{IsBasis}
 use Rattle.regions.specs.Basis.{Basis}
@@ -13,8 +11,7 @@ use Rattle.region_states.specs.defaults.Candidates.{AreTwoFree, first_free, next
 use Rattle.schema_laws.specs.short_values.Short.{TakesShort}
 use Rattle.region_states.proofs.defaults.Candidates.{plain_kind}
 use Rattle.region_states.proofs.defaults.groups.Classes.{joined_key_kind}
-use Rattle.schema_laws.proofs.sound_types.Dependent.{dependent_is, sound_kind}
-use Rattle.schema_laws.proofs.sound_types.Inherited.{key_prop}
+use Rattle.schema_laws.proofs.sound_types.Dependent.{sound_kind}
 use Rattle.region_states.proofs.defaults.groups.Constants.{plain_two}
 use Rattle.schema_laws.proofs.short_values.Short.{fits_short}
 

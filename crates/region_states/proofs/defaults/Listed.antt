@@ -103,7 +103,7 @@ module _ (basis : Basis) (is : IsBasis basis) where
   pub no_key_free : (p : PropId) (declared : Prop) → At basis.schema.model.props p.index declared → (t : TypeId) → Contains (props_of basis.schema.model t) p
       → ¬ Contains (key_props basis.schema.model t) p → IsNoKey basis.schema (prop p)
   no_key_free p declared here t among no_key =
-      let above = declared_above basis.schema.model is.sound.model t p among in
+      let above = declared_above basis.schema.model is.sound.model p t among in
       (above.0, above.1, λ key. no_key (subst (λ props. Contains props p) (sym ((inherits_keys basis.schema.model is.sound.model).same t above.0.owner above.2)) key))
 
   -- what is tested is no part of a key
@@ -112,7 +112,7 @@ module _ (basis : Basis) (is : IsBasis basis) where
   tested_no_key p declared here t among tested key =
       let by = (is.tested (prop p) (slice_get_within basis.schema.model.props p.index declared here)).0 tested in
       let free : IsNoKey basis.schema (prop p) = (joined_free basis.schema (prop p) by.0 by.1).0 in
-      let above = declared_above basis.schema.model is.sound.model t p among in
+      let above = declared_above basis.schema.model is.sound.model p t among in
       let one : above.0 ≡ free.0 = at_once basis.schema.model.props p.index above.0 free.0 above.1 free.1 in
       let P : Prop → Type 0 = λ d. Contains (key_props basis.schema.model d.owner) p in
       free.2 (subst P one (subst (λ props. Contains props p) ((inherits_keys basis.schema.model is.sound.model).same t above.0.owner above.2) key))

@@ -95,6 +95,6 @@ module _ (basis : Basis) (is : IsBasis basis) (state : State) (s : SetId) (entit
           seen host found.0,
           seen_among host hosts found.0 found.1,
           refl,
-          λ p key. ap (λ b. part host.assoc b p) (not_is host.first_hosts) ∙ found.2 assoc here p,
+          λ p key. ap (λ b. part host.assoc b p) (not_is host.first_hosts) ∙ found.2 assoc here p key,
         ));
   }

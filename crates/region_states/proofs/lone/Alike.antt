@@ -1,5 +1,5 @@
 -- Where no association set is declared, states with one entity of one key at most differ at that key alone.
-use Rattle.std.proofs.Common.{◌≡◌, refl, sym, ap, subst, ◌∙◌}
+use Rattle.std.proofs.Common.{◌≡◌, ℕ, refl, sym, ap, subst, ◌∙◌}
 use Rattle.round_trip.specs.Words.{SetId, Entity, State, key_of}
 use Rattle.regions.specs.Basis.{Basis}
 use Rattle.regions.specs.region_laws.IsBasis.{IsBasis}
@@ -7,7 +7,6 @@ use Rattle.regions.proofs.region_laws.listing.Listed.{set_is}
 use Rattle.region_states.specs.Entities.{focus_entity}
 use Rattle.region_states.specs.Hosting.{DifferAtMostAt, HostsFocuses, HostsRivals, LeavesOut}
 use Rattle.region_states.specs.LoneStates.{HasNoAssociationSets, HasOneAtMost, empty_state, lone_focus}
-use Rattle.region_states.proofs.Keys.{same_focus_key}
 use Rattle.region_states.proofs.lone.Legal.{empty_legal, lone_holds, no_assoc, no_host}
 use Rattle.region_states.proofs.lone.Lone.{empty_small, lone_small, none_left}
 
@@ -25,12 +24,12 @@ module _ (basis : Basis) (is : IsBasis basis) (none : HasNoAssociationSets basis
   }
 
   -- the states of one entity are all that is asked for
-  pub lone_hosts : HostsFocuses basis (lone_focus basis)
-  lone_hosts = record { holds = λ s region has values admissible. lone_holds basis is none s region has values admissible.allowed }
+  pub lone_hosts : (outer : ℕ) → HostsFocuses basis outer (lone_focus basis)
+  lone_hosts outer = record { holds = λ s region has values admissible. lone_holds basis is none s region has values admissible.allowed }
 
-  pub lone_rivals : HostsRivals basis (λ one values two others. (lone_focus basis one values, lone_focus basis two others))
-  lone_rivals = record {
-    hold = λ few s one two has_one has_two flags values others admissible also parts. record {
+  pub lone_rivals : (outer : ℕ) → HostsRivals basis outer (λ one values two others. (lone_focus basis one values, lone_focus basis two others))
+  lone_rivals outer = record {
+    hold = λ few s one two has_one has_two flags values others admissible also parts keys. record {
       first = lone_holds basis is none s one has_one values admissible.allowed;
       second = lone_holds basis is none s two has_two others also.allowed;
       alike = (
@@ -39,12 +38,12 @@ module _ (basis : Basis) (is : IsBasis basis) (none : HasNoAssociationSets basis
           let sets : two.set ≡ one.set = set_is basis s two has_two ∙ sym (set_is basis s one has_one) in
           differ_little one.set mine theirs (lone_focus basis one values) (lone_focus basis two others) (lone_small basis.schema.model one.set mine)
           (subst (λ u. HasOneAtMost (lone_focus basis two others) u theirs) sets (lone_small basis.schema.model two.set theirs))
-          (same_focus_key basis is s one two has_one has_two values others admissible also));
+          (sym keys));
     };
   }
 
-  pub lone_leaves : LeavesOut basis (λ region values. (lone_focus basis region values, empty_state basis.schema.model))
-  lone_leaves = record {
+  pub lone_leaves : (outer : ℕ) → LeavesOut basis outer (λ region values. (lone_focus basis region values, empty_state basis.schema.model))
+  lone_leaves outer = record {
     leave = λ few s region has one_entity values admissible. (
         let entity : Entity = focus_entity basis region values in
         record {

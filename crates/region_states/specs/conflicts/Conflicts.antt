@@ -4,7 +4,6 @@ use Rattle.std.specs.Prelude.{◌≡◌, Contains, Bool, IsTrue}
 use Rattle.round_trip.specs.Words.{SetId}
 use Rattle.round_trip.specs.declared.FailKind.{FailKind}
 use Rattle.round_trip.specs.declared.FailKind.TheVariants as kind
-use Rattle.regions.specs.declared.region.Region.{Region}
 use Rattle.regions.specs.declared.pattern.Focus.{Focus}
 use Rattle.regions.specs.declared.pattern.Focus.TheVariants as focus
 use Rattle.regions.specs.Basis.{Basis}

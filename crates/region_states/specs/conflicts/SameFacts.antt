@@ -2,7 +2,7 @@
 -- Source: this project's; the round-trip criterion of Melnik, Adya and Bernstein, SIGMOD 2007, decided over regions.
 use Rattle.std.specs.Prelude.{◌&&◌, ◌==◌, List, [], ◌∷◌, map, Bool, true, false, not}
 use Rattle.std.specs.List.{list_any}
-use Rattle.round_trip.specs.Words.{PropId, Null, EntityModel, props_of, key_props}
+use Rattle.round_trip.specs.Words.{PropId, Null, props_of, key_props}
 use Rattle.schema_laws.specs.state_demand.Selecting.{same_value}
 use Rattle.condition_logic.specs.declared.atoms.Atom.{Atom}
 use Rattle.condition_logic.specs.declared.atoms.Atom.TheVariants as atom

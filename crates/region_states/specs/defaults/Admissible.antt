@@ -1,7 +1,7 @@
--- Values of an entity of a region whose keys are numbered, and which of its values may be others.
+-- Values of an entity of a region whose partners have numbered keys, and which of its values may be others.
 -- Source: CSDL version 3, Property, Key and ReferentialConstraint; this project's regions.
-use Rattle.std.specs.Prelude.{◌≡◌, ◌≢◌, Bool, Option, Some, Contains, not}
-use Rattle.round_trip.specs.Words.{PropId, Value, Null, Prop, Assoc, At, key_props, props_of}
+use Rattle.std.specs.Prelude.{◌≡◌, ◌≢◌, ◌≤◌, ◌<◌, ℕ, Bool, Option, Some, Contains, not}
+use Rattle.round_trip.specs.Words.{PropId, Value, Null, Kind, Prop, Assoc, At, key_props, props_of}
 use Rattle.round_trip.specs.soundness.mappings.Joined.{IsDependent, prop}
 use Rattle.condition_logic.specs.declared.atoms.Atom.{Atom}
 use Rattle.regions.specs.declared.pattern.Symbol.TheVariants as symbol
@@ -12,19 +12,28 @@ use Rattle.regions.specs.Patterns.{Valuation}
 use Rattle.regions.specs.Settled.{multi, possible}
 use Rattle.regions.specs.region_laws.pattern.Allowed.{IsAllowed}
 use Rattle.schema_laws.specs.short_values.Short.{IsShort}
-use Rattle.schema_laws.specs.short_values.Fresh.{focus_key, partner_key, fresh_at}
+use Rattle.schema_laws.specs.short_values.Fresh.{focus_key, fresh, fresh_at, most_indices, partner_key}
 use Rattle.schema_laws.specs.short_values.Places.{place_in}
 
--- the values are allowed, the parts of the entity's key and of its partners' keys are the numbered values, and dependent properties have short values
-pub record IsAdmissible (basis : Basis) (region : Region) (valuation : Valuation) : Type 0 where
+-- no value of the row of numbers, but for the first four of it
+abbrev pub IsApart : ℕ → Value → Type 0
+IsApart outer value = (k : Kind) (i : ℕ) → 4 ≤ i → i < most_indices → value ≢ fresh k outer i
+
+-- the values are allowed, the parts of the entity's key are apart from the row of numbers, those of its partners' keys are values of it, and dependent
+-- properties have short values
+pub record IsAdmissible (basis : Basis) (outer : ℕ) (region : Region) (valuation : Valuation) : Type 0 where
   pub allowed : IsAllowed basis region valuation
-  pub keys : (p : PropId) → Contains (key_props basis.schema.model region.ty) p
-      → valuation.prop p ≡ fresh_at basis.schema.model p (focus_key (place_in p (key_props basis.schema.model region.ty)))
+  pub keys : (p : PropId) → Contains (key_props basis.schema.model region.ty) p → IsApart outer (valuation.prop p)
   pub partners : (host : Host) (assoc : Assoc) → Contains (basis.hosts region.set) host → Contains region.linked host.assoc
       → At basis.schema.model.assocs host.assoc.index assoc → (p : PropId) → Contains (key_props basis.schema.model (partner_end host.first_hosts assoc).ty) p
       → valuation.part host.assoc (not host.first_hosts) p
-      ≡ fresh_at basis.schema.model p (partner_key host.assoc.index (place_in p (key_props basis.schema.model (partner_end host.first_hosts assoc).ty)))
+      ≡ fresh_at basis.schema.model outer p (partner_key host.assoc.index (place_in p (key_props basis.schema.model (partner_end host.first_hosts assoc).ty)))
   pub dependent : (p : PropId) → Contains (props_of basis.schema.model region.ty) p → IsDependent basis.schema.model p → valuation.prop p ≢ Null → IsShort (valuation.prop p)
+
+-- the parts of the entity's key are the first values of the row of numbers
+abbrev pub HasNumberedKey : Basis → ℕ → Region → Valuation → Type 0
+HasNumberedKey basis outer region valuation = (p : PropId) → Contains (key_props basis.schema.model region.ty) p
+    → valuation.prop p ≡ fresh_at basis.schema.model outer p (focus_key (place_in p (key_props basis.schema.model region.ty)))
 
 -- an entity of the region may have this value of a property that is no part of its key, whatever its other values are
 pub record IsChoice (basis : Basis) (region : Region) (p : PropId) (value : Value) : Type 0 where

@@ -11,6 +11,7 @@ use Rattle.regions.specs.region_laws.RegionAt.{links_at}
 -- what is told of the partner's end is the key of the link's partner
 abbrev pub TellsPartner : Basis → Host → Link → (AssocId → Bool → PropId → Value) → Type 0
 TellsPartner basis host link part = (assoc : Assoc) → At basis.schema.model.assocs host.assoc.index assoc → (p : PropId)
+    → Contains (key_props basis.schema.model (partner_end host.first_hosts assoc).ty) p
     → part host.assoc (if host.first_hosts then false else true) p
     ≡ value_beside p (key_props basis.schema.model (partner_end host.first_hosts assoc).ty) (partner_key host.first_hosts link)
 

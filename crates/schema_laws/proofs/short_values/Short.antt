@@ -1,5 +1,5 @@
 -- Short values are in the domains of properties that are of a kind of keys, and the numbered values are short.
-use Rattle.std.proofs.Common.{◌≡◌, ◌≢◌, ℕ, ◌+◌, ◌*◌, ◌<◌, ◌≤◌, ℤ, pos, negsuc, ◌≤ℤ◌, [], ◌∷◌, ◌&&◌, true, IsTrue, Option, Some, None, encode_utf8_all, refl, ap, subst, arith}
+use Rattle.std.proofs.Common.{◌≡◌, ◌≢◌, ◌⊎◌, inl, inr, ◌∙◌, sym, ℕ, ◌+◌, ◌*◌, ◌<◌, ◌≤◌, ℤ, pos, negsuc, ◌≤ℤ◌, [], ◌∷◌, ◌&&◌, true, IsTrue, Option, Some, None, encode_utf8_all, refl, ap, subst, arith}
 use Rattle.std.specs.Str.{all_scalars}
 use Rattle.std.proofs.lemmas.Int.{ints}
 use Rattle.std.proofs.lemmas.Str.{encodes_same}
@@ -110,13 +110,28 @@ letter_same a b same =
 one_row : (c s t i j : ℕ) → s ≤ 4 → t ≤ 4 → 5 * i + s + c ≡ 5 * j + t + c → (s ≡ t) × (i ≡ j)
 one_row c s t i j few_s few_t same = (omega (arith, few_s, few_t, same), omega (arith, few_s, few_t, same))
 
--- numbered values of different numbers are different
+-- a numbered value is a number, or the text of one character
+fresh_sorts : (k : Kind) (s i : ℕ) → (fresh k s i ≡ number (5 * i + s + 7)) ⊎ (fresh k s i ≡ letter (5 * i + s + 97))
+fresh_sorts kind.Boolean s i = inl refl
+fresh_sorts kind.Byte s i = inl refl
+fresh_sorts kind.Int16 s i = inl refl
+fresh_sorts kind.Int32 s i = inl refl
+fresh_sorts kind.Int64 s i = inl refl
+fresh_sorts (kind.Text bound) s i = inr refl
+fresh_sorts (kind.Binary bound) s i = inl refl
+fresh_sorts (kind.Enum enumeration) s i = inl refl
+
+-- numbered values of different numbers are different, of whatever kinds
+pub fresh_apart : (k l : Kind) (s t i j : ℕ) → s ≤ 4 → t ≤ 4 → fresh k s i ≡ fresh l t j → (s ≡ t) × (i ≡ j)
+fresh_apart k l s t i j few_s few_t same = by (fresh_sorts k s i) (fresh_sorts l t j)
+  where
+    by : (fresh k s i ≡ number (5 * i + s + 7)) ⊎ (fresh k s i ≡ letter (5 * i + s + 97)) → (fresh l t j ≡ number (5 * j + t + 7)) ⊎ (fresh l t j ≡ letter (5 * j + t + 97))
+        → (s ≡ t) × (i ≡ j)
+    by (inl one) (inl two) = one_row 7 s t i j few_s few_t (number_same (5 * i + s + 7) (5 * j + t + 7) (sym one ∙ same ∙ two))
+    by (inl one) (inr two) = absurd (let never : number (5 * i + s + 7) ≡ letter (5 * j + t + 97) = sym one ∙ same ∙ two in cc)
+    by (inr one) (inl two) = absurd (let never : letter (5 * i + s + 97) ≡ number (5 * j + t + 7) = sym one ∙ same ∙ two in cc)
+    by (inr one) (inr two) = one_row 97 s t i j few_s few_t (letter_same (5 * i + s + 97) (5 * j + t + 97) (sym one ∙ same ∙ two))
+
+-- and so of one kind
 pub fresh_same : (k : Kind) (s t i j : ℕ) → s ≤ 4 → t ≤ 4 → fresh k s i ≡ fresh k t j → (s ≡ t) × (i ≡ j)
-fresh_same kind.Boolean s t i j few_s few_t same = one_row 7 s t i j few_s few_t (number_same (5 * i + s + 7) (5 * j + t + 7) same)
-fresh_same kind.Byte s t i j few_s few_t same = one_row 7 s t i j few_s few_t (number_same (5 * i + s + 7) (5 * j + t + 7) same)
-fresh_same kind.Int16 s t i j few_s few_t same = one_row 7 s t i j few_s few_t (number_same (5 * i + s + 7) (5 * j + t + 7) same)
-fresh_same kind.Int32 s t i j few_s few_t same = one_row 7 s t i j few_s few_t (number_same (5 * i + s + 7) (5 * j + t + 7) same)
-fresh_same kind.Int64 s t i j few_s few_t same = one_row 7 s t i j few_s few_t (number_same (5 * i + s + 7) (5 * j + t + 7) same)
-fresh_same (kind.Text bound) s t i j few_s few_t same = one_row 97 s t i j few_s few_t (letter_same (5 * i + s + 97) (5 * j + t + 97) same)
-fresh_same (kind.Binary bound) s t i j few_s few_t same = one_row 7 s t i j few_s few_t (number_same (5 * i + s + 7) (5 * j + t + 7) same)
-fresh_same (kind.Enum enumeration) s t i j few_s few_t same = one_row 7 s t i j few_s few_t (number_same (5 * i + s + 7) (5 * j + t + 7) same)
+fresh_same k = fresh_apart k k

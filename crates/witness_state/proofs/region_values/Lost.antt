@@ -10,12 +10,12 @@ use Rattle.conflict_laws.specs.same.SameValues.{with_one, with_other}
 
 module _ (basis : Basis) (region : Region) (p : PropId) (declared : Prop) (here : Some declared ≡ slice_get basis.schema.model.props p.index) (value : Value) where
   abbrev with_value : Value → Valuation
-  with_value v = changed (default_valuation basis region) (alone p v)
+  with_value v = changed (default_valuation basis 0 region) (alone p v)
 
   -- the one
-  pub is_one : value ≡ one_value basis p declared → changed (default_valuation basis region) (alone p value) ≡ with_one basis region p
-  is_one same = ap with_value same ∙ ap (λ found. option_map_or (λ one. with_value (one_value basis p one)) found (default_valuation basis region)) here
+  pub is_one : value ≡ one_value basis p declared → changed (default_valuation basis 0 region) (alone p value) ≡ with_one basis region p
+  is_one same = ap with_value same ∙ ap (λ found. option_map_or (λ one. with_value (one_value basis p one)) found (default_valuation basis 0 region)) here
 
   -- the other
-  pub is_other : value ≡ other_value basis p declared → changed (default_valuation basis region) (alone p value) ≡ with_other basis region p
-  is_other same = ap with_value same ∙ ap (λ found. option_map_or (λ one. with_value (other_value basis p one)) found (default_valuation basis region)) here
+  pub is_other : value ≡ other_value basis p declared → changed (default_valuation basis 0 region) (alone p value) ≡ with_other basis region p
+  is_other same = ap with_value same ∙ ap (λ found. option_map_or (λ one. with_value (other_value basis p one)) found (default_valuation basis 0 region)) here

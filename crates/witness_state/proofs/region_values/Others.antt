@@ -19,7 +19,7 @@ module _ (basis : Basis) (region : Region) (p : PropId) (declared : Prop) (here 
   with_both : (can : Possible) → true ≡ is_multi can → map (by_change basis region) (both_changes basis p declared) ≡ with_others basis region (symbol.Prop p) can
   with_both (single value) several = absurd (cc)
   with_both (multi nullable) several = ap (λ found. option_map_or (λ one.
-      changed (default_valuation basis region) (alone p (one_value basis p one)) ∷ changed (default_valuation basis region) (alone p (other_value basis p one)) ∷ []) found []) here
+      changed (default_valuation basis 0 region) (alone p (one_value basis p one)) ∷ changed (default_valuation basis 0 region) (alone p (other_value basis p one)) ∷ []) found []) here
 
   -- they are put behind
   pub others_behind : (one : Symbol) → one ≡ symbol.Prop p → (atoms : List AtomOf) → atoms ≡ region.atoms

@@ -12,18 +12,18 @@ use Rattle.witness_state.specs.region_values.Changes.{by_change}
 use Rattle.witness_state.proofs.region_values.Passed.{first_passes, none_passes}
 
 module _ (basis : Basis) (region : Region) (one two : Symbol) (tried : List (Option Change)) (are : map (by_change basis region) tried ≡ values_tried basis region one two) where
-  found_is : unwrap_or (find (differ_under one two) (map (by_change basis region) tried)) (default_valuation basis region) ≡ clash_values basis region one two
-  found_is = ap (λ values. unwrap_or (find (differ_under one two) values) (default_valuation basis region)) are
+  found_is : unwrap_or (find (differ_under one two) (map (by_change basis region) tried)) (default_valuation basis 0 region) ≡ clash_values basis region one two
+  found_is = ap (λ values. unwrap_or (find (differ_under one two) values) (default_valuation basis 0 region)) are
 
   -- it is this one
   pub first_differs : (i : ℕ) (change : Option Change) → At tried i change
       → list_any (λ change. differ_under one two (by_change basis region change)) (take i tried) ≡ false
       → differ_under one two (by_change basis region change) ≡ true → by_change basis region change ≡ clash_values basis region one two
   first_differs i change here none differs =
-      sym (ap (λ found. unwrap_or found (default_valuation basis region)) (first_passes (by_change basis region) (differ_under one two) tried i change here none differs))
+      sym (ap (λ found. unwrap_or found (default_valuation basis 0 region)) (first_passes (by_change basis region) (differ_under one two) tried i change here none differs))
       ∙ found_is
 
   -- there is none
-  pub none_differs : list_any (λ change. differ_under one two (by_change basis region change)) tried ≡ false → default_valuation basis region ≡ clash_values basis region one two
+  pub none_differs : list_any (λ change. differ_under one two (by_change basis region change)) tried ≡ false → default_valuation basis 0 region ≡ clash_values basis region one two
   none_differs none =
-      sym (ap (λ found. unwrap_or found (default_valuation basis region)) (none_passes (by_change basis region) (differ_under one two) tried none)) ∙ found_is
+      sym (ap (λ found. unwrap_or found (default_valuation basis 0 region)) (none_passes (by_change basis region) (differ_under one two) tried none)) ∙ found_is

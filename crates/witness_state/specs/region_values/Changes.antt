@@ -11,8 +11,8 @@ use Rattle.witness_state.specs.declared.region_values.changes.Change.{Change}
 module _ (basis : Basis) (region : Region) where
   -- the usual values, with this change if there is one
   abbrev pub by_change : Option Change → Valuation
-  by_change None = default_valuation basis region
-  by_change (Some change) = changed (default_valuation basis region) (alone change.property change.value)
+  by_change None = default_valuation basis 0 region
+  by_change (Some change) = changed (default_valuation basis 0 region) (alone change.property change.value)
 
 -- the change to the one value of a property, and that to the other
 abbrev pub both_changes : Basis → PropId → Prop → List (Option Change)

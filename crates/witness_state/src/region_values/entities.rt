@@ -23,7 +23,7 @@ use symbolic_rows::region_pattern;
 /// The entity of a region with the usual values. `Memory` comes where memory ran out.
 pub fn usual_entity(alloc: Global, parts: &Parts<'_>, region: &Region) -> Result<Entity, Memory>
     requires { AreParts parts.now }
-    ensures { IfOk result (λ entity. entity ≡ focus_entity (basis_of parts.now) region.now (default_valuation (basis_of parts.now) region.now)) }
+    ensures { IfOk result (λ entity. entity ≡ focus_entity (basis_of parts.now) region.now (default_valuation (basis_of parts.now) 0 region.now)) }
 {
     changed_entity(alloc, parts, region, None)
 }
@@ -108,7 +108,7 @@ fn entity_with(
 ) -> Result<Entity, Memory>
     requires { AreParts parts.now }
     ensures { IfOk result (λ entity. entity ≡ focus_entity (basis_of parts.now) region.now
-        (changed (default_valuation (basis_of parts.now) region.now) (alone property value))) }
+        (changed (default_valuation (basis_of parts.now) 0 region.now) (alone property value))) }
 {
     let change = Change { property, value };
     changed_entity(alloc, parts, region, Some(&change))

@@ -43,7 +43,7 @@ pub fn fresh_at(
     index: u64,
 ) -> Result<Value, Memory>
     requires { index < 2 ^ 48 }
-    ensures { IfOk result (λ value. value ≡ fresh_at model.now property index) }
+    ensures { IfOk result (λ value. value ≡ fresh_at model.now 0 property index) }
 {
     match model.props.get(property.index as usize) {
         Some(declared) => fresh(alloc, &declared.kind, index),

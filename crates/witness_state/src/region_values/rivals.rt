@@ -42,7 +42,7 @@ pub struct Rival<'r> {
 pub fn rival_entity(alloc: Global, parts: &Parts<'_>, rival: &Rival<'_>) -> Result<Entity, Memory>
     requires parts { AreParts parts.now }
     requires rival { IsRival (basis_of parts.now) rival.now }
-    ensures { IfOk result (λ entity. entity ≡ focus_entity (basis_of parts.now) rival.now.region.now (changed (default_valuation (basis_of parts.now) rival.now.region.now)
+    ensures { IfOk result (λ entity. entity ≡ focus_entity (basis_of parts.now) rival.now.region.now (changed (default_valuation (basis_of parts.now) 0 rival.now.region.now)
         (rival_value (basis_of parts.now) rival.now.first.now rival.now.second.now rival.now.region.now rival.now.other.now))) }
 {
     let mut values = Seq::empty(alloc);
@@ -64,7 +64,7 @@ fn value_of(
 ) -> Result<Value, Memory>
     requires parts { AreParts parts.now }
     requires rival { IsRival (basis_of parts.now) rival.now }
-    ensures { IfOk result (λ value. value ≡ (changed (default_valuation (basis_of parts.now) rival.now.region.now)
+    ensures { IfOk result (λ value. value ≡ (changed (default_valuation (basis_of parts.now) 0 rival.now.region.now)
         (rival_value (basis_of parts.now) rival.now.first.now rival.now.second.now rival.now.region.now rival.now.other.now)).prop property) }
 {
     match rival_value(alloc, parts, rival, property)? {

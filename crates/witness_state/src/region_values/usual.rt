@@ -25,7 +25,7 @@ pub fn default_value(
     property: PropId,
 ) -> Result<Value, Memory>
     requires { AreParts parts.now }
-    ensures { IfOk result (λ value. value ≡ default_value (basis_of parts.now) region.now property) }
+    ensures { IfOk result (λ value. value ≡ default_value (basis_of parts.now) 0 region.now property) }
 {
     match parts.model.props.get(property.index as usize) {
         Some(declared) => declared_value(alloc, parts, region, property, declared),
@@ -42,7 +42,7 @@ fn declared_value(
     declared: &Prop,
 ) -> Result<Value, Memory>
     requires { AreParts parts.now }
-    ensures { IfOk result (λ value. value ≡ declared_value (basis_of parts.now) region.now property declared.now) }
+    ensures { IfOk result (λ value. value ≡ declared_value (basis_of parts.now) 0 region.now property declared.now) }
 {
     let key = key_props(parts.model, region.ty);
     if is_among(property, key) {
@@ -72,7 +72,7 @@ fn value_by(
     told: Option<&Atom>,
 ) -> Result<Value, Memory>
     requires { AreParts parts.now }
-    ensures { IfOk result (λ value. value ≡ value_by (basis_of parts.now) ty property declared.now (option_copied told.entry)) }
+    ensures { IfOk result (λ value. value ≡ value_by (basis_of parts.now) 0 ty property declared.now (option_copied told.entry)) }
 {
     match told {
         Some(Atom::Null) => Ok(Value::Null),
@@ -92,7 +92,7 @@ fn some_value(
     declared: &Prop,
 ) -> Result<Value, Memory>
     requires { AreParts parts.now }
-    ensures { IfOk result (λ value. value ≡ some_value (basis_of parts.now) ty property declared.now) }
+    ensures { IfOk result (λ value. value ≡ some_value (basis_of parts.now) 0 ty property declared.now) }
 {
     if is_dependent(parts.model, property) {
         let place = place_in(property, props_of(parts.model, ty));
@@ -142,7 +142,7 @@ pub fn default_part(
     first: bool,
     property: PropId,
 ) -> Result<Value, Memory>
-    ensures { IfOk result (λ value. value ≡ default_part (basis_of parts.now) assoc first property) }
+    ensures { IfOk result (λ value. value ≡ default_part (basis_of parts.now) 0 assoc first property) }
 {
     let Some(declared) = parts.model.assocs.get(assoc.index as usize) else {
         return Ok(Value::Null);

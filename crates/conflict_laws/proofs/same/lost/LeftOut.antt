@@ -1,5 +1,5 @@
 -- Where a region leaves no row and has one entity for each key, the state with its entity has the same tables as one without it.
-use Rattle.std.proofs.Common.{◌≡◌, ◌≢◌, inl, inr, ⊎_elim, [], List, Contains, IsTrue, None, refl, sym, subst}
+use Rattle.std.proofs.Common.{◌≡◌, ◌≢◌, inl, inr, ⊎_elim, [], List, Contains, IsTrue, None, refl, sym, subst, arith}
 use Rattle.round_trip.specs.Words.{SetId, TableId, DemandsCell, DemandsRow, Entity, EntitySet, FailsAt, Null, State, Table, Value, At, cell_of, entities_in, key_of, place_at, row_key}
 use Rattle.round_trip.specs.FailsAt.{HasEntityOnly}
 use Rattle.round_trip.specs.declared.FailKind.TheVariants as kind
@@ -86,13 +86,13 @@ module _ (basis : Basis) (state : Region → Valuation → State) (rivals : Regi
 
   -- where no property may have several values, the states with its entity and without it fail
   pub absent_fails : first_several basis region ≡ None
-      → FailsAt basis.schema kind.Same (place_at set.name (key_of basis.schema.model (focus_entity basis region (default_valuation basis region))) [])
-      (leaving region (default_valuation basis region)).0 (leaving region (default_valuation basis region)).1
+      → FailsAt basis.schema kind.Same (place_at set.name (key_of basis.schema.model (focus_entity basis region (default_valuation basis 0 region))) [])
+      (leaving region (default_valuation basis 0 region)).0 (leaving region (default_valuation basis 0 region)).1
   absent_fails none =
-      let values : Valuation = default_valuation basis region in
-      let admissible = default_admissible basis has.is_basis has.limits s region listed in
-      let states = leaving region (default_valuation basis region) in
-      let leaves : LeavesFocusOut basis region (default_valuation basis region) states.0 states.1 =
-      has.leaves.leave has.few s region listed (one_per_key basis has.is_basis s region listed absent none) (default_valuation basis region) admissible in
-      left_out_fails (default_valuation basis region) states.0 states.1 leaves
-      (focus_held basis has.is_basis s region listed (default_valuation basis region) admissible.allowed states.0 leaves.first)
+      let values : Valuation = default_valuation basis 0 region in
+      let admissible = default_admissible basis has.is_basis has.limits s region listed 0 (omega arith) in
+      let states = leaving region (default_valuation basis 0 region) in
+      let leaves : LeavesFocusOut basis region (default_valuation basis 0 region) states.0 states.1 =
+      has.leaves.leave has.few s region listed (one_per_key basis has.is_basis s region listed absent none) (default_valuation basis 0 region) admissible in
+      left_out_fails (default_valuation basis 0 region) states.0 states.1 leaves
+      (focus_held basis has.is_basis s region listed (default_valuation basis 0 region) admissible.allowed states.0 leaves.first)

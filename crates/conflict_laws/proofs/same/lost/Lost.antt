@@ -1,5 +1,5 @@
 -- A lost property: the states with entities that differ in it alone have the same tables.
-use Rattle.std.proofs.Common.{◌≡◌, ◌≢◌, ◌&&◌, [], ◌∷◌, List, Bool, true, true≢false, not, Contains, IsTrue, refl, sym, ap, subst, ◌∙◌}
+use Rattle.std.proofs.Common.{◌≡◌, ◌≢◌, ◌&&◌, [], ◌∷◌, List, Bool, true, true≢false, not, Contains, IsTrue, refl, sym, ap, subst, ◌∙◌, arith}
 use Rattle.std.specs.Option.{option_map_or}
 use Rattle.std.proofs.lemmas.Bool.{and_parts, not-true}
 use Rattle.round_trip.specs.Words.{SetId, TableId, ColId, PropId, Prop, EntitySet, Entity, FailsAt, State, At, key_of, key_props, place_at, props_of, value_of}
@@ -31,6 +31,7 @@ use Rattle.conflict_laws.specs.same.States.{HasStates}
 use Rattle.conflict_laws.proofs.same.rows.Cells.{one_cell}
 use Rattle.conflict_laws.proofs.same.rivals.Rivals.{AreTwins, twins_fail}
 use Rattle.conflict_laws.proofs.same.states.States.{is_clear}
+use Rattle.conflict_laws.proofs.rival.Rivals.{one_focus_key}
 
 -- what may have several values, by the fact
 several_of : (can : Possible) → is_multi can ≡ true → (nullable : Bool) × (can ≡ multi nullable)
@@ -94,10 +95,8 @@ module _ (basis : Basis) (state : Region → Valuation → State) (rivals : Regi
       (rivals region one region two).0 (rivals region one region two).1
 
   -- values that differ in the property alone
-  differ_fails : (base one two : Valuation) → IsAdmissible basis region one → IsAdmissible basis region two → DifferAt base one two p → FailsWith one two
+  differ_fails : (base one two : Valuation) → IsAdmissible basis 0 region one → IsAdmissible basis 0 region two → DifferAt base one two p → FailsWith one two
   differ_fails base one two admissible_one admissible_two differ =
-      let hold : HoldRivals basis region region one two (rivals region one region two).0 (rivals region one region two).1 =
-      has.rival.hold has.few s region region listed listed refl one two admissible_one admissible_two (differ.one_parts ∙ sym differ.two_parts) in
       let clear_region = is_clear basis state rivals leaving has s region listed in
       let twins : AreTwins basis s region region one two = record {
         comparable = record { is_one = listed; is_two = listed; linked = refl; clear_one = clear_region; clear_two = clear_region };
@@ -116,6 +115,9 @@ module _ (basis : Basis) (state : Region → Valuation → State) (rivals : Regi
               ∙ ap (value_in two) (one_cell basis has.is_basis (focus.Entity region) t col cell other has_cell too);
         };
       } in
+      let hold : HoldRivals basis region region one two (rivals region one region two).0 (rivals region one region two).1 =
+      has.rival.hold has.few s region region listed listed refl one two admissible_one admissible_two (differ.one_parts ∙ sym differ.two_parts)
+      (one_focus_key basis has.is_basis s region region twins.comparable one two twins.keyed) in
       twins_fail basis has.is_basis has.no_clash s set is_set region region one two twins (rivals region one region two).0 (rivals region one region two).1 hold
       (λ same. differ.different (sym (has_value basis region one p lost.among) ∙ ap (λ (e : Entity). value_of basis.schema.model e p) same
       ∙ has_value basis region two p lost.among))
@@ -131,15 +133,15 @@ module _ (basis : Basis) (state : Region → Valuation → State) (rivals : Regi
         no_key = lost.no_key;
         several = lost.several.1;
       } in
-      let base : Valuation = default_valuation basis region in
+      let base : Valuation = default_valuation basis 0 region in
       let choices : AreTwoChoices basis region p (one_value basis p declared) (other_value basis p declared) =
       two_choices basis has.is_basis s region listed p declared lost.several.0 several has.limits in
-      let differ = differ_at basis has.is_basis s region listed base (default_admissible basis has.is_basis has.limits s region listed) p (one_value basis p declared)
+      let differ = differ_at basis has.is_basis s region listed 0 base (default_admissible basis has.is_basis has.limits s region listed 0 (omega arith)) p (one_value basis p declared)
       (other_value basis p declared) choices in
       let first : with_one basis region p ≡ changed base (alone p (one_value basis p declared)) =
-      ap (λ there. option_map_or (λ (d : Prop). changed (default_valuation basis region) (alone p (one_value basis p d))) there (default_valuation basis region)) found.1 in
+      ap (λ there. option_map_or (λ (d : Prop). changed (default_valuation basis 0 region) (alone p (one_value basis p d))) there (default_valuation basis 0 region)) found.1 in
       let second : with_other basis region p ≡ changed base (alone p (other_value basis p declared)) =
-      ap (λ there. option_map_or (λ (d : Prop). changed (default_valuation basis region) (alone p (other_value basis p d))) there (default_valuation basis region)) found.1 in
+      ap (λ there. option_map_or (λ (d : Prop). changed (default_valuation basis 0 region) (alone p (other_value basis p d))) there (default_valuation basis 0 region)) found.1 in
       subst (FailsWith (with_one basis region p)) (sym second)
       (subst (λ one. FailsWith one (changed base (alone p (other_value basis p declared)))) (sym first)
       (differ_fails base (changed base (alone p (one_value basis p declared))) (changed base (alone p (other_value basis p declared))) differ.0 differ.1 differ.2))

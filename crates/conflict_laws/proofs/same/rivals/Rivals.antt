@@ -1,10 +1,9 @@
 -- States that hold entities of two regions with one key, written alike, have the same tables.
-use Rattle.std.proofs.Common.{◌≡◌, ◌≢◌, inl, inr, List, [], ◌∷◌, map, Contains, refl, sym, ap, subst, ◌∙◌}
-use Rattle.round_trip.specs.Words.{SetId, TableId, ColId, Entity, EntitySet, FailsAt, State, Table, Value, At, key_of, key_props, place_at, value_of}
+use Rattle.std.proofs.Common.{◌≡◌, ◌≢◌, inl, inr, List, [], ◌∷◌, Contains, refl, sym, subst, ◌∙◌}
+use Rattle.round_trip.specs.Words.{SetId, TableId, ColId, Entity, EntitySet, FailsAt, State, Table, Value, At, key_of, place_at}
 use Rattle.round_trip.specs.FailsAt.{HasEntityOnly}
 use Rattle.round_trip.specs.declared.FailKind.TheVariants as kind
 use Rattle.schema_laws.proofs.state_demand.lists.Lists.{head_stands}
-use Rattle.schema_laws.proofs.state_demand.lists.Places.{map_agree}
 use Rattle.schema_laws.specs.sound_demand.Made.{tables_for}
 use Rattle.schema_laws.proofs.sound_demand.Kept.{tables_there}
 use Rattle.regions.specs.declared.region.Region.{Region}
@@ -18,18 +17,18 @@ use Rattle.regions.proofs.region_laws.listing.Listed.{set_is}
 use Rattle.regions.specs.region_laws.pattern.Allowed.{IsAllowed}
 use Rattle.regions.specs.region_laws.pattern.Described.{value_in}
 use Rattle.regions.specs.region_laws.pattern.Listed.{HasCell}
-use Rattle.schema_laws.proofs.sound_types.Inherited.{key_among}
 use Rattle.region_states.specs.focus.Held.{IsAtRow, IsHeldAt}
 use Rattle.region_states.specs.conflicts.There.{NoneFailsBy}
 use Rattle.region_states.specs.Entities.{focus_entity}
 use Rattle.region_states.specs.Hosting.{DifferAtMostAt, HoldRivals}
-use Rattle.region_states.proofs.Entities.{has_value, symbol_value}
+use Rattle.region_states.proofs.Entities.{symbol_value}
 use Rattle.region_states.proofs.Held.{focus_held}
 use Rattle.conflict_laws.specs.rival.Alike.{AreComparable, AreWrittenAlike, HaveOneKey}
 use Rattle.conflict_laws.proofs.same.states.Different.{same_fails}
-use Rattle.conflict_laws.proofs.same.states.Legal.{at_same_row, key_parts, one_at_key, unclashed}
+use Rattle.conflict_laws.proofs.same.states.Legal.{at_same_row, one_at_key, unclashed}
 use Rattle.conflict_laws.proofs.same.states.SameTables.{AgreeAt, AgreeEverywhere, IsAtEither, agree_everywhere, tables_too}
 use Rattle.conflict_laws.proofs.same.rivals.Written.{agree_at}
+use Rattle.conflict_laws.proofs.rival.Rivals.{one_focus_key}
 
 -- the value of a cell by the entity that is made of values is that by these
 value_by : (basis : Basis) → IsBasis basis → (s : SetId) (region : Region) → Contains (regions_of basis s) region → (values : Valuation) (t : TableId) (col : ColId)
@@ -68,15 +67,7 @@ module _ (basis : Basis) (is : IsBasis basis) (none_clash : NoneFailsBy basis.sc
 
   -- the entities have one key
   same_key : key_of basis.schema.model mine ≡ key_of basis.schema.model theirs
-  same_key =
-      let parts : key_props basis.schema.model one.ty ≡ key_props basis.schema.model two.ty =
-      key_parts basis.schema is.sound s set is_set c hold.first.legal mine held_x.stands
-      ∙ sym (key_parts basis.schema is.sound s set is_set d hold.second.legal theirs held_y.stands) in
-      map_agree (value_of basis.schema.model mine) (value_of basis.schema.model theirs) (key_props basis.schema.model one.ty) (λ p among.
-      has_value basis one values p (key_among basis.schema.model is.sound.model p one.ty among)
-      ∙ twins.keyed.keys p among
-      ∙ sym (has_value basis two others p (key_among basis.schema.model is.sound.model p two.ty (subst (λ props. Contains props p) parts among))))
-      ∙ ap (map (value_of basis.schema.model theirs)) parts
+  same_key = one_focus_key basis is s one two twins.comparable values others twins.keyed
 
   -- and are written alike
   alike_by : AreWrittenAlike basis one two (by_entity basis.schema.model mine values.part) (by_entity basis.schema.model theirs others.part)

@@ -22,7 +22,7 @@ use Rattle.conflict_laws.specs.rival.Alike.{AreComparable, patterns_match}
 use Rattle.conflict_laws.specs.rival.RivalValues.{first_values, second_values}
 use Rattle.conflict_laws.proofs.rival.Alike.{comparable_back}
 use Rattle.conflict_laws.proofs.rival.Matching.{match_same}
-use Rattle.conflict_laws.proofs.rival.Rivals.{rival_admissible, rival_keys}
+use Rattle.conflict_laws.proofs.rival.Rivals.{rival_admissible, rival_keys, one_focus_key}
 use Rattle.conflict_laws.proofs.rival.Rows.{AreMatched, are_matched, matched_back}
 use Rattle.conflict_laws.proofs.rival.Told.{told_one}
 use Rattle.conflict_laws.proofs.rival.Written.{written_alike}
@@ -88,7 +88,7 @@ module _ (basis : Basis) (state : Region → Valuation → State) (rivals : Regi
   d = (rivals one (first_values basis one two) two (second_values basis one two)).1
 
   -- the values are admissible
-  admissible : IsAdmissible basis one values × IsAdmissible basis two others
+  admissible : IsAdmissible basis 0 one values × IsAdmissible basis 0 two others
   admissible =
       let matched : AreMatched basis one two = are_matched basis one two parts.1 in (
         rival_admissible basis has.is_basis s one two has.limits one two comparable matched,
@@ -109,7 +109,8 @@ module _ (basis : Basis) (state : Region → Valuation → State) (rivals : Regi
   pub rivals_fail : FailsAt basis.schema kind.Same (place_at set.name (key_of basis.schema.model (focus_entity basis one (first_values basis one two))) [])
       (rivals one (first_values basis one two) two (second_values basis one two)).0 (rivals one (first_values basis one two) two (second_values basis one two)).1
   rivals_fail =
-      let hold : HoldRivals basis one two values others c d = has.rival.hold has.few s one two has_one has_two linked values others admissible.0 admissible.1 refl in
+      let hold : HoldRivals basis one two values others c d = has.rival.hold has.few s one two has_one has_two linked values others admissible.0 admissible.1 refl
+      (one_focus_key basis has.is_basis s one two comparable values others (rival_keys basis has.is_basis s one two comparable)) in
       let held_one : IsHeldAt basis c s (focus_entity basis one values) one values.part = focus_held basis has.is_basis s one has_one values admissible.0.allowed c hold.first in
       let held_two : IsHeldAt basis d s (focus_entity basis two others) two others.part = focus_held basis has.is_basis s two has_two others admissible.1.allowed d hold.second in
       twins_fail basis has.is_basis has.no_clash s set is_set one two values others twins c d hold

@@ -1,4 +1,4 @@
-use Rattle.region_states.proofs.defaults.Changes.{changed_admissible, differ_at, two_choices}
+use Rattle.region_states.proofs.defaults.Changes.{changed_admissible, changed_key, differ_at, two_choices}
 use Rattle.region_states.proofs.default_values.properties_can_differ.Goals as goal
 
 pub returns-clause-choices : goal.returns-clause-choices
@@ -9,3 +9,6 @@ returns-clause-alone c = differ_at
 
 pub returns-clause-together : goal.returns-clause-together
 returns-clause-together c = changed_admissible
+
+pub returns-clause-keys : goal.returns-clause-keys
+returns-clause-keys c = changed_key

@@ -1,25 +1,17 @@
 -- Kinds of properties that are joined, and of dependent ones.
-use Rattle.std.proofs.Common.{◌≡◌, ◌⊎◌, ⊎_elim, inr, [], map, option_map, slice_get, Option, Some, None, Contains, refl, sym, ap, subst, ◌∙◌}
-use Rattle.std.specs.Option.{option_map_or}
+use Rattle.std.proofs.Common.{◌≡◌, ⊎_elim, inr, Option, Some, None, refl, sym, ap, subst, ◌∙◌}
 use Rattle.std.proofs.lemmas.List.Elements.{All-contains}
-use Rattle.std.proofs.lemmas.Option.{MatchOption-at_some}
 use Rattle.emc_base.specs.declared.value.Under.{Under}
 use Rattle.emc_base.specs.declared.value.Kind.TheVariants as kind
 use Rattle.emc_base.specs.declared.value.Under.TheVariants as under
 use Rattle.emc_base.proofs.Lists.{at_once}
-use Rattle.emc_base.proofs.Mapped.{contains_at, contains_map}
-use Rattle.emc_base.proofs.Numbered.{map_contains}
-use Rattle.round_trip.specs.Words.{TableId, ColId, PropId, TypeId, Kind, EntityModel, EntityType, Prop, Assoc, Constraint, Schema, At, key_props, principal_end}
-use Rattle.round_trip.specs.soundness.models.Constraints.{HasIndependentMults, HasMatchedLists, IsSoundAssoc, IsSoundConstraint}
-use Rattle.round_trip.specs.soundness.models.Inheritance.{IsKeyProp}
+use Rattle.round_trip.specs.Words.{TableId, ColId, PropId, Kind, Prop, Schema, At}
 use Rattle.round_trip.specs.soundness.mappings.Joined.{IsDependent, Joined, WritesNoBarredEnum, prop, col}
-use Rattle.round_trip.specs.soundness.Kinds.{IsBinary, IsEnum, IsKeyKind, IsSoundKind, under_kind, without_bound}
+use Rattle.round_trip.specs.soundness.Kinds.{IsBinary, IsEnum, IsKeyKind, under_kind, without_bound}
 use Rattle.round_trip.specs.soundness.Lookups.{column_kind, prop_kind}
 use Rattle.round_trip.specs.soundness.mappings.Mappings.{IsSoundSchema}
-use Rattle.round_trip.specs.soundness.models.Models.{IsSoundModel}
-use Rattle.round_trip.proofs.Classes.{HasClass, IsPaired, class_of, joined_class, joined_paired, key_unbound}
+use Rattle.round_trip.proofs.Classes.{HasClass, IsPaired, class_of, joined_class, joined_paired}
 use Rattle.round_trip.proofs.Lookups.{column_kind_at, prop_kind_at}
-use Rattle.schema_laws.proofs.state_demand.lists.Lists.{none_in_nil}
 use Rattle.schema_laws.proofs.sound_types.Dependent.{dependent_is, dependent_kind}
 use Rattle.schema_laws.proofs.sound_demand.Fitting.{sound_fragment}
 

@@ -154,7 +154,7 @@ module _ (basis : Basis) (is : IsBasis basis) where
 
     pub plain_two : IsWithinLimits schema → IsPlainKind declared.kind → AreTwoFree declared.kind constants (first_free declared.kind constants) (next_free declared.kind constants)
     plain_two limits plain =
-        two_free constants declared.kind plain (sound_kind schema is.sound p declared here) (enough declared.kind plain binary_none (few limits))
+        two_free constants declared.kind plain (sound_kind schema.model is.sound.model p declared here) (enough declared.kind plain binary_none (few limits))
 
     -- of an untested property that is no part of a key an enumeration has two numbers
     two_there : IsNoKey schema (prop p) → ¬ IsTrue (basis.tested (prop p)) → (k : Kind) → declared.kind ≡ k → IsSoundKind k → 2 ≤ length (candidates k)
@@ -173,6 +173,6 @@ module _ (basis : Basis) (is : IsBasis basis) where
     pub untested_two : IsNoKey schema (prop p) → ¬ IsTrue (basis.tested (prop p))
         → AreTwoFree declared.kind constants (first_free declared.kind constants) (next_free declared.kind constants)
     untested_two free untested =
-        let sound : IsSoundKind declared.kind = sound_kind schema is.sound p declared here in
+        let sound : IsSoundKind declared.kind = sound_kind schema.model is.sound.model p declared here in
         let P : List Value → Type 0 = λ list. AreTwoFree declared.kind list (first_free declared.kind list) (next_free declared.kind list) in
         subst P (sym (untested_none untested)) (two_of_all declared.kind sound (two_there free untested declared.kind refl sound))

@@ -1,9 +1,7 @@
 -- Places of parts of keys and of properties, and the indices that they give.
-use Rattle.std.proofs.Common.{◌≡◌, ⊎_elim, ℕ, zero, suc, ◌==◌, ◌<◌, ◌≤◌, List, [], ◌∷◌, length, slice_get, Contains, Option, Some, None, refl, sym, ap, subst, arith}
+use Rattle.std.proofs.Common.{◌≡◌, ℕ, zero, suc, ◌<◌, ◌≤◌, List, [], length, slice_get, Contains, Option, Some, None, refl, sym, ap, subst, arith}
 use Rattle.std.specs.Bool.{⊤}
 use Rattle.std.specs.Option.{option_map_or}
-use Rattle.std.proofs.lemmas.Bool.{cond_both}
-use Rattle.std.proofs.lemmas.Bool.Decides.{not_from_Decides}
 use Rattle.std.proofs.lemmas.List.Elements.{All-contains}
 use Rattle.std.proofs.lemmas.Option.{MatchOption-at_none, MatchOption-at_some, slice_get_within}
 use Rattle.emc_base.proofs.Mapped.{contains_at}
@@ -18,7 +16,6 @@ use Rattle.schema_laws.proofs.state_demand.lists.Lists.{member_cases, none_in_ni
 use Rattle.schema_laws.proofs.sound_demand.Keys.{keys_few}
 use Rattle.schema_laws.proofs.short_values.Places.{place_within}
 use Rattle.cells.specs.Limits.{IsSmallModel, most_props}
-use Rattle.schema_laws.proofs.state_demand.lists.Ids.{Decides-prop}
 use Rattle.schema_laws.specs.short_values.Places.{place_in}
 use Rattle.schema_laws.specs.short_values.Fresh.{dependent, dependent_value, focus, focus_key, most_indices, partner, partner_key}
 use Rattle.schema_laws.proofs.short_values.Uses.{index_below}

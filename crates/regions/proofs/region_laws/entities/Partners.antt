@@ -43,7 +43,7 @@ module _ (basis : Basis) (is : IsBasis basis) (state : State) (legal : IsLegal (
   part = part_by basis state s key
 
   told : (host : Host) → Contains (basis.hosts s) host → (link : Link) → links_at state host key ≡ link ∷ [] → TellsPartner basis host link part
-  told host hosts link is_one assoc here p =
+  told host hosts link is_one assoc here p has =
       ap (λ found. option_map_or (part_at basis state key p) found Null) (found_host (basis.hosts s) (is.order s) host hosts)
       ∙ ap (λ found. option_map_or (λ (one : Assoc). part_in (model_of basis) (partner_end host.first_hosts one).ty host.first_hosts p
       (links_at state host key)) found Null) here

@@ -19,6 +19,7 @@ use Rattle.condition_logic.specs.declared.atoms.Atom.{Atom}
 use Rattle.condition_logic.specs.declared.atoms.Atom.TheVariants as atom
 use Rattle.condition_logic.specs.declared.atoms.AtomOf.{AtomOf}
 use Rattle.schema_laws.specs.state_demand.Selecting.{is_picked, passes}
+use Rattle.schema_laws.proofs.short_values.Places.{Decides-among}
 use Rattle.schema_laws.proofs.state_demand.lists.Lists.{Decides-any, any_of, head_stands, member_cases, none_in_nil, of_any, tail_stands}
 use Rattle.schema_laws.proofs.state_demand.writings.Selecting.{Decides-passes}
 use Rattle.schema_laws.proofs.sound_demand.Fitting.{sound_fragment}
@@ -47,13 +48,6 @@ Decides-members p P (x ∷ xs) each = Decides-like (p x && list_all p xs)
     (λ (both : P x × All P xs). All-cons P x xs both.0 both.1)
     (λ all. (All-head P x xs all, All-tail P x xs all))
     (Decides-and (p x) (list_all p xs) (each x (head_stands x xs)) (Decides-members p P xs (λ y has. each y (tail_stands x xs y has))))
-
--- what is among the properties is known
-Decides-among : (props : List PropId) (p : PropId) → Decides (list_any (λ q. q.index == p.index) props) (Contains props p)
-Decides-among props p = Decides-like (list_any (λ q. q.index == p.index) props)
-    (λ any. let found = of_any (λ (q : PropId). q ≡ p) props any in subst (Contains props) found.2 found.1)
-    (λ has. any_of (λ (q : PropId). q ≡ p) props p has refl)
-    (Decides-any (λ (q : PropId). q.index == p.index) (λ (q : PropId). q ≡ p) (λ q. Decides-prop q p) props)
 
 -- a property that isn't among these has null beside it
 null_beside : (p : PropId) (props : List PropId) (values : List Value) → ¬ Contains props p → value_beside p props values ≡ Null
@@ -113,7 +107,7 @@ module _ (basis : Basis) (is : IsBasis basis) (fragment : Fragment) (mapped : Co
 
     no_key : IsNoKey basis.schema (prop p)
     no_key =
-        let declared = declared_above (model_of basis) is.sound.model pick.ty p of_pick in
+        let declared = declared_above (model_of basis) is.sound.model p pick.ty of_pick in
         let under = All-contains (λ (one : Pick). IsUnderElement (model_of basis) fragment.set one.ty) fragment.picks pick sound.picks picked in
         let keys = (inherits_keys (model_of basis) is.sound.model).same in
         let key : key_props (model_of basis) declared.0.owner ≡ set_key (model_of basis) fragment.set =

@@ -17,7 +17,7 @@ use Rattle.regions.specs.Patterns.{cell_symbols, is_written, pattern_by, pattern
 use Rattle.regions.specs.Symbols.{SymbolWriting, same_symbol}
 use Rattle.regions.specs.region_laws.pattern.Listed.{HasCell}
 use Rattle.regions.proofs.region_laws.pattern.Choices.{contains_firsts, firsts_apart, member_of_firsts}
-use Rattle.regions.proofs.region_laws.pattern.Settled.{Decides-symbol}
+use Rattle.regions.proofs.region_laws.values.Symbols.{Decides-symbol}
 
 -- one of the writings to the table writes the symbol to the column
 pub record IsWrittenSymbol (writings : List SymbolWriting) (t : TableId) (col : ColId) (symbol : Symbol) : Type 0 where

@@ -1,8 +1,8 @@
 -- Cells without a clash: their symbols have one value, which is known or that of one symbol.
-use Rattle.std.proofs.Common.{◌≡◌, ◌≢◌, ◌⊎◌, ⊎_elim, inl, inr, ◌↔◌, ◌==◌, ◌&&◌, List, [], ◌∷◌, Bool, true, false, not, if◌then◌else◌, IsTrue, AllPairs, Any, Contains, Decides, refl, sym, ap, subst, ◌∙◌}
+use Rattle.std.proofs.Common.{◌≡◌, ◌≢◌, ◌⊎◌, ⊎_elim, inl, inr, ◌↔◌, List, [], ◌∷◌, Bool, false, not, IsTrue, AllPairs, Any, Contains, Decides, refl, sym, ap, subst, ◌∙◌}
 use Rattle.std.specs.List.{list_any}
-use Rattle.std.proofs.lemmas.Bool.Decides.{Decides-and, Decides-eqb, Decides-like, Decides-not, not_from_Decides}
-use Rattle.round_trip.specs.Words.{PropId, AssocId, Value, Null, EntityModel}
+use Rattle.std.proofs.lemmas.Bool.Decides.{Decides-and, Decides-like, Decides-not, not_from_Decides}
+use Rattle.round_trip.specs.Words.{Value, Null, EntityModel}
 use Rattle.condition_logic.specs.declared.atoms.AtomOf.{AtomOf}
 use Rattle.schema_laws.specs.state_demand.Selecting.{same_value}
 use Rattle.schema_laws.proofs.state_demand.writings.Decisions.{so_or_not}
@@ -10,47 +10,12 @@ use Rattle.schema_laws.proofs.state_demand.lists.Lists.{Decides-any, any_of, hea
 use Rattle.schema_laws.proofs.state_demand.lists.Permutations.{head_apart}
 use Rattle.schema_laws.proofs.state_demand.writings.Selecting.{Decides-value}
 use Rattle.regions.specs.declared.pattern.Symbol.{Symbol}
-use Rattle.regions.specs.declared.pattern.Symbol.TheVariants as symbol
 use Rattle.regions.specs.Symbols.{same_symbol}
 use Rattle.regions.specs.Patterns.{Valuation, value_under}
 use Rattle.regions.specs.Settled.{Possible, are_one, clashes, free, has_clash, known, multi, possible, settle, settled_by, single}
 use Rattle.regions.specs.region_laws.pattern.Allowed.{CanBe}
 use Rattle.regions.specs.region_laws.pattern.Described.{HasTwoSymbols}
-
-Decides-prop : (p q : PropId) → Decides (p.index == q.index) (p ≡ q)
-Decides-prop p q = Decides-like (p.index == q.index) (λ same k. record { index = same k }) (λ same. ap (λ (one : PropId). one.index) same) (Decides-eqb p.index q.index)
-
-pub Decides-assoc : (a b : AssocId) → Decides (a.index == b.index) (a ≡ b)
-Decides-assoc a b = Decides-like (a.index == b.index) (λ same k. record { index = same k }) (λ same. ap (λ (one : AssocId). one.index) same) (Decides-eqb a.index b.index)
-
-Decides-flag : (first second : Bool) → Decides (if first then second else (if second then false else true)) (first ≡ second)
-Decides-flag true true = (λ told. refl, λ same. refl)
-Decides-flag true false = (λ told. cc, λ same. cc)
-Decides-flag false true = (λ told. cc, λ same. cc)
-Decides-flag false false = (λ told. refl, λ same. refl)
-
-pub Decides-symbol : (one two : Symbol) → Decides (same_symbol one two) (one ≡ two)
-Decides-symbol symbol.Null symbol.Null = (λ told. refl, λ same. refl)
-Decides-symbol symbol.Null (symbol.Const two) = (λ told. cc, λ same. cc)
-Decides-symbol symbol.Null (symbol.Prop q) = (λ told. cc, λ same. cc)
-Decides-symbol symbol.Null (symbol.End b second q) = (λ told. cc, λ same. cc)
-Decides-symbol (symbol.Const one) symbol.Null = (λ told. cc, λ same. cc)
-Decides-symbol (symbol.Const one) (symbol.Const two) = Decides-like (same_value one two) (λ same k. symbol.Const (same k)) (λ same. cc) (Decides-value one two)
-Decides-symbol (symbol.Const one) (symbol.Prop q) = (λ told. cc, λ same. cc)
-Decides-symbol (symbol.Const one) (symbol.End b second q) = (λ told. cc, λ same. cc)
-Decides-symbol (symbol.Prop p) symbol.Null = (λ told. cc, λ same. cc)
-Decides-symbol (symbol.Prop p) (symbol.Const two) = (λ told. cc, λ same. cc)
-Decides-symbol (symbol.Prop p) (symbol.Prop q) = Decides-like (p.index == q.index) (λ same k. symbol.Prop (same k)) (λ same. cc) (Decides-prop p q)
-Decides-symbol (symbol.Prop p) (symbol.End b second q) = (λ told. cc, λ same. cc)
-Decides-symbol (symbol.End a first p) symbol.Null = (λ told. cc, λ same. cc)
-Decides-symbol (symbol.End a first p) (symbol.Const two) = (λ told. cc, λ same. cc)
-Decides-symbol (symbol.End a first p) (symbol.Prop q) = (λ told. cc, λ same. cc)
-Decides-symbol (symbol.End a first p) (symbol.End b second q) =
-    let flags : Bool = if first then second else (if second then false else true) in
-    Decides-like ((a.index == b.index) && flags && (p.index == q.index))
-    (λ (all : ((a ≡ b) × (first ≡ second)) × (p ≡ q)) k. symbol.End (all.0.0 k) (all.0.1 k) (all.1 k))
-    (λ same. (((let is : a ≡ b = cc in is), (let is : first ≡ second = cc in is)), (let is : p ≡ q = cc in is)))
-    (Decides-and ((a.index == b.index) && flags) (p.index == q.index) (Decides-and (a.index == b.index) flags (Decides-assoc a b) (Decides-flag first second)) (Decides-prop p q))
+use Rattle.regions.proofs.region_laws.values.Symbols.{Decides-symbol}
 
 -- both can be one and the same value alone
 abbrev AreOne : Possible → Possible → Type 0

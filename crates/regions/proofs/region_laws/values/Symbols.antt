@@ -1,7 +1,7 @@
 -- Whether two symbols are one is decided by what is computed.
 use Rattle.std.proofs.Common.{◌≡◌, Bool, true, false, true≢false, ◌==◌, ◌&&◌, Decides, refl, sym, ap, subst, if◌then◌else◌}
 use Rattle.std.specs.Bool.{⊤}
-use Rattle.std.proofs.lemmas.Bool.Decides.{Decides-and, Decides-eqb, Decides-like}
+use Rattle.std.proofs.lemmas.Bool.Decides.{Decides-and, Decides-like}
 use Rattle.regions.specs.declared.pattern.Symbol.{Symbol}
 use Rattle.regions.specs.declared.pattern.Symbol.TheVariants as symbol
 use Rattle.regions.specs.Symbols.{same_symbol}

@@ -1,13 +1,11 @@
 -- What a basis tells of properties, and of their atoms.
 use Rattle.std.proofs.Common.{◌≡◌, Contains}
-use Rattle.std.proofs.lemmas.List.Elements.{All-contains}
 use Rattle.std.proofs.lemmas.Option.{slice_get_within}
 use Rattle.emc_base.specs.Lists.{AreApart}
-use Rattle.emc_base.proofs.Mapped.{contains_at}
 use Rattle.round_trip.specs.Words.{PropId, Prop, Value, At}
 use Rattle.round_trip.specs.soundness.mappings.Joined.{prop}
-use Rattle.round_trip.specs.soundness.Kinds.{IsSoundKind}
 use Rattle.condition_logic.specs.declared.atoms.Atom.{Atom}
+use Rattle.schema_laws.proofs.sound_types.Dependent.{sound_kind}
 use Rattle.regions.specs.Atoms.{Allows, LiesIn, atom_of, atoms_of}
 use Rattle.regions.specs.Basis.{Basis}
 use Rattle.regions.specs.region_laws.IsBasis.{IsBasis}
@@ -19,11 +17,6 @@ module _ (basis : Basis) (is : IsBasis basis) where
     pub constants_once : AreApart (basis.constants (prop p))
     constants_once = rising_apart (basis.constants (prop p)) (is.constants (prop p) (slice_get_within basis.schema.model.props p.index declared here)).sorted
 
-    pub sound_kind : IsSoundKind declared.kind
-    sound_kind =
-        let Sound : Prop → Type 0 = λ one. IsSoundKind one.kind in
-        All-contains Sound basis.schema.model.props declared is.sound.model.kinds (contains_at basis.schema.model.props p.index declared here)
-
     pub atom_one : (value : Value) → Allows declared value
         → Contains (atoms_of basis.fits declared (basis.constants (prop p))) (atom_of declared (basis.constants (prop p)) value)
         × LiesIn (basis.constants (prop p)) (atom_of declared (basis.constants (prop p)) value) value
@@ -34,4 +27,4 @@ module _ (basis : Basis) (is : IsBasis basis) where
     atom_only a value has lies = only basis.fits is.domains (basis.constants (prop p)) declared a value has lies
 
     pub atoms_once : AreApart (atoms_of basis.fits declared (basis.constants (prop p)))
-    atoms_once = apart basis.fits is.domains (basis.constants (prop p)) declared sound_kind constants_once
+    atoms_once = apart basis.fits is.domains (basis.constants (prop p)) declared (sound_kind basis.schema.model is.sound.model p declared here) constants_once

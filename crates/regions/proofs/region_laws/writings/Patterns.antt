@@ -4,7 +4,7 @@ use Rattle.std.specs.List.{AllZip, list_any}
 use Rattle.std.specs.Option.{option_map_or}
 use Rattle.std.proofs.lemmas.Bool.{and_parts}
 use Rattle.std.proofs.lemmas.Bool.Decides.{Decides-eqb, Decides-like, not_from_Decides}
-use Rattle.std.proofs.lemmas.List.Elements.{All-contains, Contains-append_cases, Contains-append_left, Contains-append_right}
+use Rattle.std.proofs.lemmas.List.Elements.{Contains-append_cases, Contains-append_left, Contains-append_right}
 use Rattle.emc_base.proofs.Lists.{all_from_members, only_member, only_stands}
 use Rattle.emc_base.proofs.Mapped.{contains_filter, contains_map}
 use Rattle.emc_base.proofs.Numbered.{filter_contains, map_contains}
@@ -19,6 +19,7 @@ use Rattle.schema_laws.proofs.state_demand.owners.Owners.{beside_map}
 use Rattle.schema_laws.proofs.state_demand.writings.Selecting.{Decides-key}
 use Rattle.schema_laws.proofs.sound_demand.Fitting.{sound_link}
 use Rattle.schema_laws.proofs.sound_demand.Keys.{inherits_keys}
+use Rattle.schema_laws.proofs.sound_demand.owners.Pairing.{written_part}
 use Rattle.regions.specs.declared.region.Region.{Region}
 use Rattle.regions.specs.Basis.{Basis, Host, host_end, host_key, partner_end, partner_key}
 use Rattle.regions.specs.Regions.{Holds, flag_values, flagged, flags_at, model_of, regions_of}
@@ -112,6 +113,11 @@ module _ (basis : Basis) (is : IsBasis basis) where
     keyed true first second = first
     keyed false first second = second
 
+    keyed_beyond : (b : Bool) → WritesEndKey (model_of basis) assoc.first.ty fragment.first → WritesEndKey (model_of basis) assoc.second.ty fragment.second
+        → WritesEndKey (model_of basis) (partner_end b assoc).ty (pairs_beyond b fragment)
+    keyed_beyond true first second = second
+    keyed_beyond false first second = first
+
   module _ (state : State) (s : SetId) (entity : Entity) (stands : Contains (entities_in state s) entity) (region : Region) (among : Contains (regions_of basis s) region)
       (links : List Hosted) (holds : Holds basis region entity links) (part : AssocId → Bool → PropId → Value) (partners : HasPartners basis state s entity region part) where
     abbrev told_by : Valuation
@@ -195,8 +201,7 @@ module _ (basis : Basis) (is : IsBasis basis) where
           (is.types.tells entity.ty end).0 (subst (λ t. IsTrue (basis.is_a t end)) (sym holds.typed) (may_host s region among host hosts linked assoc at_host)) in
           let keys : key_props (model_of basis) entity.ty ≡ key_props (model_of basis) end = (inherits_keys (model_of basis) is.sound.model).same entity.ty end under in
           let in_key : Contains (key_props (model_of basis) end) pair.prop =
-          All-contains (Contains (key_props (model_of basis) end)) (map (λ (one : Pair). one.prop) (pairs_at host.first_hosts fragment)) pair.prop writes.only
-          (contains_map (λ (one : Pair). one.prop) (pairs_at host.first_hosts fragment) pair has) in
+          written_part basis.schema is.sound end (pairs_at host.first_hosts fragment) writes pair has in
           let in_own : Contains (key_props (model_of basis) entity.ty) pair.prop = subst (λ props. Contains props pair.prop) (sym keys) in_key in
           sym (ap (value_beside pair.prop (key_props (model_of basis) end)) at_key
           ∙ ap (λ props. value_beside pair.prop props key) (sym keys)
@@ -204,7 +209,12 @@ module _ (basis : Basis) (is : IsBasis basis) where
 
       other_told : All (TellsOther fragment assoc link told_by host.first_hosts) (pairs_beyond host.first_hosts fragment)
       other_told = all_from_members (TellsOther fragment assoc link told_by host.first_hosts) (pairs_beyond host.first_hosts fragment) (λ pair has.
-          ap (λ a. part a (if host.first_hosts then false else true) pair.prop) of_assoc ∙ told assoc at_host pair.prop)
+          let end : TypeId = (partner_end host.first_hosts assoc).ty in
+          let sound = sound_link basis.schema is.sound fragment mapped assoc here in
+          let writes : WritesEndKey (model_of basis) end (pairs_beyond host.first_hosts fragment) =
+          keyed_beyond fragment assoc link told_by host.first_hosts sound.first sound.second in
+          ap (λ a. part a (if host.first_hosts then false else true) pair.prop) of_assoc
+          ∙ told assoc at_host pair.prop (written_part basis.schema is.sound end (pairs_beyond host.first_hosts fragment) writes pair has))
 
       hosted_concrete : given_cells (link_writing (model_of basis) fragment assoc link)
           ≡ concrete told_by (link_fragment_writing host.first_hosts (if host.first_hosts then false else true) fragment).cells

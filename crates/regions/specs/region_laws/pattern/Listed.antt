@@ -1,7 +1,7 @@
 -- Where symbols stand in patterns, and which properties are parts of keys.
 -- Source: MSL version 3, ScalarProperty, EndProperty and Condition; CSDL version 3, Key.
 use Rattle.std.specs.Prelude.{◌≡◌, List, [], ◌∷◌, Contains, Bool, if◌then◌else◌, ⊤}
-use Rattle.round_trip.specs.Words.{PropId, TableId, ColId, AssocId, Value, EntityModel, Prop, LinkFragment, Pair, Schema, At, key_props}
+use Rattle.round_trip.specs.Words.{TableId, ColId, AssocId, Value, EntityModel, LinkFragment, Pair, Schema, At}
 use Rattle.condition_logic.specs.declared.atoms.AtomOf.{AtomOf}
 use Rattle.regions.specs.declared.pattern.Symbol.{Symbol}
 use Rattle.regions.specs.declared.pattern.Symbol.TheVariants as symbol

@@ -7,7 +7,7 @@ use Rattle.emc_base.specs.Lists.{AreApart}
 use Rattle.emc_base.proofs.Lists.{all_from_members}
 use Rattle.emc_base.proofs.Mapped.{contains_at, contains_map}
 use Rattle.emc_base.proofs.Numbered.{map_contains}
-use Rattle.round_trip.specs.Words.{SetId, PropId, TableId, ColId, EntitySet, Assoc, End, LinkFragment, Pair, Schema, At, key_props, key_columns}
+use Rattle.round_trip.specs.Words.{SetId, PropId, TableId, ColId, EntitySet, Assoc, End, LinkFragment, Pair, Schema, At, key_props, key_columns, TypeId}
 use Rattle.round_trip.specs.FailsAt.{IsHostedAt}
 use Rattle.round_trip.specs.soundness.models.Constraints.{IsSoundAssoc, IsSoundEnd}
 use Rattle.round_trip.specs.soundness.mappings.Fragments.{WritesEndKey}
@@ -74,6 +74,12 @@ module _ (schema : Schema) (sound : IsSoundSchema schema) where
       let set : EntitySet = is.under.0 in
       (inherits_keys schema.model sound.model).same end.ty set.element is.under.2 ∙ sym (key_of_set end.set set is.under.1)
 
+  -- what is written at an end is a part of the key there
+  pub written_part : (ty : TypeId) (pairs : List Pair) → WritesEndKey schema.model ty pairs → (pair : Pair) → Contains pairs pair
+      → Contains (key_props schema.model ty) pair.prop
+  written_part ty pairs writes pair has =
+      All-contains (Contains (key_props schema.model ty)) (props_in pairs) pair.prop writes.only (contains_map (λ (one : Pair). one.prop) pairs pair has)
+
   by_set : (t : TableId) (s : SetId) (pairs : List Pair) → SetWrites schema t s pairs → PairsKey schema t (set_key schema.model s) pairs
   by_set t s pairs by =
       let is = sound_fragment schema sound by.fragment by.is_fragment in
@@ -92,8 +98,7 @@ module _ (schema : Schema) (sound : IsSoundSchema schema) where
       subst P (end_key end is) (record {
         cols = all_from_members (λ (col : ColId). Any (λ (pair : Pair). (pair.col ≡ col) × Contains key pair.prop) pairs) keys (λ col has.
             let found = map_contains (λ (pair : Pair). pair.col) pairs col (All-contains (Contains (cols_of pairs)) keys col hosted.whole has) in
-            let among : Contains key found.0.prop = All-contains (Contains key) (props_in pairs) found.0.prop writes.only
-            (contains_map (λ (pair : Pair). pair.prop) pairs found.0 found.1) in
+            let among : Contains key found.0.prop = written_part end.ty pairs writes found.0 found.1 in
             any_of (λ (pair : Pair). (pair.col ≡ col) × Contains key pair.prop) pairs found.0 found.1 (found.2, among));
         props = all_from_members (λ (prop : PropId). Any (λ (pair : Pair). (pair.prop ≡ prop) × Contains keys pair.col) pairs) key (λ prop has.
             let found = map_contains (λ (pair : Pair). pair.prop) pairs prop (All-contains (Contains (props_in pairs)) key prop writes.all has) in

@@ -12,14 +12,13 @@ use Rattle.round_trip.specs.soundness.mappings.Joined.{HostsPartner}
 use Rattle.round_trip.specs.soundness.Lookups.{set_key}
 use Rattle.round_trip.specs.soundness.mappings.Mappings.{IsSoundLinkFragment}
 use Rattle.round_trip.specs.soundness.mappings.Owners.{IsPlaced}
-use Rattle.schema_laws.specs.state_demand.Owners.{props_in}
 use Rattle.schema_laws.specs.state_demand.WellWritten.{cols_of}
 use Rattle.schema_laws.proofs.state_demand.writings.Decisions.{so_or_not}
 use Rattle.schema_laws.proofs.state_demand.lists.Lists.{any_or_none, same_by_key}
 use Rattle.round_trip.proofs.Lookups.{assoc_of}
 use Rattle.schema_laws.proofs.state_demand.owners.Owners.{pairs_from_map}
 use Rattle.schema_laws.proofs.sound_demand.Fitting.{sound_link}
-use Rattle.schema_laws.proofs.sound_demand.owners.Pairing.{end_key, sound_assoc}
+use Rattle.schema_laws.proofs.sound_demand.owners.Pairing.{end_key, sound_assoc, written_part}
 use Rattle.schema_laws.proofs.state_demand.owners.Owning.{ends_apart}
 use Rattle.regions.specs.region_laws.IsBasis.{IsBasis, IsHostOf}
 use Rattle.regions.specs.Basis.{Basis, Host}
@@ -67,10 +66,8 @@ module _ (basis : Basis) (is : IsBasis basis) where
 
     -- what is written at an end is a part of the key there
     pub end_prop : (first : Bool) (pair : Pair) → Contains (side first fragment) pair → Contains (key_props basis.schema.model (end_at first the_assoc).ty) pair.prop
-    end_prop true pair has = All-contains (Contains (key_props basis.schema.model the_assoc.first.ty)) (props_in fragment.first) pair.prop link_sound.first.only
-        (contains_map (λ (one : Pair). one.prop) fragment.first pair has)
-    end_prop false pair has = All-contains (Contains (key_props basis.schema.model the_assoc.second.ty)) (props_in fragment.second) pair.prop link_sound.second.only
-        (contains_map (λ (one : Pair). one.prop) fragment.second pair has)
+    end_prop true pair has = written_part basis.schema is.sound the_assoc.first.ty fragment.first link_sound.first pair has
+    end_prop false pair has = written_part basis.schema is.sound the_assoc.second.ty fragment.second link_sound.second pair has
 
     -- at one end no property stands twice
     pub side_once : (first : Bool) (one other : Pair) → Contains (side first fragment) one → Contains (side first fragment) other → one.prop ≡ other.prop → one ≡ other

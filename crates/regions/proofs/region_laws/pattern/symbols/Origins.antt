@@ -9,6 +9,7 @@ use Rattle.edm_types.specs.declared.mapping.CondOn.TheVariants as on
 use Rattle.edm_types.specs.declared.mapping.Test.TheVariants.{IsNull, Equals}
 use Rattle.member_groups.specs.Tested.{HasCondition}
 use Rattle.schema_laws.proofs.state_demand.lists.Lists.{Decides-any, any_of, member_cases, member_of_flat_map, none_in_nil, of_any}
+use Rattle.schema_laws.proofs.state_demand.lists.Ids.{Decides-assoc}
 use Rattle.regions.specs.declared.region.Region.{Region}
 use Rattle.regions.specs.declared.pattern.Symbol.{Symbol}
 use Rattle.regions.specs.declared.pattern.Symbol.TheVariants as symbol
@@ -18,7 +19,6 @@ use Rattle.regions.specs.Basis.{Basis, Host}
 use Rattle.regions.specs.Patterns.{writings_of}
 use Rattle.regions.specs.Symbols.{SymbolWriting, cond_symbols, conds_symbols, end_symbols, fragment_writing, fragments_of, host_writings, is_linked, link_fragment_writing, link_fragments_of, link_writings, region_writings, selects_region}
 use Rattle.regions.proofs.region_laws.pattern.Cells.{IsWrittenSymbol}
-use Rattle.regions.proofs.region_laws.pattern.Settled.{Decides-assoc}
 
 -- the pairs at an end of a link fragment
 abbrev pub side : Bool → LinkFragment → List Pair

@@ -1,25 +1,25 @@
 -- What is joined has one kind, bounds aside; and what tells another entity is neither a flag nor of an enumeration.
-use Rattle.std.proofs.Common.{◌≡◌, ◌≢◌, ◌⊎◌, ⊎_elim, inr, ◌++◌, map, option_map, slice_get, Option, Some, None, Contains, refl, sym, ap, subst, ◌∙◌}
+use Rattle.std.proofs.Common.{◌≡◌, ◌≢◌, ◌⊎◌, ⊎_elim, inr, ◌++◌, map, Contains, refl, sym, ap, subst, ◌∙◌}
 use Rattle.std.proofs.lemmas.List.Elements.{All-contains, Contains-append_left, Contains-append_right}
-use Rattle.std.proofs.lemmas.Option.{MatchOption-at_some, slice_get_within}
+use Rattle.std.proofs.lemmas.Option.{slice_get_within}
 use Rattle.member_groups.specs.Tested.{IsMember}
 use Rattle.emc_base.specs.declared.value.Kind.TheVariants as kind
 use Rattle.emc_base.proofs.Lists.{at_once}
 use Rattle.emc_base.proofs.Mapped.{contains_map}
 use Rattle.emc_base.proofs.Numbered.{map_contains}
-use Rattle.round_trip.specs.Words.{TableId, ColId, PropId, Kind, Prop, Assoc, Constraint, LinkFragment, Pair, Schema, At, key_props, principal_end}
+use Rattle.round_trip.specs.Words.{TableId, ColId, PropId, Kind, Prop, LinkFragment, Pair, Schema, At, key_props}
 use Rattle.round_trip.specs.FailsAt.{IsHostedAt}
-use Rattle.round_trip.specs.soundness.models.Constraints.{HasIndependentMults, HasMatchedLists, IsSoundAssoc, IsSoundConstraint}
 use Rattle.round_trip.specs.soundness.mappings.Fragments.{WritesToFitting}
 use Rattle.round_trip.specs.soundness.models.Inheritance.{IsKeyProp}
 use Rattle.round_trip.specs.soundness.mappings.Joined.{HostsPartner, IsDependent, Joined, Member, TellsOther, WritesNoBarredEnum, prop, col}
 use Rattle.round_trip.specs.soundness.Kinds.{IsEnum, IsKeyKind, without_bound}
-use Rattle.round_trip.specs.soundness.Lookups.{columns_of, prop_kind}
+use Rattle.round_trip.specs.soundness.Lookups.{columns_of}
 use Rattle.round_trip.specs.soundness.mappings.Mappings.{HasPairIds, IsSoundSchema}
-use Rattle.round_trip.proofs.Lookups.{assoc_of, prop_kind_at}
+use Rattle.round_trip.proofs.Lookups.{assoc_of}
 use Rattle.round_trip.proofs.Classes.{HasClass, IsPaired, class_of, joined_class, joined_paired, key_unbound, pair_class}
 use Rattle.schema_laws.proofs.sound_demand.Fitting.{link_ids, sound_fragment, sound_link}
 use Rattle.schema_laws.specs.state_demand.Owners.{props_in}
+use Rattle.schema_laws.proofs.sound_types.Dependent.{dependent_kind}
 use Rattle.schema_laws.proofs.sound_types.Inherited.{key_prop}
 
 -- a kind of keys is no enumeration, and its class is one of keys
@@ -52,30 +52,6 @@ module _ (schema : Schema) where
       class : Kind
       of_key : IsKeyKind class
       has : HasClass schema member class
-
-    -- a dependent property is of the class of a principal's key
-    dependent_kind : (p : PropId) → IsDependent schema.model p → (declared : Prop) × At schema.model.props p.index declared × IsKeyKind (without_bound declared.kind)
-    dependent_kind p by =
-        let assoc : Assoc = by.assoc in
-        let constraint : Constraint = by.constraint in
-        let is : IsSoundAssoc schema.model assoc = All-contains (IsSoundAssoc schema.model) schema.model.assocs assoc sound.model.assocs by.is_assoc in
-        let lists : HasMatchedLists schema.model assoc constraint =
-        (MatchOption-at_some (HasIndependentMults assoc) (IsSoundConstraint schema.model assoc) constraint by.constrained is.kind).lists in
-        let told : PropId → Option Kind = λ one. option_map without_bound (prop_kind schema.model one) in
-        let among : Contains (map told constraint.principal) (told p) =
-        subst (λ kinds. Contains kinds (told p)) (sym lists.kinds) (contains_map told constraint.dependent p by.among) in
-        let q = map_contains told constraint.principal (told p) among in
-        let is_key : Contains (key_props schema.model (principal_end assoc constraint).ty) q.0 =
-        All-contains (Contains (key_props schema.model (principal_end assoc constraint).ty)) constraint.principal q.0 lists.principal.only q.1 in
-        let key : IsKeyProp schema.model q.0 = key_prop schema.model sound.model q.0 (principal_end assoc constraint).ty is_key in
-        let kind_is : Some (without_bound key.declared.kind) ≡ told p = sym (ap (option_map without_bound) (prop_kind_at schema.model q.0 key.declared key.is_declared)) ∙ q.2 in
-        at_place (slice_get schema.model.props p.index) refl (key_unbound key.declared.kind key.kind) kind_is
-      where
-        at_place : (found : Option Prop) → slice_get schema.model.props p.index ≡ found → {k : Kind} → IsKeyKind k
-            → Some k ≡ option_map without_bound (option_map (λ (one : Prop). one.kind) found)
-            → (declared : Prop) × At schema.model.props p.index declared × IsKeyKind (without_bound declared.kind)
-        at_place None none {k} key is = cc
-        at_place (Some declared) here {k} key is = let same : k ≡ without_bound declared.kind = cc in (declared, here, subst IsKeyKind same key)
 
     -- a pair at an end writes a property of a key
     end_class : (t : TableId) (c : ColId) (fragment : LinkFragment) → Contains schema.mapping.links fragment → fragment.table ≡ t → (pair : Pair)
@@ -120,8 +96,9 @@ module _ (schema : Schema) where
     tells_class : (source : Member) → TellsOther schema source → HasKeyClass source
     unfolding HasClass
     tells_class (prop p) by =
-        let found = dependent_kind p by in
-        record { class = without_bound found.0.kind; of_key = found.2; has = (found.0, found.1, (key_class found.0.kind found.2).0) }
+        let found = dependent_kind schema.model sound.model p by in
+        let key = key_unbound found.0.kind found.2 in
+        record { class = without_bound found.0.kind; of_key = key; has = (found.0, found.1, (key_class found.0.kind key).0) }
     tells_class (col t c) by = partner_class t c by
 
     -- a property that is joined to such is no flag
@@ -140,10 +117,10 @@ module _ (schema : Schema) where
     own_no_enum : (source : Member) → TellsOther schema source → (p : PropId) (declared : Prop) → At schema.model.props p.index declared → source ≡ prop p → ¬ IsEnum declared.kind
     own_no_enum (prop q) by p declared here same enumeration =
         let is : q ≡ p = cc in
-        let found = dependent_kind p (subst (IsDependent schema.model) is by) in
+        let found = dependent_kind schema.model sound.model p (subst (IsDependent schema.model) is by) in
         let one : found.0 ≡ declared = at_once schema.model.props p.index found.0 declared found.1 here in
-        let P : Prop → Type 0 = λ d. IsKeyKind (without_bound d.kind) in
-        (key_class declared.kind (subst P one found.2)).1 enumeration
+        let P : Prop → Type 0 = λ d. IsKeyKind d.kind in
+        (key_class declared.kind (key_unbound declared.kind (subst P one found.2))).1 enumeration
     own_no_enum (col t c) by p declared here same enumeration = let never : col t c ≡ prop p = same in cc
 
     -- nor is a property that is joined to what tells another entity
@@ -168,5 +145,5 @@ module _ (schema : Schema) where
     -- it is a property or a column
     pub tells_member : (source : Member) → TellsOther schema source → IsMember schema source
     unfolding HasClass
-    tells_member (prop p) by = let found = dependent_kind p by in slice_get_within schema.model.props p.index found.0 found.1
+    tells_member (prop p) by = let found = dependent_kind schema.model sound.model p by in slice_get_within schema.model.props p.index found.0 found.1
     tells_member (col t c) by = let found = (tells_class (col t c) by).has in slice_get_within (columns_of schema.store t) c.index found.0 found.1

@@ -12,7 +12,7 @@ loop-property-preserved c =
     let basis = basis_of c.args.parts.now in
     let rival = c.args.rival.now in
     let none : PropId = record { index = 0 } in
-    one_more_made (changed (default_valuation basis rival.region.now) (rival_value basis rival.first.now rival.second.now rival.region.now rival.other.now)).prop
+    one_more_made (changed (default_valuation basis 0 rival.region.now) (rival_value basis rival.first.now rival.second.now rival.region.now rival.other.now)).prop
     c.props_of-property-items.result.now c.loop-property.property-index none c.loop-property-test.true c.loop-property.values c.push.new.self
     c.in_ok-value_of.field-0 c.loop-property.invariant c.in_ok-push.ensures.ok c.in_ok-value_of.ensures
 
@@ -20,6 +20,6 @@ pub returns : goal.returns
 returns c =
     let basis = basis_of c.args.parts.now in
     let rival = c.args.rival.now in
-    let f = (changed (default_valuation basis rival.region.now) (rival_value basis rival.first.now rival.second.now rival.region.now rival.other.now)).prop in
+    let f = (changed (default_valuation basis 0 rival.region.now) (rival_value basis rival.first.now rival.second.now rival.region.now rival.other.now)).prop in
     let passed = take_all c.loop-property.property-index c.props_of-property-items.result.now c.loop-property-test.false ∙ c.props_of-property-items.ensures.props in
     λ k. record { ty = rival.region.now.ty; values = (c.loop-property.invariant ∙ ap (map f) passed) k }

@@ -1,0 +1,3 @@
+pub mod FocusStates
+pub mod SmallStates
+pub mod BaseStates
