@@ -28,7 +28,7 @@ use Rattle.population.specs.Supported.{Placed, PlacedLink, added_at, end_key, gi
 use Rattle.population.proofs.Ends.{from_given, from_link, link_from, link_pairs}
 use Rattle.population.proofs.Entities.{differ, entities_are, given_stands, links_are}
 use Rattle.population.proofs.Legal.{supported_legal}
-use Rattle.population.proofs.Links.{IsAdded, added_far, added_near, covered, far_key, is_added, linked_is, near_key, none_own}
+use Rattle.population.proofs.Links.{IsAdded, added_far, added_near, far_key, is_added, linked_is, near_key, none_own}
 use Rattle.population.proofs.Numbered.{end_within}
 use Rattle.population.proofs.Plain.{first_is}
 use Rattle.population.proofs.Support.{support_fits}

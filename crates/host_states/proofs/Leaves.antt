@@ -131,15 +131,12 @@ module _ (basis : Basis) (outer : ℕ) (s : SetId) (region : Region) (of : HasRe
           (matched.other, matched.among)
 
   -- the state with it
-  hosts_none : linked_hosts basis region ≡ []
-  hosts_none = by (basis.hosts region.set)
-    where
-      by : (hosts : List Host) → filter (λ (host : Host). is_linked basis region.linked host.assoc) hosts ≡ []
-      by hosts = ap (λ linked. filter (λ (host : Host). is_linked basis linked host.assoc) hosts) one.no_links ∙ none_left hosts
+  none_left : (hosts : List Host) → filter (λ (host : Host). is_linked basis [] host.assoc) hosts ≡ []
+  none_left [] = refl
+  none_left (host ∷ hosts) = none_left hosts
 
-      none_left : (hosts : List Host) → filter (λ (host : Host). is_linked basis [] host.assoc) hosts ≡ []
-      none_left [] = refl
-      none_left (host ∷ hosts) = none_left hosts
+  hosts_none : linked_hosts basis region ≡ []
+  hosts_none = ap (λ linked. filter (λ (host : Host). is_linked basis linked host.assoc) (basis.hosts region.set)) one.no_links ∙ none_left (basis.hosts region.set)
 
   abbrev given : List Placed
   given = given_by basis outer (linked_hosts basis region) region values

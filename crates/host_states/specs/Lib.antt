@@ -1,3 +1,2 @@
 pub mod FocusStates
 pub mod SmallStates
-pub mod BaseStates

@@ -178,10 +178,10 @@ module _ (model : EntityModel) (outer : ℕ) (has : HasNumbers model outer) (giv
       )
 
   module _ (first : Bool) (link : Link) (by : IsAdded model outer given keys a assoc own first link) where
-    abbrev covered : derives model by.entity.ty (end_of first assoc).ty ≡ true
+    abbrev pub covered : derives model by.entity.ty (end_of first assoc).ty ≡ true
     covered = (and_parts (derives model by.entity.ty (end_of first assoc).ty) (not (list_any (λ one. same_key (end_key first one) (key_of model by.entity)) own)) by.lacks).0
 
-    none_own : Any (λ one. end_key first one ≡ key_of model by.entity) own → ⊥
+    pub none_own : Any (λ one. end_key first one ≡ key_of model by.entity) own → ⊥
     none_own any =
         let told = (and_parts (derives model by.entity.ty (end_of first assoc).ty) (not (list_any (λ one. same_key (end_key first one) (key_of model by.entity)) own)) by.lacks).1 in
         let yes_ : list_any (λ one. same_key (end_key first one) (key_of model by.entity)) own ≡ true = (Decides-own model outer given keys a assoc own first by.entity).1 any in

@@ -26,7 +26,7 @@ use Rattle.schema_laws.specs.short_values.Numbers.{letter, number}
 use Rattle.region_states.specs.defaults.Defaults.{default_part}
 use Rattle.schema_laws.specs.short_values.Fresh.{fresh_at, IsUse, Use, fresh, partner, partner_key}
 use Rattle.schema_laws.specs.short_values.Places.{place_in}
-use Rattle.region_states.proofs.defaults.indices.Bounds.{keys_few}
+use Rattle.schema_laws.proofs.sound_demand.Keys.{keys_few}
 use Rattle.schema_laws.proofs.short_values.Places.{place_within, fresh_is}
 use Rattle.schema_laws.proofs.sound_types.Inherited.{key_prop}
 use Rattle.schema_laws.proofs.short_values.Short.{letter_same, number_same}

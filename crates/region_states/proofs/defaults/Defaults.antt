@@ -28,7 +28,8 @@ use Rattle.schema_laws.specs.short_values.Fresh.{dependent_value, focus_key, fre
 use Rattle.region_states.specs.defaults.Defaults.{declared_value, default_part, default_valuation, default_value, some_value, value_by}
 use Rattle.schema_laws.specs.short_values.Places.{is_among, is_dependent, place_in}
 use Rattle.region_states.specs.defaults.Admissible.{HasNumberedKey, IsAdmissible, IsApart}
-use Rattle.region_states.proofs.defaults.indices.Bounds.{dependent_index, key_index, keys_few, partner_index}
+use Rattle.region_states.proofs.defaults.indices.Bounds.{dependent_index, key_index, partner_index}
+use Rattle.schema_laws.proofs.sound_demand.Keys.{keys_few}
 use Rattle.region_states.proofs.defaults.Candidates.{IsPlainKind, plain_key}
 use Rattle.schema_laws.proofs.sound_types.Dependent.{dependent_is, sound_kind}
 use Rattle.region_states.proofs.defaults.groups.Constants.{dependent_none, plain_two, untested_two}
