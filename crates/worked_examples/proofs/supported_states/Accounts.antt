@@ -6,8 +6,11 @@ use Rattle.worked_examples.specs.Ids.{prop_id, type_id}
 use Rattle.worked_examples.specs.supported.Accounts as e
 use Rattle.worked_examples.proofs.facts.Entities.{MayStand}
 use Rattle.worked_examples.proofs.facts.Values.{short_fits, whole_fits}
-use Rattle.worked_examples.proofs.supported_states.Given.{GivenFacts, legal_without, short_16, short_32}
+use Rattle.worked_examples.proofs.supported_states.Given.{GivenFacts, legal_without, short_for}
 use Rattle.worked_examples.proofs.supported_states.sound.Accounts.{sound}
+
+pub asks_first : e.LineAsksFirst
+asks_first = refl
 
 pub asks : e.LineAsks
 asks = refl
@@ -37,8 +40,8 @@ facts = record {
   apart = (tt, tt);
   short = (
     (
-      short_32 e.accounts_model (prop_id 3) e.order_account_prop refl refl 1 (omega arith),
-      (short_16 e.accounts_model (prop_id 4) e.order_number_prop refl refl 2 (omega arith), tt),
+      short_for e.accounts_model (prop_id 3) e.order_account_prop refl 1 tt (omega arith),
+      (short_for e.accounts_model (prop_id 4) e.order_number_prop refl 2 tt (omega arith), tt),
     ),
     tt,
   );

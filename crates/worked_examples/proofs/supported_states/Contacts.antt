@@ -7,7 +7,7 @@ use Rattle.worked_examples.specs.people.People.{id_prop}
 use Rattle.worked_examples.specs.supported.Contacts as e
 use Rattle.worked_examples.proofs.facts.Entities.{MayStand}
 use Rattle.worked_examples.proofs.facts.Values.{whole_fits}
-use Rattle.worked_examples.proofs.supported_states.Given.{GivenFacts, legal_without, short_32}
+use Rattle.worked_examples.proofs.supported_states.Given.{GivenFacts, legal_without, short_for}
 use Rattle.worked_examples.proofs.supported_states.sound.Contacts.{sound}
 
 pub asks : e.OrderAsks
@@ -33,7 +33,7 @@ facts : GivenFacts e.contacts_model e.one_order
 facts = record {
   each = (record { set = e.orders_set; is_set = refl; stands = may_stand; free = refl }, tt);
   apart = (tt, tt);
-  short = ((short_32 e.contacts_model (prop_id 0) id_prop refl refl 9 (omega arith), tt), tt);
+  short = ((short_for e.contacts_model (prop_id 0) id_prop refl 9 tt (omega arith), tt), tt);
 }
 
 pub legal : e.OrderIsLegal

@@ -4,11 +4,14 @@ use Rattle.std.specs.Prelude.{false}
 use Rattle.edm_types.specs.IsA.{same}
 use Rattle.worked_examples.specs.Ids.{prop_id, type_id}
 use Rattle.worked_examples.specs.sound_examples.Lines.{line_number_prop, line_order_prop}
-use Rattle.worked_examples.specs.supported.Details.{DetailAsks, DetailIsLegal, DetailStands, detail, detail_number_prop, detail_order_prop, detail_state, detail_type, details_model, details_set, one_detail}
+use Rattle.worked_examples.specs.supported.Details.{DetailAsks, DetailAsksFirst, DetailIsLegal, DetailStands, detail, detail_number_prop, detail_order_prop, detail_state, detail_type, details_model, details_set, one_detail}
 use Rattle.worked_examples.proofs.facts.Entities.{MayStand}
 use Rattle.worked_examples.proofs.facts.Values.{short_fits, whole_fits}
-use Rattle.worked_examples.proofs.supported_states.Given.{GivenFacts, legal_without, short_16, short_32}
+use Rattle.worked_examples.proofs.supported_states.Given.{GivenFacts, legal_without, short_for}
 use Rattle.worked_examples.proofs.supported_states.sound.Details.{sound}
+
+pub asks_first : DetailAsksFirst
+asks_first = refl
 
 pub asks : DetailAsks
 asks = refl
@@ -32,8 +35,8 @@ facts = record {
   apart = (tt, tt);
   short = (
     (
-      short_32 details_model (prop_id 1) line_order_prop refl refl 7 (omega arith),
-      (short_16 details_model (prop_id 2) line_number_prop refl refl 3 (omega arith), tt),
+      short_for details_model (prop_id 1) line_order_prop refl 7 tt (omega arith),
+      (short_for details_model (prop_id 2) line_number_prop refl 3 tt (omega arith), tt),
     ),
     tt,
   );

@@ -4,7 +4,6 @@ use Rattle.std.specs.Prelude.{AllPairs, Any, Bool, Contains, false}
 use Rattle.std.specs.List.{AllByRecursion}
 use Rattle.std.proofs.lemmas.Bool.Decides.{not_from_Decides}
 use Rattle.std.proofs.lemmas.Int.{ints}
-use Rattle.emc_base.specs.declared.value.Kind.TheVariants as kind
 use Rattle.emc_base.proofs.FoundItems.{contains_flat_map, some_member}
 use Rattle.emc_base.proofs.Lists.{at_once}
 use Rattle.round_trip.specs.Words.{Assoc, AssocId, At, End, Entity, EntityModel, EntitySet, HasFittingType, IsA, IsLegal, Link, Prop, PropId, SetId, State, key_of}
@@ -25,24 +24,9 @@ use Rattle.worked_examples.specs.supported.Supports.{asked_by, first_asked, stat
 use Rattle.worked_examples.proofs.facts.Entities.{MayStand, domains_fit, nulls_fit}
 use Rattle.worked_examples.proofs.facts.Small.{PairsByRecursion, all_pairs, each_of}
 
--- a small number is a short value, and of the sort of both kinds
-pub short_32 : (model : EntityModel) (p : PropId) (declared : Prop) → At model.props p.index declared → kind.Int32 ≡ declared.kind → (n : ℕ) → n ≤ 32767
-    → IsShortFor model p (number n)
-short_32 model p declared is of_kind n small = record {
-  declared = declared;
-  is_declared = is;
-  short = (omega (arith, ints), omega (arith, ints));
-  of_sort = subst (λ k. IsOfSort k (number n)) of_kind tt;
-}
-
-pub short_16 : (model : EntityModel) (p : PropId) (declared : Prop) → At model.props p.index declared → kind.Int16 ≡ declared.kind → (n : ℕ) → n ≤ 32767
-    → IsShortFor model p (number n)
-short_16 model p declared is of_kind n small = record {
-  declared = declared;
-  is_declared = is;
-  short = (omega (arith, ints), omega (arith, ints));
-  of_sort = subst (λ k. IsOfSort k (number n)) of_kind tt;
-}
+-- a small number is a short value for a property of numbers
+pub short_for : (model : EntityModel) (p : PropId) (declared : Prop) → At model.props p.index declared → (n : ℕ) → IsOfSort declared.kind (number n) → n ≤ 32767 → IsShortFor model p (number n)
+short_for model p declared is n of_sort small = record { declared = declared; is_declared = is; short = (omega (arith, ints), omega (arith, ints)); of_sort = of_sort }
 
 module _ (model : EntityModel) where
   -- the key of a placed entity

@@ -12,7 +12,7 @@ use Rattle.worked_examples.proofs.facts.Entities.{MayStand}
 use Rattle.worked_examples.proofs.facts.Values.{whole_fits}
 use Rattle.worked_examples.proofs.people.People.{no_name}
 use Rattle.worked_examples.proofs.sound_examples.models.Shop.{sound}
-use Rattle.worked_examples.proofs.supported_states.Given.{GivenFacts, MayBeGiven, legal_without, short_32}
+use Rattle.worked_examples.proofs.supported_states.Given.{GivenFacts, MayBeGiven, legal_without, short_for}
 
 pub asks : e.OrderAsks
 asks = refl
@@ -31,6 +31,12 @@ employee_stands = refl
 
 pub numbered_is_taken : e.NumberedOwnerIsTaken
 numbered_is_taken = refl
+
+pub turned_asks : e.TurnedOrderAsks
+turned_asks = refl
+
+pub turned_stands : e.TurnedOrderStands
+turned_stands = refl
 
 -- an employee of a small id, in a model whose first types are those of people and employees
 module _ {types : List EntityType} {props : List Prop} {forest : List TypeNode} {sets : List EntitySet} {assocs : List Assoc} where
@@ -58,7 +64,7 @@ order_may = record {
 }
 
 order_facts : GivenFacts shop_model e.one_order
-order_facts = record { each = (order_may, tt); apart = (tt, tt); short = ((short_32 shop_model (prop_id 0) id_prop refl refl 9 (omega arith), tt), tt) }
+order_facts = record { each = (order_may, tt); apart = (tt, tt); short = ((short_for shop_model (prop_id 0) id_prop refl 9 tt (omega arith), tt), tt) }
 
 pub legal : e.OrderIsLegal
 legal = legal_without shop_model sound (omega arith) e.one_order order_facts e.order_state stands
@@ -67,7 +73,7 @@ employee_facts : GivenFacts shop_model e.employees_order
 employee_facts = record {
   each = (order_may, (record { set = people_set; is_set = refl; stands = employee_stands_in 9 (omega arith); free = refl }, tt));
   apart = ((refl, tt), (tt, tt));
-  short = ((short_32 shop_model (prop_id 0) id_prop refl refl 9 (omega arith), tt), tt);
+  short = ((short_for shop_model (prop_id 0) id_prop refl 9 tt (omega arith), tt), tt);
 }
 
 pub employee_legal : e.EmployeeIsLegal

@@ -8,7 +8,7 @@ use Rattle.worked_examples.specs.supported.Accounts.{customer_account_prop, cust
 use Rattle.worked_examples.specs.supported.Parents as e
 use Rattle.worked_examples.proofs.facts.Entities.{MayStand}
 use Rattle.worked_examples.proofs.facts.Values.{short_fits, whole_fits}
-use Rattle.worked_examples.proofs.supported_states.Given.{GivenFacts, legal_without, short_16, short_32}
+use Rattle.worked_examples.proofs.supported_states.Given.{GivenFacts, legal_without, short_for}
 use Rattle.worked_examples.proofs.supported_states.sound.Parents.{sound}
 
 pub line_asks : e.LineAsks
@@ -41,11 +41,11 @@ facts = record {
   each = (record { set = customers_set; is_set = refl; stands = may_stand; free = refl }, tt);
   apart = (tt, tt);
   short = (
-    (short_32 e.parents_model (prop_id 0) id_prop refl refl 1 (omega arith), tt),
+    (short_for e.parents_model (prop_id 0) id_prop refl 1 tt (omega arith), tt),
     (
       (
-        short_32 e.parents_model (prop_id 1) customer_account_prop refl refl 1 (omega arith),
-        (short_16 e.parents_model (prop_id 2) customer_number_prop refl refl 6 (omega arith), tt),
+        short_for e.parents_model (prop_id 1) customer_account_prop refl 1 tt (omega arith),
+        (short_for e.parents_model (prop_id 2) customer_number_prop refl 6 tt (omega arith), tt),
       ),
       tt,
     ),

@@ -1,5 +1,5 @@
--- Accounts: an account has customers, orders and lines of orders, whose keys all hold its id. An order has its customer's number beside its key: of an
--- order that a line asks for nothing says whose it is, so the customer has number zero's value.
+-- Accounts: customers, orders and lines of orders, whose keys all hold the id of an account. An order has its customer's number beside its key; in an order
+-- that a line asks for, this is the value of number zero.
 use Rattle.std.specs.Prelude.{◌≡◌, ℕ, List, [], ◌∷◌, ◌++◌, map, Some, None, false, codes}
 use Rattle.round_trip.specs.Words.{EntityModel, EntityType, Prop, PropId, EntitySet, Assoc, Constraint, End, Entity, State, IsLegal}
 use Rattle.emc_base.specs.declared.value.Kind.TheVariants as kind
@@ -7,7 +7,7 @@ use Rattle.edm_types.specs.declared.model.Mult.TheVariants.{One, Many}
 use Rattle.schema_laws.specs.short_values.Numbers.{number}
 use Rattle.population.specs.Supported.{Placed}
 use Rattle.worked_examples.specs.Ids.{type_id, set_id, prop_id, needed, set_of, entity_of, leaf, concrete_type, model_of}
-use Rattle.worked_examples.specs.supported.Supports.{asked_by, key_in, placed_in, state_of}
+use Rattle.worked_examples.specs.supported.Supports.{asked_by, first_asked, key_in, placed_in, state_of}
 
 abbrev pub account_type : EntityType
 account_type = concrete_type (codes "Account") None (prop_id 0 ∷ []) (prop_id 0 ∷ [])
@@ -126,7 +126,11 @@ line account_id order_number place = entity_of (type_id 3) (number account_id �
 abbrev pub one_line : List Placed
 one_line = placed_in 3 (line 1 2 3) ∷ []
 
--- the line asks for its order, the order for a customer, and the customer for the account
+-- the line itself asks for its order alone
+abbrev pub LineAsksFirst : Type 0
+LineAsksFirst = first_asked accounts_model one_line ≡ key_in 2 (number 1 ∷ number 2 ∷ []) ∷ []
+
+-- the order asks for a customer, and the customer for the account
 abbrev pub LineAsks : Type 0
 LineAsks = asked_by accounts_model one_line ≡ key_in 2 (number 1 ∷ number 2 ∷ []) ∷ key_in 1 (number 1 ∷ number 10007 ∷ []) ∷ key_in 0 (number 1 ∷ []) ∷ []
 

@@ -1,4 +1,4 @@
--- Bosses: each person has exactly one boss. Who has no given one has the person by the number of the boss's end, who is their own.
+-- Bosses: each person has exactly one boss. One who has no given boss has the person of the number of the boss's end, and this person has themself.
 use Rattle.std.specs.Prelude.{◌≡◌, ℕ, pos, List, [], ◌∷◌}
 use Rattle.round_trip.specs.Words.{EntityModel, Link, State, IsLegal}
 use Rattle.edm_types.specs.declared.model.Mult.TheVariants.{One}

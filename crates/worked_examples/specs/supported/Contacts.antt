@@ -78,7 +78,9 @@ OwnerIsConcrete = plain contacts_model 0 0 (type_id 0) (number 9 ∷ []) ≡ emp
 
 abbrev pub order_state : State
 order_state = record {
-  entities = (employee 10007 ∷ employee 10012 ∷ employee 10017 ∷ employee 9 ∷ []) ∷ (order 10007 10007 ∷ order 10012 10012 ∷ order 10017 10017 ∷ order 5 9 ∷ []) ∷ [];
+  entities = (employee 10007 ∷ employee 10012 ∷ employee 10017 ∷ employee 9 ∷ [])
+      ∷ (order 10007 10007 ∷ order 10012 10012 ∷ order 10017 10017 ∷ order 5 9 ∷ [])
+      ∷ [];
   links = [] ∷ [];
 }
 

@@ -1,4 +1,4 @@
--- Details of lines of orders. A detail has the key of its line, and a line its order's id in its key: what a detail asks for asks for more.
+-- Details of lines of orders. The key of a detail is that of its line, and holds the id of the line's order: what a detail asks for asks for more.
 use Rattle.std.specs.Prelude.{◌≡◌, ℕ, List, [], ◌∷◌, Some, None, false, codes}
 use Rattle.round_trip.specs.Words.{EntityModel, EntityType, Prop, EntitySet, Assoc, Constraint, Entity, State, IsLegal}
 use Rattle.emc_base.specs.declared.value.Kind.TheVariants as kind
@@ -7,7 +7,7 @@ use Rattle.schema_laws.specs.short_values.Numbers.{number}
 use Rattle.population.specs.Supported.{Placed}
 use Rattle.worked_examples.specs.Ids.{type_id, set_id, prop_id, needed, set_of, entity_of, leaf, concrete_type, model_of}
 use Rattle.worked_examples.specs.sound_examples.Lines.{order_id_prop, line_order_prop, line_number_prop, order_type, line_type, orders_set, lines_set, lines_of_order}
-use Rattle.worked_examples.specs.supported.Supports.{asked_by, key_in, placed_in, state_of}
+use Rattle.worked_examples.specs.supported.Supports.{asked_by, first_asked, key_in, placed_in, state_of}
 
 abbrev pub detail_order_prop : Prop
 detail_order_prop = needed (type_id 2) (codes "OrderId") kind.Int32
@@ -50,7 +50,11 @@ detail order_id place = entity_of (type_id 2) (number order_id ∷ number place 
 abbrev pub one_detail : List Placed
 one_detail = placed_in 2 (detail 7 3) ∷ []
 
--- the detail asks for its line, and the line for its order
+-- the detail itself asks for its line alone
+abbrev pub DetailAsksFirst : Type 0
+DetailAsksFirst = first_asked details_model one_detail ≡ key_in 1 (number 7 ∷ number 3 ∷ []) ∷ []
+
+-- and the line for its order
 abbrev pub DetailAsks : Type 0
 DetailAsks = asked_by details_model one_detail ≡ key_in 1 (number 7 ∷ number 3 ∷ []) ∷ key_in 0 (number 7 ∷ []) ∷ []
 

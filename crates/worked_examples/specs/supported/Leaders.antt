@@ -51,7 +51,9 @@ one_leader = linked_by 0 (leads 3 6) ∷ []
 -- numbers, have employee 10012
 abbrev pub led_state : State
 led_state = record {
-  entities = (nameless 10007 ∷ nameless_employee 10012 ∷ nameless 10017 ∷ nameless_employee 3 ∷ []) ∷ (project 10007 ∷ project 10012 ∷ project 10017 ∷ project 5 ∷ project 6 ∷ []) ∷ [];
+  entities = (nameless 10007 ∷ nameless_employee 10012 ∷ nameless 10017 ∷ nameless_employee 3 ∷ [])
+      ∷ (project 10007 ∷ project 10012 ∷ project 10017 ∷ project 5 ∷ project 6 ∷ [])
+      ∷ [];
   links = (leads 3 6 ∷ leads 10012 10007 ∷ leads 10012 10012 ∷ leads 10012 10017 ∷ leads 10012 5 ∷ []) ∷ [];
 }
 

@@ -1,12 +1,12 @@
--- Orders and their owners. An owner is a person, and may be an employee: of a person who is asked for nothing says that they are.
-use Rattle.std.specs.Prelude.{◌≡◌, ℕ, pos, List, [], ◌∷◌}
-use Rattle.round_trip.specs.Words.{Null, Entity, State, IsLegal}
+-- Orders and their owners. An owner is a person and may be an employee; a person who is only asked for is none.
+use Rattle.std.specs.Prelude.{◌≡◌, ℕ, pos, List, [], ◌∷◌, Some, true}
+use Rattle.round_trip.specs.Words.{Assoc, Null, Entity, EntityModel, State, IsLegal}
 use Rattle.schema_laws.specs.short_values.Numbers.{number}
 use Rattle.population.specs.Plain.{plain}
 use Rattle.population.specs.Supported.{Placed}
-use Rattle.worked_examples.specs.Ids.{type_id, entity_of}
+use Rattle.worked_examples.specs.Ids.{type_id, entity_of, model_of}
 use Rattle.worked_examples.specs.people.People.{person}
-use Rattle.worked_examples.specs.staff.Owners.{order, shop_model}
+use Rattle.worked_examples.specs.staff.Owners.{order, owner, owner_constraint, shop_model}
 use Rattle.worked_examples.specs.supported.Supports.{asked_by, key_in, placed_in, state_of}
 
 abbrev pub nameless : ℕ → Entity
@@ -32,7 +32,9 @@ OwnerIsPlain = plain shop_model 0 0 (type_id 0) (number 9 ∷ []) ≡ nameless 9
 -- number zero and the numbers of two ends, and what the order asks for
 abbrev pub order_state : State
 order_state = record {
-  entities = (nameless 10007 ∷ nameless 10012 ∷ nameless 10017 ∷ nameless 9 ∷ []) ∷ (owned 10007 10007 ∷ owned 10012 10012 ∷ owned 10017 10017 ∷ owned 5 9 ∷ []) ∷ [];
+  entities = (nameless 10007 ∷ nameless 10012 ∷ nameless 10017 ∷ nameless 9 ∷ [])
+      ∷ (owned 10007 10007 ∷ owned 10012 10012 ∷ owned 10017 10017 ∷ owned 5 9 ∷ [])
+      ∷ [];
   links = [] ∷ [];
 }
 
@@ -52,7 +54,9 @@ GivenOwnerIsTaken = asked_by shop_model employees_order ≡ []
 
 abbrev pub employees_state : State
 employees_state = record {
-  entities = (nameless 10007 ∷ nameless 10012 ∷ nameless 10017 ∷ nameless_employee 9 ∷ []) ∷ (owned 10007 10007 ∷ owned 10012 10012 ∷ owned 10017 10017 ∷ owned 5 9 ∷ []) ∷ [];
+  entities = (nameless 10007 ∷ nameless 10012 ∷ nameless 10017 ∷ nameless_employee 9 ∷ [])
+      ∷ (owned 10007 10007 ∷ owned 10012 10012 ∷ owned 10017 10017 ∷ owned 5 9 ∷ [])
+      ∷ [];
   links = [] ∷ [];
 }
 
@@ -61,6 +65,26 @@ EmployeeStands = state_of shop_model employees_order [] ≡ employees_state
 
 abbrev pub EmployeeIsLegal : Type 0
 EmployeeIsLegal = IsLegal shop_model employees_state
+
+-- the owner's association with its ends the other way round
+abbrev pub turned_owner : Assoc
+turned_owner = record {
+  set_name = owner.set_name;
+  assoc_name = owner.assoc_name;
+  first = owner.second;
+  second = owner.first;
+  constraint = Some (record { dependent_first = true; principal = owner_constraint.principal; dependent = owner_constraint.dependent });
+}
+
+abbrev pub turned_model : EntityModel
+turned_model = model_of shop_model.types shop_model.props shop_model.forest shop_model.sets (turned_owner ∷ [])
+
+-- the order asks for the same
+abbrev pub TurnedOrderAsks : Type 0
+TurnedOrderAsks = asked_by turned_model one_order ≡ key_in 0 (number 9 ∷ []) ∷ []
+
+abbrev pub TurnedOrderStands : Type 0
+TurnedOrderStands = state_of turned_model one_order [] ≡ order_state
 
 -- an order of a person who stands in each state, by the number of an end
 abbrev pub NumberedOwnerIsTaken : Type 0
