@@ -32,8 +32,7 @@ module _ (model : EntityModel) (sound : IsSoundModel model) (u : SetId) (entity 
       let covers = derives model entity.ty (dependent_end assoc constraint).ty in
       let there = none_null model (values_of model entity constraint.dependent) in
       let rest = Decides-and covers there ((decides_types model sound).tells entity.ty (dependent_end assoc constraint).ty) (Decides-none_null model (values_of model entity constraint.dependent)) in
-      let all = Decides-and at_end (covers && there) (Decides-set (dependent_end assoc constraint).set u) rest in
-      (
+      let all = Decides-and at_end (covers && there) (Decides-set (dependent_end assoc constraint).set u) rest in (
         (λ told. let both = all.0 told in (both.0, both.1.0, both.1.1)),
         (λ is. all.1 (is.0, (is.1, is.2))),
       )
@@ -44,10 +43,13 @@ module _ (model : EntityModel) (sound : IsSoundModel model) (u : SetId) (entity 
   asked_one assoc constraint to =
       let one : List PlacedKey = principal_by model assoc constraint entity ∷ [] in
       cond_both (is_asked model u entity assoc constraint) one [] (λ list. Contains list to → IsAsked assoc constraint × (to ≡ principal_by model assoc constraint entity))
-      (λ told has. ((Decides-asked assoc constraint).0 told, ⊎_elim
-      (λ (here : to ≡ principal_by model assoc constraint entity). here)
-      (λ (later : Contains [] to). absurd (contains_nil to later))
-      (contains_cons_cases (principal_by model assoc constraint entity) [] to has)))
+      (λ told has. (
+        (Decides-asked assoc constraint).0 told,
+        ⊎_elim
+            (λ (here : to ≡ principal_by model assoc constraint entity). here)
+            (λ (later : Contains [] to). absurd (contains_nil to later))
+            (contains_cons_cases (principal_by model assoc constraint entity) [] to has),
+      ))
       (λ told has. absurd (contains_nil to has))
 
   -- the principal by a constraint that asks

@@ -1,6 +1,5 @@
 -- The links of a supported state: between entities that stand, each once, and as many at each end as the other end allows.
 use Rattle.std.proofs.Common.{◌≡◌, ◌≢◌, ◌⊎◌, ⊎_elim, inl, inr, ℕ, ◌<◌, ◌≤◌, ◌==◌, ◌&&◌, List, [], ◌∷◌, ◌++◌, map, filter, length, slice_get, get_or, All, AllPairs, Any, Contains, Option, Some, None, Bool, true, false, true≢false, not, Decides, IsTrue, if◌then◌else◌, refl, sym, ap, subst, ◌∙◌, arith}
-use Rattle.std.specs.List.{list_any}
 use Rattle.std.specs.Option.{option_map_or}
 use Rattle.std.proofs.lemmas.Bool.{and_parts, cond-false, cond-true}
 use Rattle.std.proofs.lemmas.Bool.Decides.{Decides-and, Decides-not, not_from_Decides}
@@ -29,7 +28,7 @@ use Rattle.population.specs.Given.{AreGiven, AreKeys, AreLinked, HasNumbers, Sta
 use Rattle.population.specs.Numbered.{end_number, end_of, numbered, numbered_key}
 use Rattle.population.specs.Plain.{first_concrete}
 use Rattle.population.specs.Principals.{PlacedKey}
-use Rattle.population.specs.Supported.{Placed, PlacedLink, added_at, added_link, all_links, end_key, is_none, is_one, lacks_link, link_of, linked_in, links_of, stands_in}
+use Rattle.population.specs.Supported.{Placed, PlacedLink, added_at, added_link, all_links, end_key, has_own_link, is_none, is_one, lacks_link, link_of, linked_in, links_of, stands_in}
 use Rattle.population.proofs.Entities.{differ, number_stands, set_there}
 use Rattle.population.proofs.Lists.{most_one}
 use Rattle.population.proofs.Numbered.{asked_end, end_within, numbered_has, sound_end}
@@ -99,7 +98,7 @@ module _ (model : EntityModel) (outer : ℕ) (given : List Placed) (keys : List 
 
   -- whether one of these links is the entity's own
   pub Decides-own : (first : Bool) (entity : Entity)
-      → Decides (list_any (λ link. same_key (end_key first link) (key_of model entity)) links) (Any (λ link. end_key first link ≡ key_of model entity) links)
+      → Decides (has_own_link model first links entity) (Any (λ link. end_key first link ≡ key_of model entity) links)
   Decides-own first entity = Decides-any (λ link. same_key (end_key first link) (key_of model entity)) (λ link. end_key first link ≡ key_of model entity)
       (λ link. Decides-key (end_key first link) (key_of model entity)) links
 
@@ -171,20 +170,19 @@ module _ (model : EntityModel) (outer : ℕ) (has : HasNumbers model outer) (giv
       let number : ℕ = end_number first a in
       let below = end_within model has.sound a assoc here first in
       some_member (λ entity. IsA model entity.ty end.ty × (key_of model entity ≡ numbered_key model outer u number)) (stands_in model outer given keys u)
-      (numbered model outer u set number) (number_stands model outer given keys u set of_end.under.1 number below)
-      (
+      (numbered model outer u set number) (number_stands model outer given keys u set of_end.under.1 number below) (
         subst (λ t. IsA model (first_concrete model t) end.ty) (sym (asked_end model has.sound a assoc here first set)) (first_is model has.sound end.ty of_end.concrete).1,
         numbered_has model outer has u set of_end.under.1 number below,
       )
 
   module _ (first : Bool) (link : Link) (by : IsAdded model outer given keys a assoc own first link) where
     abbrev pub covered : derives model by.entity.ty (end_of first assoc).ty ≡ true
-    covered = (and_parts (derives model by.entity.ty (end_of first assoc).ty) (not (list_any (λ one. same_key (end_key first one) (key_of model by.entity)) own)) by.lacks).0
+    covered = (and_parts (derives model by.entity.ty (end_of first assoc).ty) (not (has_own_link model first own by.entity)) by.lacks).0
 
     pub none_own : Any (λ one. end_key first one ≡ key_of model by.entity) own → ⊥
     none_own any =
-        let told = (and_parts (derives model by.entity.ty (end_of first assoc).ty) (not (list_any (λ one. same_key (end_key first one) (key_of model by.entity)) own)) by.lacks).1 in
-        let yes_ : list_any (λ one. same_key (end_key first one) (key_of model by.entity)) own ≡ true = (Decides-own model outer given keys a assoc own first by.entity).1 any in
+        let told = (and_parts (derives model by.entity.ty (end_of first assoc).ty) (not (has_own_link model first own by.entity)) by.lacks).1 in
+        let yes_ : has_own_link model first own by.entity ≡ true = (Decides-own model outer given keys a assoc own first by.entity).1 any in
         true≢false (sym told ∙ ap not yes_)
 
     pub added_near : end_key first link ≡ key_of model by.entity
@@ -277,11 +275,11 @@ module _ (model : EntityModel) (outer : ℕ) (has : HasNumbers model outer) (giv
         (contains_map (added_link model outer first a assoc) (filter (lacks_link model first assoc own) (stands_in model outer given keys (end_of first assoc).set)) entity
         (contains_filter (lacks_link model first assoc own) (stands_in model outer given keys (end_of first assoc).set) entity stands lacks))))
         (near_key first (key_of model entity) (numbered_key model outer (end_of (not first) assoc).set (end_number (not first) a))))
-        (so_or_not (list_any (λ link. same_key (end_key first link) (key_of model entity)) own) (Decides-own model outer given keys a assoc own first entity)))
+        (so_or_not (has_own_link model first own entity) (Decides-own model outer given keys a assoc own first entity)))
       where
         lacks_it : ¬ Any Own own → lacks_link model first assoc own entity ≡ true
         lacks_it none =
-            let test = list_any (λ link. same_key (end_key first link) (key_of model entity)) own in
+            let test = has_own_link model first own entity in
             (Decides-and (derives model entity.ty (end_of first assoc).ty) (not test) ((decides_types model has.sound).tells entity.ty (end_of first assoc).ty)
             (Decides-not test (Decides-own model outer given keys a assoc own first entity))).1 (covers, none)
 

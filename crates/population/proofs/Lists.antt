@@ -51,7 +51,7 @@ made_at {Y} f count i beyond = ⊎_elim
     ap (λ found. unwrap_or found []) (slice_get-map f (numbers_from 0 count) i) ∙ ap (λ found. unwrap_or (option_map f found) []) (number_at 0 count i below) ∙ ap f here)
     (λ (past : count ≤ i).
     let none : slice_get (map f (numbers_from 0 count)) i ≡ None = slice_get_past (map f (numbers_from 0 count)) i
-        (let is = length-map (numbers_from 0 count) f ∙ length-numbers 0 count in omega (arith, is, past)) in
+    (let is = length-map (numbers_from 0 count) f ∙ length-numbers 0 count in omega (arith, is, past)) in
     ap (λ found. unwrap_or found []) none ∙ sym (beyond past))
     (less_or i count)
   where

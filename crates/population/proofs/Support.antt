@@ -24,7 +24,7 @@ use Rattle.population.specs.Given.{AreGiven, AreKeys, AreWanted, HasNumbers, Has
 use Rattle.population.specs.Numbered.{number_count, numbered, numbered_key}
 use Rattle.population.specs.Plain.{plain}
 use Rattle.population.specs.Principals.{AsksFor, PlacedKey, principals}
-use Rattle.population.specs.Support.{IsClosedFor, IsLeastFor, IsTaken, free_keys, is_taken, levels, same_placed, steps, support}
+use Rattle.population.specs.Support.{IsClosedFor, IsLeastFor, IsTaken, free_keys, is_taken, levels, same_placed, step_count, steps, support}
 use Rattle.population.specs.Supported.{Placed, given_in, keys_in, stands_in}
 use Rattle.population.proofs.Arrows.{IsReached, reached_few, reached_first, reached_then, step_arrow, step_within}
 use Rattle.population.proofs.Asked.{asked_of}
@@ -118,14 +118,14 @@ module _ (model : EntityModel) (outer : ℕ) (given : List Placed) where
       → (wanted : List PlacedKey) → ((placed : PlacedKey) → Contains wanted placed → ¬ IsTaken model outer given placed → P placed)
       → (placed : PlacedKey) → Contains (support model outer given wanted) placed → P placed
   support_all P keeps wanted first placed has =
-      levels_all P keeps (length model.sets) (free_keys model outer given wanted) (λ one has_one. let free = free_is wanted one has_one in first one free.0 free.1) placed
-      (member_of_distinct same_placed Decides-placed (levels model outer given (length model.sets) (free_keys model outer given wanted)) placed has)
+      levels_all P keeps (step_count model outer) (free_keys model outer given wanted) (λ one has_one. let free = free_is wanted one has_one in first one free.0 free.1) placed
+      (member_of_distinct same_placed Decides-placed (levels model outer given (step_count model outer) (free_keys model outer given wanted)) placed has)
 
   pub support_free : (wanted : List PlacedKey) (placed : PlacedKey) → Contains (support model outer given wanted) placed → ¬ IsTaken model outer given placed
   support_free wanted = support_all (λ placed. ¬ IsTaken model outer given placed) (λ from to before has_step free. free) wanted (λ placed has free. free)
 
   pub support_once : (wanted : List PlacedKey) → AreApart (support model outer given wanted)
-  support_once wanted = distinct_apart same_placed Decides-placed (levels model outer given (length model.sets) (free_keys model outer given wanted))
+  support_once wanted = distinct_apart same_placed Decides-placed (levels model outer given (step_count model outer) (free_keys model outer given wanted))
 
   module _ (has : HasNumbers model outer) where
     -- enough levels are closed under steps
@@ -153,15 +153,15 @@ module _ (model : EntityModel) (outer : ℕ) (given : List Placed) where
 
     pub support_wanted : (wanted : List PlacedKey) (placed : PlacedKey) → Contains wanted placed → ¬ IsTaken model outer given placed → Contains (support model outer given wanted) placed
     support_wanted wanted placed has_placed free =
-        contains_distinct same_placed Decides-placed (levels model outer given (length model.sets) (free_keys model outer given wanted)) placed
-        (levels_here (length model.sets) (free_keys model outer given wanted) placed (is_free wanted placed has_placed free))
+        contains_distinct same_placed Decides-placed (levels model outer given (step_count model outer) (free_keys model outer given wanted)) placed
+        (levels_here (step_count model outer) (free_keys model outer given wanted) placed (is_free wanted placed has_placed free))
 
     pub support_closed : (wanted : List PlacedKey) (from to : PlacedKey) → Contains (support model outer given wanted) from → Contains (steps model outer from) to
         → ¬ IsTaken model outer given to → Contains (support model outer given wanted) to
     support_closed wanted from to has_from has_step free =
-        let all : List PlacedKey = levels model outer given (length model.sets) (free_keys model outer given wanted) in
+        let all : List PlacedKey = levels model outer given (step_count model outer) (free_keys model outer given wanted) in
         contains_distinct same_placed Decides-placed all to
-        (levels_closed (length model.sets) 0 (free_keys model outer given wanted) (λ placed has_placed. reached_first model outer has placed.set) (omega arith) from to
+        (levels_closed (step_count model outer) 0 (free_keys model outer given wanted) (λ placed has_placed. reached_first model outer has placed.set) (omega arith) from to
         (member_of_distinct same_placed Decides-placed all from has_from) has_step free)
 
 pub support_least : (model : EntityModel) (outer : ℕ) → HasNumbers model outer → (given : List Placed) (wanted : List PlacedKey)

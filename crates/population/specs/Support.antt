@@ -23,6 +23,10 @@ module _ (model : EntityModel) (outer : ℕ) where
   abbrev pub steps : PlacedKey → List PlacedKey
   steps from = option_map_or (λ set. principals model from.set (plain model outer 0 set.element from.key)) (slice_get model.sets from.set.index) []
 
+  -- so many steps find all: no more are needed than there are sets
+  abbrev pub step_count : ℕ
+  step_count = length model.sets
+
   module _ (given : List Placed) where
     -- whether the set's entity of a number, or a given one, has the key
     abbrev pub is_taken : PlacedKey → Bool
@@ -37,9 +41,9 @@ module _ (model : EntityModel) (outer : ℕ) where
     levels zero keys = keys
     levels (suc more) keys = keys ++ levels more (free_keys (flat_map steps keys))
 
-    -- the support of the wanted keys, each once; no more steps are needed than there are sets
+    -- the support of the wanted keys, each once
     abbrev pub support : List PlacedKey → List PlacedKey
-    support wanted = distinct same_placed (levels (length model.sets) (free_keys wanted))
+    support wanted = distinct same_placed (levels step_count (free_keys wanted))
 
     -- an entity of a number, or a given one, has the key
     abbrev pub IsTaken : PlacedKey → Type 0

@@ -54,9 +54,13 @@ keys_in keys u = map (λ placed. placed.key) (filter (λ placed. placed.set.inde
 abbrev pub links_of : List PlacedLink → AssocId → List Link
 links_of links a = map (λ placed. placed.link) (filter (λ placed. placed.assoc.index == a.index) links)
 
+-- whether one of these links is an entity's own
+abbrev pub has_own_link : EntityModel → Bool → List Link → Entity → Bool
+has_own_link model first links entity = list_any (λ link. same_key (end_key first link) (key_of model entity)) links
+
 -- whether an entity is to have a link at the end, and none of these is its own
 abbrev pub lacks_link : EntityModel → Bool → Assoc → List Link → Entity → Bool
-lacks_link model first assoc links entity = derives model entity.ty (end_of first assoc).ty && not (list_any (λ link. same_key (end_key first link) (key_of model entity)) links)
+lacks_link model first assoc links entity = derives model entity.ty (end_of first assoc).ty && not (has_own_link model first links entity)
 
 -- a link from an entity to the one that has the number of the other end
 abbrev pub added_link : EntityModel → ℕ → Bool → AssocId → Assoc → Entity → Link

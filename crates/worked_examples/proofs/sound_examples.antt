@@ -1,7 +1,7 @@
-mod Lists
-mod Tests
-mod Names
-mod models
+pub mod Lists
+pub mod Tests
+pub mod Names
+pub mod models
 mod stores
 mod mappings
 mod KindFacts

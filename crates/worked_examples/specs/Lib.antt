@@ -5,3 +5,4 @@ pub mod staff
 pub mod bosses
 pub mod Seats
 pub mod sound_examples
+pub mod supported

@@ -2,6 +2,7 @@
 #![tactic(auto)]
 
 mod sound_examples;
+mod supported_states;
 
 ghost use Rattle.worked_examples.specs.bosses.BossLost.{BossIsLost};
 ghost use Rattle.worked_examples.specs.staff.ByKind.{
@@ -67,6 +68,10 @@ pub use sound_examples::{
     bosses_are_sound, broken_mappings_are_not_sound, broken_models_are_not_sound,
     broken_stores_are_not_sound, items_are_sound, kinds_are_told, lines_are_sound,
     people_are_sound, seats_are_sound, shop_is_sound, staff_is_sound,
+};
+pub use supported_states::{
+    adds_a_boss, adds_a_leader, supports_a_child, supports_a_detail, supports_a_line,
+    supports_an_order, supports_with_a_concrete_type,
 };
 
 /// One person with a name: the state is legal, its tables have the one row, and they are legal and agree with the fragment.

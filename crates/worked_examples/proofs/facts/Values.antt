@@ -18,9 +18,12 @@ pub record FitsIn (kind : Kind) (nullable : Bool) (value : Value) : Type 0 where
 pub null_fits : (kind : Kind) → FitsIn kind true Null
 null_fits kind = record { null = λ none. refl; domain = inl refl }
 
--- a whole number that isn't negative is an Int32 where it isn't too large
+-- a whole number that isn't negative is an Int32, and an Int16, where it isn't too large
 pub whole_fits : (nullable : Bool) (n : ℕ) → n ≤ 2147483647 → FitsIn kind.Int32 nullable (Whole (pos n))
 whole_fits nullable n below = record { null = λ none. absurd (cc); domain = inr (omega (arith, ints), omega (arith, ints)) }
+
+pub short_fits : (nullable : Bool) (n : ℕ) → n ≤ 32767 → FitsIn kind.Int16 nullable (Whole (pos n))
+short_fits nullable n below = record { null = λ none. absurd (cc); domain = inr (omega (arith, ints), omega (arith, ints)) }
 
 pub text_fits : (nullable : Bool) (bound : Option ℕ) (bytes : List ℕ) → IsText bound bytes → FitsIn (kind.Text bound) nullable (Text bytes)
 text_fits nullable bound bytes text = record { null = λ none. absurd (cc); domain = inr text }

@@ -1,12 +1,11 @@
 -- Models in which a type's base has no base itself.
-use Rattle.std.specs.List.{AllByRecursion}
-use Rattle.std.proofs.Common.{◌≡◌, refl, subst, ◌∙◌, List}
-use Rattle.std.specs.Prelude.{bytes_eq, true, Some, None, MatchOption, slice_get, ⊤, Contains}
+use Rattle.std.proofs.Common.{◌≡◌, refl, subst, ◌∙◌}
+use Rattle.std.specs.Prelude.{bytes_eq, true, Some, None, MatchOption, slice_get, ⊤}
 use Rattle.std.proofs.lemmas.Option.{MatchOption-at_some}
 use Rattle.std.proofs.lemmas.Slice.Eq.{bytes_eq-Decides}
-use Rattle.round_trip.specs.Words.{TypeId, EntityModel, EntityType, TypeNode, At, HasBase, IsA}
+use Rattle.round_trip.specs.Words.{TypeId, EntityModel, EntityType, At, HasBase, IsA}
 use Rattle.edm_types.specs.IsA.{same, base, chain}
-use Rattle.worked_examples.proofs.facts.Small.{EachAt, each_at, each_of}
+use Rattle.worked_examples.proofs.facts.Small.{EachAt, each_at}
 use Rattle.worked_examples.specs.Ids.{type_id}
 use Rattle.round_trip.specs.soundness.models.ModelNames.{own_names, HasDistinctMembers}
 use Rattle.worked_examples.proofs.sound_examples.Names.{names_apart}

@@ -17,4 +17,4 @@ module _ (mult : Mult) where
   }
 
   pub sound : IsSoundModel (bossed_model mult)
-  sound = sound_with (bosses mult ∷ []) refl (sound_bosses, tt) ((λ constraint constrained by_key. absurd (cc)), tt)
+  sound = sound_with (bosses mult ∷ []) refl (sound_bosses, tt) ((λ constraint constrained by_key needed. absurd (cc)), tt)

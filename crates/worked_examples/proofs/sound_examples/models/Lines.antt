@@ -34,7 +34,7 @@ sound_lines = record {
 
 -- from lines, which stand second, to orders
 falls : FallsBack lines_model lines_of_order
-falls constraint constrained by_key =
+falls constraint constrained by_key needed =
     let same : order_constraint ≡ constraint = cc in
     let P : Constraint → Type 0 = λ c. (principal_end lines_of_order c).set.index < (dependent_end lines_of_order c).set.index in
     subst P same (omega arith)

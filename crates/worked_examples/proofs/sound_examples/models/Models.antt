@@ -181,15 +181,15 @@ module _ (model : EntityModel) where
     key_props = all_from (IsKeyProp model) IsPart type.key key_prop parts;
   }
 
-  -- an association set that depends by a key leads to an earlier set
+  -- an association set that depends by a key, none of whose dependent properties may be null, leads to an earlier set
   abbrev pub FallsBack : Assoc → Type 0
-  FallsBack assoc = (constraint : Constraint) → assoc.constraint ≡ Some constraint → DependsByKey model assoc constraint
+  FallsBack assoc = (constraint : Constraint) → assoc.constraint ≡ Some constraint → DependsByKey model assoc constraint → All (IsNeeded model) constraint.dependent
       → (principal_end assoc constraint).set.index < (dependent_end assoc constraint).set.index
 
   arrow_falls : AllByRecursion FallsBack model.assocs → {from to : SetId} → HasArrow model from to → to.index < from.index
   arrow_falls each {from} {to} has =
       let falls : (principal_end has.assoc has.constraint).set.index < (dependent_end has.assoc has.constraint).set.index
-      = each_of FallsBack model.assocs has.assoc each has.is_assoc has.constraint has.constrained has.by_key in
+      = each_of FallsBack model.assocs has.assoc each has.is_assoc has.constraint has.constrained has.by_key has.needed in
       let P : SetId → Type 0 = λ s. s.index < from.index in
       let Q : SetId → Type 0 = λ s. (principal_end has.assoc has.constraint).set.index < s.index in
       subst P has.to_is (subst Q has.from_is falls)

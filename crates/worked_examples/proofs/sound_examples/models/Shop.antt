@@ -52,7 +52,7 @@ sound = model_from shop_model (stem (type_id 0) (type_id 1) ∷ leaf (type_id 2)
   elements = (sound_owner.first.concrete, (sound_owner.second.concrete, tt));
   linked = (sound_owner, tt);
   falls = (
-    (λ constraint constrained by_key.
+    (λ constraint constrained by_key needed.
         let same : owner_constraint ≡ constraint = cc in
         absurd (not_by_key (subst (DependsByKey shop_model owner) (sym same) by_key))),
     tt,

@@ -1,0 +1,10 @@
+pub mod Constraints
+pub mod Given
+pub mod sound
+pub mod Details
+pub mod Owned
+pub mod Contacts
+pub mod Accounts
+pub mod Parents
+pub mod Bosses
+pub mod Leaders

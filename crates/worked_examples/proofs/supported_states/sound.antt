@@ -1,0 +1,5 @@
+pub mod Details
+pub mod Contacts
+pub mod Accounts
+pub mod Parents
+pub mod Leaders
