@@ -15,3 +15,5 @@ pub mod BaseLinks
 pub mod BaseValues
 pub mod BaseFor
 pub mod OuterRow
+pub mod Small
+pub mod SmallHosts

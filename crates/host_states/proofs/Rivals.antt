@@ -69,11 +69,11 @@ module _ (basis : Basis) (outer : ℕ) (s : SetId) (one two : Region) (of_one : 
       (λ (second : Contains (wanted_by basis outer (given_by basis outer (linked_hosts basis two) two others)) to). focus_wants_short basis outer s two of_two others also to second)
       (Contains-append_cases (wanted_by basis outer (given_by basis outer (linked_hosts basis one) one values)) (wanted_by basis outer (given_by basis outer (linked_hosts basis two) two others)) to has)
 
-  one_made : IsMade basis outer s one values (linked_hosts basis one) wanted
+  pub one_made : IsMade basis outer s one values (linked_hosts basis one) wanted
   one_made = focus_made basis outer s one of_one values admissible wanted short (λ to has.
       Contains-append_left (wanted_by basis outer (given_by basis outer (linked_hosts basis one) one values)) (wanted_by basis outer (given_by basis outer (linked_hosts basis two) two others)) to has)
 
-  two_made : IsMade basis outer s two others (linked_hosts basis two) wanted
+  pub two_made : IsMade basis outer s two others (linked_hosts basis two) wanted
   two_made = focus_made basis outer s two of_two others also wanted short (λ to has.
       Contains-append_right (wanted_by basis outer (given_by basis outer (linked_hosts basis one) one values)) (wanted_by basis outer (given_by basis outer (linked_hosts basis two) two others)) to has)
 
