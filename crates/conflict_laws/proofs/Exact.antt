@@ -12,8 +12,10 @@ use Rattle.region_states.specs.conflicts.Conflicts.{IsConflictAt}
 use Rattle.region_states.specs.conflicts.There.{FailsThere, NoneFailsBefore, NoneFailsBy}
 use Rattle.region_states.specs.Hosting.{HostsFocuses}
 use Rattle.host_states.specs.FocusStates.{focus_state, leaving_states, rival_states}
+use Rattle.host_states.specs.SmallStates.{small_focus, small_leaving, small_rivals}
 use Rattle.host_states.proofs.FewPartners.{few_by_clear}
 use Rattle.host_states.proofs.Hosts.{states_host, states_leave, states_rival}
+use Rattle.host_states.proofs.SmallHosts.{small_host, small_leave, small_rival}
 use Rattle.conflict_laws.proofs.clash.Fails.{fails_there}
 use Rattle.conflict_laws.proofs.clash.Told.{clash_told}
 use Rattle.conflict_laws.proofs.null.Failing.{null_there}
@@ -30,13 +32,25 @@ module _ (basis : Basis) (is : IsBasis basis) (limits : IsWithinLimits basis.sch
   hosts = states_host basis is limits 0 (omega (arith))
 
   -- no legal state clashes, so there are the states that the laws on same tables ask for
-  states : NoneFailsBy basis.schema variant.Clash → HasStates basis (focus_state basis 0) (rival_states basis 0) (leaving_states basis 0)
+  pub states : NoneFailsBy basis.schema variant.Clash → HasStates basis (focus_state basis 0) (rival_states basis 0) (leaving_states basis 0)
   states clear = record {
     is_basis = is;
     limits = limits;
     hosts = hosts;
     rival = states_rival basis is limits 0 (omega (arith));
     leaves = states_leave basis is limits 0 (omega (arith));
+    few = few_by_clear basis is limits clear;
+    no_clash = clear;
+  }
+
+  -- their small parts are such states too
+  pub small : NoneFailsBy basis.schema variant.Clash → HasStates basis (small_focus basis 0) (small_rivals basis 0) (small_leaving basis 0)
+  small clear = record {
+    is_basis = is;
+    limits = limits;
+    hosts = small_host basis is limits 0 (omega (arith));
+    rival = small_rival basis is limits 0 (omega (arith));
+    leaves = small_leave basis is limits 0 (omega (arith));
     few = few_by_clear basis is limits clear;
     no_clash = clear;
   }
