@@ -14,9 +14,9 @@ use Rattle.regions.specs.Patterns.{Valuation, pattern_of, value_under, writings_
 use Rattle.regions.specs.Regions.{regions_of}
 use Rattle.regions.specs.region_laws.IsBasis.{IsBasis}
 use Rattle.regions.specs.region_laws.pattern.Listed.{Lists}
+use Rattle.regions.specs.region_laws.Held.{IsHeldAt}
 use Rattle.regions.proofs.region_laws.pattern.Cells.{cell_of}
 use Rattle.regions.proofs.region_laws.pattern.Keys.{owned_here}
-use Rattle.region_states.specs.focus.Held.{IsHeldAt}
 use Rattle.region_states.proofs.focus.Demanded.{cells}
 use Rattle.region_states.specs.defaults.Admissible.{IsAdmissible}
 use Rattle.region_states.specs.conflicts.Conflicts.{IsConflictAt, IsRegionOf}

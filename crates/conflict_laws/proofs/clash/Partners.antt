@@ -18,12 +18,12 @@ use Rattle.regions.specs.region_laws.Partners.{TellsPartner}
 use Rattle.regions.specs.region_laws.RegionAt.{links_at}
 use Rattle.schema_laws.proofs.state_demand.lists.Ids.{Decides-assoc}
 use Rattle.regions.specs.region_laws.pattern.Allowed.{HasAllowedParts, IsAllowed}
+use Rattle.regions.specs.region_laws.Held.{IsOfRegion}
 use Rattle.regions.proofs.region_laws.pattern.values.Allowed.{link_allowed}
 use Rattle.regions.proofs.region_laws.pattern.symbols.Hosting.{one_host}
 use Rattle.regions.proofs.region_laws.pattern.symbols.Origins.{linked_decided}
 use Rattle.regions.proofs.region_laws.pattern.types.Regions.{parts_of}
 use Rattle.regions.proofs.region_laws.pattern.Ends.{other_end}
-use Rattle.region_states.specs.focus.Held.{IsOfRegion}
 use Rattle.region_states.proofs.focus.Flags.{unflagged}
 use Rattle.region_states.specs.defaults.Defaults.{default_part}
 use Rattle.region_states.proofs.defaults.Defaults.{default_admissible}

@@ -19,10 +19,11 @@ use Rattle.regions.specs.Symbols.{is_linked, selects_region}
 use Rattle.regions.specs.region_laws.IsBasis.{IsBasis}
 use Rattle.regions.proofs.region_laws.listing.Possible.{linked_hosts}
 use Rattle.regions.proofs.region_laws.entities.Selected.{Decides-selected}
-use Rattle.regions.specs.region_laws.pattern.Described.{HasNoClashes}
+use Rattle.regions.specs.region_laws.pattern.Described.{HasNoClashes, IsClearRow}
+use Rattle.regions.specs.region_laws.Held.{IsAtRow, IsHeldAt}
 use Rattle.regions.proofs.region_laws.pattern.symbols.Origins.{linked_decided}
-use Rattle.region_states.specs.focus.Agreeing.{IsClearRow, IsRowOfEntity}
-use Rattle.region_states.specs.focus.Held.{HasRow, IsAtRow, IsHeldAt}
+use Rattle.region_states.specs.focus.Agreeing.{IsRowOfEntity}
+use Rattle.region_states.specs.focus.Held.{HasRow}
 use Rattle.region_states.proofs.focus.Agreeing.{entity_agrees, host_agrees}
 use Rattle.region_states.proofs.focus.Demanded.{rows}
 use Rattle.region_states.proofs.focus.Hosts.{HostsLink, has_link, hosts_link}

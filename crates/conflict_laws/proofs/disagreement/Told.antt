@@ -25,11 +25,11 @@ use Rattle.regions.specs.region_laws.IsBasis.{IsBasis}
 use Rattle.regions.specs.region_laws.Partners.{HasFewPartners, part_by}
 use Rattle.regions.specs.region_laws.pattern.Allowed.{end_at}
 use Rattle.regions.specs.region_laws.pattern.Described.{HasNoClashes}
+use Rattle.regions.specs.region_laws.Held.{IsHeldAt}
 use Rattle.regions.proofs.region_laws.pattern.symbols.Hosting.{assoc_here, host_set, hosted_side, the_assoc}
 use Rattle.regions.proofs.region_laws.pattern.symbols.Origins.{side}
 use Rattle.regions.proofs.region_laws.pattern.types.Regions.{parts_of}
 use Rattle.region_states.specs.focus.Agreeing.{IsRowOfEntity}
-use Rattle.region_states.specs.focus.Held.{IsHeldAt}
 use Rattle.region_states.proofs.focus.Flags.{held_at, some_region}
 use Rattle.region_states.specs.conflicts.Conflicts.{IsConflictAt}
 use Rattle.region_states.specs.conflicts.Facts.{differ, is_hosted, shows_link_pattern, shows_pattern}

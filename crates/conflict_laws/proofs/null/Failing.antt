@@ -18,11 +18,12 @@ use Rattle.regions.specs.Regions.{regions_of}
 use Rattle.regions.specs.Settled.{has_clash, possible}
 use Rattle.regions.specs.region_laws.IsBasis.{IsBasis}
 use Rattle.regions.specs.region_laws.pattern.Listed.{HasCell}
+use Rattle.regions.specs.region_laws.Held.{IsAtRow, IsHeldAt}
 use Rattle.regions.proofs.region_laws.pattern.Laws.{cell_one}
 use Rattle.region_states.specs.defaults.Admissible.{IsAdmissible}
 use Rattle.region_states.specs.defaults.Defaults.{default_valuation}
 use Rattle.region_states.proofs.defaults.Defaults.{default_admissible}
-use Rattle.region_states.specs.focus.Held.{HasRow, IsAtRow, IsHeldAt, ListsValue}
+use Rattle.region_states.specs.focus.Held.{HasRow, ListsValue}
 use Rattle.region_states.proofs.focus.Demanded.{cells, rows}
 use Rattle.region_states.proofs.focus.Listed.{row_owned}
 use Rattle.region_states.specs.conflicts.Conflicts.{IsConflictAt}

@@ -13,9 +13,10 @@ use Rattle.regions.specs.region_laws.IsBasis.{IsBasis}
 use Rattle.regions.specs.region_laws.Partners.{HasFewPartners, part_by}
 use Rattle.regions.specs.region_laws.pattern.Allowed.{CanBe, IsAllowed}
 use Rattle.regions.specs.region_laws.pattern.Listed.{HasCell}
+use Rattle.regions.specs.region_laws.Held.{IsAtRow, IsHeldAt}
 use Rattle.regions.proofs.region_laws.pattern.values.Allowed.{region_allowed}
 use Rattle.regions.proofs.region_laws.pattern.Laws.{symbol_possible}
-use Rattle.region_states.specs.focus.Held.{HasRow, IsAtRow, IsHeldAt}
+use Rattle.region_states.specs.focus.Held.{HasRow}
 use Rattle.region_states.proofs.focus.Demanded.{cells, rows}
 use Rattle.region_states.proofs.focus.Flags.{held_at, some_region}
 use Rattle.region_states.proofs.focus.Partners.{are_hosted, are_partners, holds_hosted, links}

@@ -18,9 +18,9 @@ use Rattle.regions.specs.region_laws.Partners.{HasPartners, TellsPartner}
 use Rattle.regions.specs.region_laws.RegionAt.{hosted_links, links_at}
 use Rattle.regions.proofs.region_laws.entities.Hosting.{hosted_are}
 use Rattle.regions.specs.region_laws.pattern.Allowed.{ArePartners}
+use Rattle.regions.specs.region_laws.Held.{IsHeldAt}
 use Rattle.regions.proofs.region_laws.pattern.symbols.Origins.{linked_decided}
 use Rattle.regions.proofs.region_laws.pattern.types.Regions.{parts_of}
-use Rattle.region_states.specs.focus.Held.{IsHeldAt}
 
 -- the flag of a host tells whether a link stands at the entity
 module _ (basis : Basis) (state : State) (s : SetId) (entity : Entity) (region : Region) (part : AssocId → Bool → PropId → Value)

@@ -9,8 +9,8 @@ use Rattle.regions.specs.declared.region.Region.{Region}
 use Rattle.regions.specs.Basis.{Basis}
 use Rattle.regions.specs.Patterns.{Valuation}
 use Rattle.regions.specs.Regions.{regions_of}
+use Rattle.regions.specs.region_laws.Held.{IsAtRow, IsHeldAt}
 use Rattle.regions.proofs.region_laws.listing.Listed.{set_is}
-use Rattle.region_states.specs.focus.Held.{IsAtRow, IsHeldAt}
 use Rattle.region_states.proofs.focus.Demanded.{rows}
 use Rattle.region_states.proofs.defaults.Defaults.{default_admissible}
 use Rattle.region_states.specs.defaults.Defaults.{default_valuation}

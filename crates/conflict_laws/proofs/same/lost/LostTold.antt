@@ -11,7 +11,7 @@ use Rattle.regions.specs.Settled.{Possible, multi, possible, single}
 use Rattle.regions.specs.region_laws.IsBasis.{IsBasis}
 use Rattle.regions.specs.region_laws.pattern.Allowed.{IsAllowed}
 use Rattle.regions.specs.region_laws.pattern.Listed.{Lists}
-use Rattle.region_states.specs.focus.Held.{IsHeldAt}
+use Rattle.regions.specs.region_laws.Held.{IsHeldAt}
 use Rattle.schema_laws.proofs.short_values.Places.{Decides-among}
 use Rattle.region_states.specs.conflicts.SameFacts.{is_lost, is_multi, is_one_of, lists_anywhere}
 use Rattle.conflict_laws.specs.rival.Alike.{AreWrittenAlike, IsClear}

@@ -17,7 +17,7 @@ use Rattle.regions.proofs.region_laws.listing.Listed.{set_is}
 use Rattle.regions.specs.region_laws.pattern.Allowed.{IsAllowed}
 use Rattle.regions.specs.region_laws.pattern.Described.{value_in}
 use Rattle.regions.specs.region_laws.pattern.Listed.{HasCell}
-use Rattle.region_states.specs.focus.Held.{IsAtRow, IsHeldAt}
+use Rattle.regions.specs.region_laws.Held.{IsAtRow, IsHeldAt}
 use Rattle.region_states.specs.conflicts.There.{NoneFailsBy}
 use Rattle.region_states.specs.Entities.{focus_entity}
 use Rattle.region_states.specs.Hosting.{DifferAtMostAt, HoldRivals}

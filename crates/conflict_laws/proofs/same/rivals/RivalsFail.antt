@@ -9,10 +9,10 @@ use Rattle.regions.specs.Patterns.{Valuation}
 use Rattle.regions.specs.Regions.{Holds, regions_of, tested_props}
 use Rattle.regions.specs.region_laws.IsBasis.{IsBasis}
 use Rattle.regions.specs.region_laws.RegionAt.{atom_in, region_at}
+use Rattle.regions.specs.region_laws.Held.{IsHeldAt}
 use Rattle.regions.proofs.region_laws.listing.Listed.{set_is}
 use Rattle.regions.proofs.region_laws.entities.Regions.{region_only}
 use Rattle.schema_laws.proofs.state_demand.lists.Ids.{Decides-assoc}
-use Rattle.region_states.specs.focus.Held.{IsHeldAt}
 use Rattle.region_states.specs.defaults.Admissible.{IsAdmissible}
 use Rattle.region_states.specs.conflicts.SameFacts.{are_rivals, match_all, same_region}
 use Rattle.region_states.specs.Entities.{focus_entity}

@@ -10,7 +10,8 @@ use Rattle.regions.specs.Symbols.{region_writings}
 use Rattle.regions.specs.region_laws.IsBasis.{IsBasis}
 use Rattle.regions.specs.region_laws.pattern.Described.{value_in}
 use Rattle.regions.specs.region_laws.pattern.Listed.{HasCell}
-use Rattle.region_states.specs.focus.Held.{HasRow, IsAtRow, IsHeldAt}
+use Rattle.regions.specs.region_laws.Held.{IsAtRow, IsHeldAt}
+use Rattle.region_states.specs.focus.Held.{HasRow}
 use Rattle.region_states.proofs.focus.Demanded.{rows}
 use Rattle.conflict_laws.specs.rival.Alike.{AreWrittenAlike, IsClear}
 use Rattle.conflict_laws.proofs.rival.Rows.{cell_there}

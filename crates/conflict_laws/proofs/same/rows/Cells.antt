@@ -14,10 +14,11 @@ use Rattle.regions.specs.region_laws.IsBasis.{IsBasis}
 use Rattle.regions.specs.region_laws.pattern.Allowed.{IsAllowed}
 use Rattle.regions.specs.region_laws.pattern.Described.{value_in}
 use Rattle.regions.specs.region_laws.pattern.Listed.{HasCell}
+use Rattle.regions.specs.region_laws.Held.{IsAtRow, IsHeldAt}
 use Rattle.regions.proofs.region_laws.pattern.values.Allowed.{region_allowed}
 use Rattle.regions.proofs.region_laws.pattern.Cells.{cell_of as made_cell}
 use Rattle.regions.proofs.region_laws.pattern.Laws.{cell_one}
-use Rattle.region_states.specs.focus.Held.{IsAtRow, IsHeldAt, ListsValue}
+use Rattle.region_states.specs.focus.Held.{ListsValue}
 use Rattle.region_states.proofs.focus.Demanded.{cells}
 use Rattle.region_states.proofs.focus.Partners.{are_hosted, are_partners, holds_hosted, links}
 use Rattle.conflict_laws.specs.rival.Alike.{IsClear}

@@ -11,7 +11,8 @@ use Rattle.regions.specs.declared.pattern.Focus.TheVariants as focus
 use Rattle.regions.specs.Basis.{Basis}
 use Rattle.regions.specs.Patterns.{by_entity, pattern_of}
 use Rattle.regions.specs.region_laws.IsBasis.{IsBasis}
-use Rattle.region_states.specs.focus.Held.{HasRow, IsAtRow, IsHeldAt}
+use Rattle.regions.specs.region_laws.Held.{IsAtRow, IsHeldAt}
+use Rattle.region_states.specs.focus.Held.{HasRow}
 use Rattle.region_states.proofs.focus.Demanded.{rows}
 use Rattle.region_states.proofs.focus.Listed.{row_owned}
 use Rattle.conflict_laws.specs.rival.Alike.{AreWrittenAlike, IsClear}

@@ -10,10 +10,10 @@ use Rattle.regions.specs.Regions.{flagged}
 use Rattle.regions.specs.region_laws.IsBasis.{AreHostedLinks, IsBasis, IsHostOf}
 use Rattle.regions.specs.region_laws.Partners.{HasFewPartners, HasPartners, part_by}
 use Rattle.regions.specs.region_laws.RegionAt.{flag_by, flag_in, has_link, hosted_links, links_at, region_at}
+use Rattle.regions.specs.region_laws.Held.{IsHeldAt, IsOfRegion}
 use Rattle.regions.proofs.region_laws.entities.Flags.{flag_is}
 use Rattle.regions.proofs.region_laws.entities.Hosting.{hosted_are}
 use Rattle.regions.proofs.region_laws.entities.Regions.{region_among, region_holds}
-use Rattle.region_states.specs.focus.Held.{IsHeldAt, IsOfRegion}
 use Rattle.region_states.proofs.focus.Flags.{held_at}
 use Rattle.conflict_laws.proofs.same.states.HostedAt.{at_host, host_at}
 
