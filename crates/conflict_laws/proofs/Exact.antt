@@ -11,7 +11,6 @@ use Rattle.region_states.specs.declared.conflicts.conflict.Conflict.{Conflict}
 use Rattle.region_states.specs.declared.conflicts.conflict.Conflict.TheVariants as conflict
 use Rattle.region_states.specs.conflicts.Conflicts.{IsConflictAt}
 use Rattle.region_states.specs.conflicts.There.{FailsThere, NoneFailsBefore, NoneFailsBy}
-use Rattle.region_states.specs.Hosting.{HostsFocuses}
 use Rattle.region_states.specs.LoneStates.{HasNoAssociationSets, empty_state, lone_focus}
 use Rattle.region_states.proofs.lone.Alike.{lone_hosts, lone_leaves, lone_rivals}
 use Rattle.region_states.proofs.lone.Legal.{no_host}
@@ -21,7 +20,7 @@ use Rattle.conflict_laws.proofs.null.Failing.{null_there}
 use Rattle.conflict_laws.proofs.null.Telling.{null_told}
 use Rattle.conflict_laws.proofs.disagreement.Failing.{there}
 use Rattle.conflict_laws.proofs.disagreement.Told.{told}
-use Rattle.conflict_laws.specs.same.States.{HasStates}
+use Rattle.conflict_laws.specs.States.{ClearStates, FocusStates, RivalStates}
 use Rattle.conflict_laws.proofs.same.There.{same_there}
 use Rattle.conflict_laws.proofs.same.ToldThere.{same_told}
 
@@ -31,21 +30,21 @@ module _ (basis : Basis) (is : IsBasis basis) (limits : IsWithinLimits basis.sch
   few s = λ host has assoc here. absurd (no_host basis is none s host has)
 
   -- the states of one entity
-  hosts : HostsFocuses basis 0 (lone_focus basis)
-  hosts = lone_hosts basis is none 0
+  focuses : FocusStates basis
+  focuses = record { is_basis = is; limits = limits; state = lone_focus basis; hosts = lone_hosts basis is none 0 }
 
-  -- no legal state clashes, so there are the states that the laws on same tables ask for
-  states : NoneFailsBy basis.schema variant.Clash
-      → HasStates basis (lone_focus basis) (λ one values two others. (lone_focus basis one values, lone_focus basis two others))
-      (λ region values. (lone_focus basis region values, empty_state basis.schema.model))
+  -- where no legal state clashes, they are the states that the laws ask for
+  clear_states : NoneFailsBy basis.schema variant.Clash → ClearStates basis
+  clear_states clear = record { given = focuses; no_clash = clear }
+
+  states : NoneFailsBy basis.schema variant.Clash → RivalStates basis
   states clear = record {
-    is_basis = is;
-    limits = limits;
-    hosts = hosts;
-    rival = lone_rivals basis is none 0;
-    leaves = lone_leaves basis is none 0;
+    clear = clear_states clear;
+    rivals = λ one values two others. (lone_focus basis one values, lone_focus basis two others);
+    hold = lone_rivals basis is none 0;
+    leaving = λ region values. (lone_focus basis region values, empty_state basis.schema.model);
+    leave = lone_leaves basis is none 0;
     few = few;
-    no_clash = clear;
   }
 
   -- no conflict is of the kind dangling
@@ -60,14 +59,14 @@ module _ (basis : Basis) (is : IsBasis basis) (limits : IsWithinLimits basis.sch
   -- each kind by its laws
   pub exact : (kind : FailKind) → NoneFailsBefore basis.schema kind → (s : SetId)
       → ((found : Conflict) × IsConflictAt basis s kind found) ↔ FailsThere basis s kind
-  exact variant.Clash before s =
-      (λ found. fails_there basis is limits (lone_focus basis) hosts s found.0 found.1, clash_told basis is limits s)
+  exact variant.Clash before s = (λ found. fails_there basis focuses s found.0 found.1, clash_told basis is limits s)
   exact variant.Null before s =
-      (λ found. null_there basis is limits (lone_focus basis) hosts (before variant.Clash (omega (arith))) s found.0 found.1, null_told basis is s (few s))
+      let clear = clear_states (before variant.Clash (omega (arith))) in
+      (λ found. null_there basis clear s found.0 found.1, null_told basis is s (few s))
   exact variant.Disagrees before s =
-      let clear = before variant.Clash (omega (arith)) in
-      (λ found. there basis is limits (lone_focus basis) hosts clear s found.0 found.1, told basis is limits (lone_focus basis) hosts clear s (few s))
+      let clear = clear_states (before variant.Clash (omega (arith))) in
+      (λ found. there basis clear s found.0 found.1, told basis clear s (few s))
   exact variant.Dangling before s = (λ found. absurd (never_dangling found.0 s found.1), λ fails. absurd fails.fails)
   exact variant.Same before s =
       let all = states (before variant.Clash (omega (arith))) in
-      (λ found. same_there _ _ _ _ all s found.0 found.1, same_told _ _ _ _ all (before variant.Disagrees (omega (arith))) s)
+      (λ found. same_there basis all s found.0 found.1, same_told basis all (before variant.Disagrees (omega (arith))) s)

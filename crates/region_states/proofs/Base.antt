@@ -122,7 +122,7 @@ module _ (basis : Basis) (is : IsBasis basis) (limits : IsWithinLimits basis.sch
         let state : State = base_state basis region key in
         let values : Valuation = keyed_values basis region key in
         let entity : Entity = focus_entity basis region values in
-        let held : IsHeldAt basis state s entity region values.part = 
+        let held : IsHeldAt basis state s entity region values.part =
         focus_held basis is (record { s = s; region = region; listed = has; values = values }) (keyed_allowed s region has key of_region) state base_holds in
         record {
           entity = entity;

@@ -44,7 +44,7 @@ module _ (basis : Basis) (is : IsBasis basis) (at : RegionValues basis) where
   abbrev entity : Entity
   entity = focus_entity basis at.region at.values
 
-  -- the at.region holds an entity of allowed at.values, where the links are those that its flags tell
+  -- the region holds an entity of allowed values, where the links are those that its flags tell
   flags_held : IsAllowed basis at.region at.values → Holds basis at.region entity (flag_links at.region)
   flags_held allowed = record {
     typed = refl;
@@ -65,7 +65,7 @@ module _ (basis : Basis) (is : IsBasis basis) (at : RegionValues basis) where
     partners = partners_here state holds;
   }
 
-  -- of each association that is hosted there it at.listed one link, or none
+  -- of each association that is hosted there it has one link, or none
   pub few_links : (state : State) → HoldsFocus basis at.region at.values state → HasFewLinks basis state at.s entity
   few_links state holds host hosts one two has_one has_two =
       let partners : HasPartners basis state at.s entity at.region at.values.part = partners_here state holds in

@@ -19,14 +19,13 @@ use Rattle.regions.proofs.region_laws.entities.Selected.{Decides-selected}
 use Rattle.regions.specs.region_laws.pattern.Allowed.{AllowedFocus}
 use Rattle.regions.specs.region_laws.pattern.Described.{AreDemanded, DescribedRow, IsClearRow}
 use Rattle.regions.proofs.region_laws.pattern.rows.Agreeing.{is_described, link_agrees, agree_alike}
-use Rattle.regions.proofs.region_laws.pattern.values.Allowed.{region_allowed}
 use Rattle.regions.proofs.region_laws.pattern.symbols.Origins.{linked_decided}
 use Rattle.regions.proofs.region_laws.pattern.rows.Shown.{link_shown, shown}
-use Rattle.regions.specs.region_laws.Held.{LinkedEntity, PartneredEntity, LinkRow}
+use Rattle.regions.specs.region_laws.Held.{LinkedEntity, LinkRow}
 use Rattle.regions.proofs.region_laws.entities.Held.{linked_holding}
 use Rattle.region_states.specs.focus.Agreeing.{IsRowOfEntity, RowAtJoined, RowAtFragment, RowAtHosted}
 use Rattle.region_states.proofs.focus.Hosts.{HostsLink, has_link, hosts_link}
-use Rattle.region_states.proofs.focus.Partners.{are_hosted, are_partners, holds_hosted, link_linked, linked_link, links}
+use Rattle.region_states.proofs.focus.Partners.{link_linked, linked_link, linked_allowed}
 
 module _ (basis : Basis) (is : IsBasis basis) (linked : LinkedEntity basis) where
   abbrev entity : Entity
@@ -38,33 +37,12 @@ module _ (basis : Basis) (is : IsBasis basis) (linked : LinkedEntity basis) wher
   abbrev values : Valuation
   values = by_entity basis.schema.model linked.entity linked.part
 
-  -- the region holds the entity with its hosted links, and the parts are those of its partners' keys
-  abbrev partnered : PartneredEntity basis
-  partnered = record {
-    held = record {
-      state = linked.state;
-      legal = linked.legal;
-      s = linked.s;
-      entity = linked.entity;
-      region = linked.region;
-      of_region = record {
-        stands = linked.held.stands;
-        listed = linked.held.listed;
-        links = links basis is linked.state linked.s entity region linked.part linked.held;
-        hosted = are_hosted basis is linked.state linked.s entity region linked.part linked.held;
-        holds = holds_hosted basis is linked.state linked.s entity region linked.part linked.held;
-      };
-    };
-    part = linked.part;
-    partners = are_partners basis is linked.state linked.s entity region linked.part linked.held;
-  }
-
   abbrev told : AllowedFocus basis
   told = record {
     of = focus.Entity region;
     is_focus = (linked.s, linked.held.listed);
     values = values;
-    allowed = region_allowed basis is partnered;
+    allowed = linked_allowed basis is linked;
   }
 
   -- the row of a table that the set owns is the one that the pattern describes

@@ -90,7 +90,7 @@ module _ (basis : Basis) (is : IsBasis basis) where
           ∙ ap (λ found. length (option_map_or (λ (one : EntityType). one.props) found [])) here,
     )
 
-    -- an entity of allowed at.values keeps the rules on types and at.values
+    -- an entity of allowed values keeps the rules on types and values
     pub focus_well : StandsWell basis.schema.model at.region.set entity
     focus_well =
         let listed = is_listed basis at.s at.region at.listed in

@@ -128,12 +128,16 @@ module _ (basis : Basis) (is : IsBasis basis) where
         → Allows declared (value_of (model_of basis) standing.entity p)
     allowed p declared has here =
         let is_prop : HasProp (model_of basis) standing.entity p declared = record { among = has; is_declared = here } in
-        let nulls : HasAllowedNulls (model_of basis) standing.entity = All-contains (HasAllowedNulls (model_of basis)) (entities_in standing.state standing.s) standing.entity legal_set.nulls standing.stands in
-        let domains : HasValuesInDomain (model_of basis) standing.entity = All-contains (HasValuesInDomain (model_of basis)) (entities_in standing.state standing.s) standing.entity legal_set.domains standing.stands in
+        let entities : List Entity = entities_in standing.state standing.s in
+        let nulls : HasAllowedNulls (model_of basis) standing.entity =
+        All-contains (HasAllowedNulls (model_of basis)) entities standing.entity legal_set.nulls standing.stands in
+        let domains : HasValuesInDomain (model_of basis) standing.entity =
+        All-contains (HasValuesInDomain (model_of basis)) entities standing.entity legal_set.domains standing.stands in
         ⊎_elim (λ null. inl (null, nulls p declared is_prop null)) (λ within. inr within) (domains p declared is_prop)
 
     atoms_hold : (p : PropId) → Contains (tested_props basis standing.entity.ty) p
-        → Contains (atoms_at basis p) (atom_in basis standing.entity p) × LiesIn (basis.constants (prop p)) (atom_in basis standing.entity p).atom (value_of (model_of basis) standing.entity p)
+        → Contains (atoms_at basis p) (atom_in basis standing.entity p)
+        × LiesIn (basis.constants (prop p)) (atom_in basis standing.entity p).atom (value_of (model_of basis) standing.entity p)
     atoms_hold p has =
         let among = (filter_contains (λ (q : PropId). basis.tested (prop q)) (props_of (model_of basis) standing.entity.ty) p has).0 in
         let declared = prop_there basis is standing.entity.ty p among in
@@ -166,13 +170,17 @@ module _ (basis : Basis) (is : IsBasis basis) where
               let linked : Bool = has_link links host.assoc in
               contains_map (flagged host.assoc) (flag_values may mult) (flag_by may mult linked) (bit_there may mult linked
               (λ barred few. false_from_ne_true linked (λ told.
-              let found = link_of basis is standing.s host hosts assoc here standing.state standing.legal set is_set standing.entity standing.stands links hosted ((Decides-link links host.assoc).0 told) in
-              true≢false (sym (decides.1 (covered basis is standing.s host hosts assoc here standing.state standing.legal set is_set standing.entity standing.stands found.0 found.1 found.2)) ∙ barred)))
+              let found = link_of basis is standing.s host hosts assoc here standing.state standing.legal set is_set standing.entity standing.stands links hosted
+              ((Decides-link links host.assoc).0 told) in
+              let under = covered basis is standing.s host hosts assoc here standing.state standing.legal set is_set standing.entity standing.stands
+              found.0 found.1 found.2 in
+              true≢false (sym (decides.1 under) ∙ barred)))
               (λ allows one.
               let found = there basis is standing.s host hosts assoc here standing.state standing.legal set is_set standing.entity standing.stands (decides.0 allows) one in
-              (Decides-link links host.assoc).1 (link_among basis is standing.s host hosts assoc here standing.state standing.legal set is_set standing.entity standing.stands links hosted found.0 found.1 found.2)))
+              (Decides-link links host.assoc).1 (link_among basis is standing.s host hosts assoc here standing.state standing.legal set is_set standing.entity standing.stands
+              links hosted found.0 found.1 found.2)))
 
-      -- the region of an standing.entity is listed
+      -- the region of an entity is listed
       pub region_among : Contains (regions_of basis standing.s) (region_at basis standing.s standing.entity links)
       region_among =
           let atoms : List AtomOf = map (atom_in basis standing.entity) (tested_props basis standing.entity.ty) in
