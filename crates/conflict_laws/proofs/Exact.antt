@@ -10,7 +10,6 @@ use Rattle.region_states.specs.declared.conflicts.conflict.Conflict.{Conflict}
 use Rattle.region_states.specs.declared.conflicts.conflict.Conflict.TheVariants as conflict
 use Rattle.region_states.specs.conflicts.Conflicts.{IsConflictAt}
 use Rattle.region_states.specs.conflicts.There.{FailsThere, NoneFailsBefore, NoneFailsBy}
-use Rattle.region_states.specs.Hosting.{HostsFocuses}
 use Rattle.host_states.specs.FocusStates.{focus_state, leaving_states, rival_states}
 use Rattle.host_states.specs.SmallStates.{small_focus, small_leaving, small_rivals}
 use Rattle.host_states.proofs.FewPartners.{few_by_clear}
@@ -22,37 +21,41 @@ use Rattle.conflict_laws.proofs.null.Failing.{null_there}
 use Rattle.conflict_laws.proofs.null.Telling.{null_told}
 use Rattle.conflict_laws.proofs.disagreement.Failing.{there}
 use Rattle.conflict_laws.proofs.disagreement.Told.{told}
-use Rattle.conflict_laws.specs.same.States.{HasStates}
+use Rattle.conflict_laws.specs.States.{ClearStates, FocusStates, RivalStates}
 use Rattle.conflict_laws.proofs.same.There.{same_there}
 use Rattle.conflict_laws.proofs.same.ToldThere.{same_told}
 
 module _ (basis : Basis) (is : IsBasis basis) (limits : IsWithinLimits basis.schema) where
   -- each region has a state with an entity of it
-  hosts : HostsFocuses basis 0 (focus_state basis 0)
-  hosts = states_host basis is limits 0 (omega (arith))
+  focuses : FocusStates basis
+  focuses = record { is_basis = is; limits = limits; state = focus_state basis 0; hosts = states_host basis is limits 0 (omega (arith)) }
 
-  -- no legal state clashes, so there are the states that the laws on same tables ask for
-  pub states : NoneFailsBy basis.schema variant.Clash → HasStates basis (focus_state basis 0) (rival_states basis 0) (leaving_states basis 0)
+  -- where no legal state clashes, they are the states that the laws ask for
+  clear_states : NoneFailsBy basis.schema variant.Clash → ClearStates basis
+  clear_states clear = record { given = focuses; no_clash = clear }
+
+  states : NoneFailsBy basis.schema variant.Clash → RivalStates basis
   states clear = record {
-    is_basis = is;
-    limits = limits;
-    hosts = hosts;
-    rival = states_rival basis is limits 0 (omega (arith));
-    leaves = states_leave basis is limits 0 (omega (arith));
+    clear = clear_states clear;
+    rivals = rival_states basis 0;
+    hold = states_rival basis is limits 0 (omega (arith));
+    leaving = leaving_states basis 0;
+    leave = states_leave basis is limits 0 (omega (arith));
     few = few_by_clear basis is limits clear;
-    no_clash = clear;
   }
 
-  -- their small parts are such states too
-  pub small : NoneFailsBy basis.schema variant.Clash → HasStates basis (small_focus basis 0) (small_rivals basis 0) (small_leaving basis 0)
-  small clear = record {
-    is_basis = is;
-    limits = limits;
-    hosts = small_host basis is limits 0 (omega (arith));
-    rival = small_rival basis is limits 0 (omega (arith));
-    leaves = small_leave basis is limits 0 (omega (arith));
+  -- and so are their small parts
+  abbrev pub small_states : NoneFailsBy basis.schema variant.Clash → RivalStates basis
+  small_states clear = record {
+    clear = record {
+      given = record { is_basis = is; limits = limits; state = small_focus basis 0; hosts = small_host basis is limits 0 (omega (arith)) };
+      no_clash = clear;
+    };
+    rivals = small_rivals basis 0;
+    hold = small_rival basis is limits 0 (omega (arith));
+    leaving = small_leaving basis 0;
+    leave = small_leave basis is limits 0 (omega (arith));
     few = few_by_clear basis is limits clear;
-    no_clash = clear;
   }
 
   -- no conflict is of the kind dangling
@@ -67,15 +70,14 @@ module _ (basis : Basis) (is : IsBasis basis) (limits : IsWithinLimits basis.sch
   -- each kind by its laws
   pub exact : (kind : FailKind) → NoneFailsBefore basis.schema kind → (s : SetId)
       → ((found : Conflict) × IsConflictAt basis s kind found) ↔ FailsThere basis s kind
-  exact variant.Clash before s =
-      (λ found. fails_there basis is limits (focus_state basis 0) hosts s found.0 found.1, clash_told basis is limits s)
+  exact variant.Clash before s = (λ found. fails_there basis focuses s found.0 found.1, clash_told basis is limits s)
   exact variant.Null before s =
-      (λ found. null_there basis is limits (focus_state basis 0) hosts (before variant.Clash (omega (arith))) s found.0 found.1,
-      null_told basis is s (few_by_clear basis is limits (before variant.Clash (omega (arith))) s))
+      let clear = clear_states (before variant.Clash (omega (arith))) in
+      (λ found. null_there basis clear s found.0 found.1, null_told basis is s (few_by_clear basis is limits (before variant.Clash (omega (arith))) s))
   exact variant.Disagrees before s =
-      let clear = before variant.Clash (omega (arith)) in
-      (λ found. there basis is limits (focus_state basis 0) hosts clear s found.0 found.1, told basis is limits (focus_state basis 0) hosts clear s (few_by_clear basis is limits clear s))
+      let clear = clear_states (before variant.Clash (omega (arith))) in
+      (λ found. there basis clear s found.0 found.1, told basis clear s (few_by_clear basis is limits clear.no_clash s))
   exact variant.Dangling before s = (λ found. absurd (never_dangling found.0 s found.1), λ fails. absurd fails.fails)
   exact variant.Same before s =
       let all = states (before variant.Clash (omega (arith))) in
-      (λ found. same_there _ _ _ _ all s found.0 found.1, same_told _ _ _ _ all (before variant.Disagrees (omega (arith))) s)
+      (λ found. same_there basis all s found.0 found.1, same_told basis all (before variant.Disagrees (omega (arith))) s)

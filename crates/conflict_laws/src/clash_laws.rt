@@ -23,26 +23,25 @@ ghost use Rattle.region_states.specs.declared.conflicts.conflict.Conflict.{Confl
 ghost use Rattle.region_states.specs.Entities.{focus_entity};
 ghost use Rattle.region_states.specs.Hosting.{HostsFocuses};
 ghost use Rattle.conflict_laws.specs.clash.ClashValues.{clash_values};
+ghost use Rattle.conflict_laws.specs.States.{FocusStates, ClearStates};
+ghost use Rattle.conflict_laws.specs.Told.{ClashingCell, OwnedColumn};
+ghost use Rattle.conflict_laws.specs.rival.Alike.{IsClear};
 
 /// Two symbols of a cell that can differ do so by some admissible values.
 pub fn symbols_that_clash_differ()
-    ensures values { (basis : Basis) → IsBasis basis → IsWithinLimits basis.schema → (s : SetId) (region : Region) → Contains (regions_of basis s) region
-        → (t : TableId) (c : ColId) (one two : Symbol) → IsTrue (is_clash basis (focus.Entity region) t c one two)
-        → IsAdmissible basis 0 region (clash_values basis region one two)
-        × (value_under (clash_values basis region one two) one ≢ value_under (clash_values basis region one two) two) }
+    ensures values { (basis : Basis) → IsBasis basis → IsWithinLimits basis.schema → (at : ClashingCell basis)
+        → IsAdmissible basis 0 at.region (clash_values basis at.region at.one at.two)
+        × (value_under (clash_values basis at.region at.one at.two) at.one ≢ value_under (clash_values basis at.region at.one at.two) at.two) }
 {}
 
 /// Where a pattern lists two symbols in a cell that can differ, the state with an entity of the region fails by a clash, at the cell of the entity's row.
 pub fn a_clash_fails()
-    ensures fails { (basis : Basis) → IsBasis basis → IsWithinLimits basis.schema → (state : Region → Valuation → State) → HostsFocuses basis 0 state
-        → (s : SetId) (region : Region) → Contains (regions_of basis s) region
-        → (t : TableId) (c : ColId) (one two : Symbol) → IsTrue (is_clash basis (focus.Entity region) t c one two)
-        → (table : Table) (column : Column) → HasColumn basis.schema t table c column → (pairing : List Pair) → IsOwned basis.schema t s pairing → (d : State)
-        → FailsAt basis.schema kind.Clash
-        (place_at table.name (paired_key basis.schema.model pairing (focus_entity basis region (clash_values basis region one two))) column.name)
-        (state region (clash_values basis region one two)) d }
-    ensures there { (basis : Basis) → IsBasis basis → IsWithinLimits basis.schema → (state : Region → Valuation → State) → HostsFocuses basis 0 state
-        → (s : SetId) (conflict : Conflict) → IsConflictAt basis s kind.Clash conflict → FailsThere basis s kind.Clash }
+    ensures fails { (basis : Basis) (given : FocusStates basis) (at : ClashingCell basis) (place : OwnedColumn basis.schema at.s at.t at.col) (d : State)
+        → FailsAt basis.schema kind.Clash (place_at place.table.name
+        (paired_key basis.schema.model place.pairing (focus_entity basis at.region (clash_values basis at.region at.one at.two))) place.column.name)
+        (given.state at.region (clash_values basis at.region at.one at.two)) d }
+    ensures there { (basis : Basis) → FocusStates basis → (s : SetId) (conflict : Conflict) → IsConflictAt basis s kind.Clash conflict
+        → FailsThere basis s kind.Clash }
 {}
 
 /// Where a legal state gives a cell two values, in the row of an entity that hosts few links, some pattern of its set lists two symbols in a cell that
@@ -54,7 +53,5 @@ pub fn a_clash_is_told()
 
 /// Where no legal state clashes, no pattern does.
 pub fn patterns_are_clear()
-    ensures clear { (basis : Basis) → IsBasis basis → IsWithinLimits basis.schema → (state : Region → Valuation → State) → HostsFocuses basis 0 state
-        → NoneFailsBy basis.schema kind.Clash → (s : SetId) (region : Region) → Contains (regions_of basis s) region
-        → (row : PatternRow) → Contains (pattern_of basis (focus.Entity region)).rows row → HasNoClashes basis.schema.model region.atoms row }
+    ensures clear { (basis : Basis) → ClearStates basis → (s : SetId) (region : Region) → Contains (regions_of basis s) region → IsClear basis region }
 {}

@@ -19,22 +19,21 @@ ghost use Rattle.region_states.specs.conflicts.There.{FailsThere, NoneFailsBy};
 ghost use Rattle.region_states.specs.declared.conflicts.conflict.Conflict.{Conflict};
 ghost use Rattle.region_states.specs.Entities.{focus_entity};
 ghost use Rattle.region_states.specs.Hosting.{HostsFocuses};
+ghost use Rattle.conflict_laws.specs.States.{ClearStates};
+ghost use Rattle.conflict_laws.specs.Told.{DifferingFragment};
 
 /// Where a fragment and a region disagree, so do the fragment and the state with the usual entity of the region, at the entity's key. The same of the
 /// fragment of links that are hosted at the set.
 pub fn a_disagreement_fails()
-    ensures fails { (basis : Basis) → IsBasis basis → IsWithinLimits basis.schema → (state : Region → Valuation → State) → HostsFocuses basis 0 state
-        → NoneFailsBy basis.schema kind.Clash → (s : SetId) (region : Region) → Contains (regions_of basis s) region
-        → (fragment : Fragment) → Contains basis.schema.mapping.fragments fragment → IsTrue (differs_at basis region fragment) → (d : State)
-        → FailsAt basis.schema kind.Disagrees (place_at fragment.place (key_of basis.schema.model (focus_entity basis region (default_valuation basis 0 region))) [])
-        (state region (default_valuation basis 0 region)) d }
-    ensures there { (basis : Basis) → IsBasis basis → IsWithinLimits basis.schema → (state : Region → Valuation → State) → HostsFocuses basis 0 state
-        → NoneFailsBy basis.schema kind.Clash → (s : SetId) (conflict : Conflict) → IsConflictAt basis s kind.Disagrees conflict → FailsThere basis s kind.Disagrees }
+    ensures fails { (basis : Basis) (clear : ClearStates basis) (at : DifferingFragment basis) (d : State) → FailsAt basis.schema kind.Disagrees
+        (place_at at.fragment.place (key_of basis.schema.model (focus_entity basis at.region (default_valuation basis 0 at.region))) [])
+        (clear.given.state at.region (default_valuation basis 0 at.region)) d }
+    ensures there { (basis : Basis) → ClearStates basis → (s : SetId) (conflict : Conflict) → IsConflictAt basis s kind.Disagrees conflict
+        → FailsThere basis s kind.Disagrees }
 {}
 
 /// Where a legal state and a fragment of a set, or of links that are hosted at it, disagree, so do the fragment and a region of the set.
 pub fn a_disagreement_is_told()
-    ensures told { (basis : Basis) → IsBasis basis → IsWithinLimits basis.schema → (state : Region → Valuation → State) → HostsFocuses basis 0 state
-        → NoneFailsBy basis.schema kind.Clash → (s : SetId) → HasFewPartners basis s → FailsThere basis s kind.Disagrees
+    ensures told { (basis : Basis) → ClearStates basis → (s : SetId) → HasFewPartners basis s → FailsThere basis s kind.Disagrees
         → (conflict : Conflict) × IsConflictAt basis s kind.Disagrees conflict }
 {}

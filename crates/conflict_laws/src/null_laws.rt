@@ -22,18 +22,17 @@ ghost use Rattle.region_states.specs.conflicts.There.{FailsThere, NoneFailsBy};
 ghost use Rattle.region_states.specs.declared.conflicts.conflict.Conflict.{Conflict};
 ghost use Rattle.region_states.specs.Entities.{focus_entity};
 ghost use Rattle.region_states.specs.Hosting.{HostsFocuses};
+ghost use Rattle.conflict_laws.specs.States.{ClearStates};
+ghost use Rattle.conflict_laws.specs.Told.{NullCell, OwnedColumn};
 
 /// Where a symbol that can be null, or none, is listed in a column that isn't nullable, the state with the usual entity of the region fails by a null, at
 /// the cell of the entity's row.
 pub fn a_null_fails()
-    ensures fails { (basis : Basis) → IsBasis basis → IsWithinLimits basis.schema → (state : Region → Valuation → State) → HostsFocuses basis 0 state
-        → NoneFailsBy basis.schema kind.Clash → (s : SetId) (region : Region) → Contains (regions_of basis s) region
-        → (t : TableId) (c : ColId) (one : Symbol) → IsTrue (is_null_in basis (focus.Entity region) t c one)
-        → (table : Table) (column : Column) → HasColumn basis.schema t table c column → (pairing : List Pair) → IsOwned basis.schema t s pairing → (d : State)
-        → FailsAt basis.schema kind.Null (place_at table.name (paired_key basis.schema.model pairing (focus_entity basis region (default_valuation basis 0 region))) column.name)
-        (state region (default_valuation basis 0 region)) d }
-    ensures there { (basis : Basis) → IsBasis basis → IsWithinLimits basis.schema → (state : Region → Valuation → State) → HostsFocuses basis 0 state
-        → NoneFailsBy basis.schema kind.Clash → (s : SetId) (conflict : Conflict) → IsConflictAt basis s kind.Null conflict → FailsThere basis s kind.Null }
+    ensures fails { (basis : Basis) (clear : ClearStates basis) (at : NullCell basis) (place : OwnedColumn basis.schema at.s at.t at.col) (d : State)
+        → FailsAt basis.schema kind.Null (place_at place.table.name
+        (paired_key basis.schema.model place.pairing (focus_entity basis at.region (default_valuation basis 0 at.region))) place.column.name)
+        (clear.given.state at.region (default_valuation basis 0 at.region)) d }
+    ensures there { (basis : Basis) → ClearStates basis → (s : SetId) (conflict : Conflict) → IsConflictAt basis s kind.Null conflict → FailsThere basis s kind.Null }
 {}
 
 /// Where a legal state leaves null in the row of an entity, some pattern of its set lists a symbol there that can be null, or none.

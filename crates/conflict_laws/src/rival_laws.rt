@@ -10,19 +10,18 @@ ghost use Rattle.regions.specs.region_laws.IsBasis.{IsBasis};
 ghost use Rattle.regions.specs.region_laws.pattern.Allowed.{IsAllowed};
 ghost use Rattle.region_states.specs.defaults.Admissible.{IsAdmissible};
 ghost use Rattle.region_states.specs.conflicts.SameFacts.{same_region};
-ghost use Rattle.conflict_laws.specs.rival.Alike.{AreComparable, AreWrittenAlike, HaveOneKey, PatternsMatch};
+ghost use Rattle.conflict_laws.specs.rival.Alike.{AreComparable, AreWrittenAlike, HaveOneKey, PatternsMatch, AreTwins};
 ghost use Rattle.conflict_laws.specs.rival.RivalValues.{first_values, second_values};
 
 /// Where values that two regions allow, with one key and the same partners, write entities of both alike, the cells of their patterns match one by one.
 pub fn alike_patterns_match()
-    ensures cells { (basis : Basis) → IsBasis basis → (s : SetId) (one two : Region) → AreComparable basis s one two → (values others : Valuation)
-        → IsAllowed basis one values → IsAllowed basis two others → HaveOneKey basis one values others → AreWrittenAlike basis one two values others
+    ensures cells { (basis : Basis) → IsBasis basis → (s : SetId) (one two : Region) (values others : Valuation) → AreTwins basis s one two values others
         → PatternsMatch basis one two }
 {}
 
 /// Where the cells match one by one, these admissible values write entities of both regions alike. Of each group of properties one value serves.
 pub fn matching_patterns_are_alike()
-    ensures admissible { (basis : Basis) → IsBasis basis → IsWithinLimits basis.schema → (s : SetId) (one two : Region) → AreComparable basis s one two
+    ensures admissible { (basis : Basis) → IsBasis basis → (s : SetId) (one two : Region) → AreComparable basis s one two → IsWithinLimits basis.schema
         → PatternsMatch basis one two → IsAdmissible basis 0 one (first_values basis one two) × IsAdmissible basis 0 two (second_values basis one two) }
     ensures key { (basis : Basis) → IsBasis basis → (s : SetId) (one two : Region) → AreComparable basis s one two
         → HaveOneKey basis one (first_values basis one two) (second_values basis one two) }

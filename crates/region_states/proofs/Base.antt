@@ -25,8 +25,8 @@ use Rattle.regions.specs.Regions.{regions_of}
 use Rattle.regions.specs.region_laws.IsBasis.{IsBasis}
 use Rattle.schema_laws.proofs.state_demand.lists.Ids.{Decides-prop}
 use Rattle.regions.specs.region_laws.pattern.Allowed.{IsAllowed}
+use Rattle.regions.specs.region_laws.Held.{IsHeldAt}
 use Rattle.schema_laws.proofs.sound_types.Inherited.{key_among}
-use Rattle.region_states.specs.focus.Held.{IsHeldAt}
 use Rattle.region_states.proofs.focus.Partners.{are_hosted, holds_hosted, links}
 use Rattle.region_states.specs.defaults.Admissible.{IsAdmissible}
 use Rattle.region_states.specs.defaults.Defaults.{default_valuation}
@@ -111,7 +111,7 @@ module _ (basis : Basis) (is : IsBasis basis) (limits : IsWithinLimits basis.sch
   module _ (none : HasNoAssociationSets basis.schema.model) (s : SetId) (region : Region) (has : Contains (regions_of basis s) region) (key : List Value)
       (of_region : IsKeyOf basis region key) where
     base_holds : HoldsFocus basis region (keyed_values basis region key) (base_state basis region key)
-    base_holds = lone_holds basis is none s region has (keyed_values basis region key) (keyed_allowed s region has key of_region)
+    base_holds = lone_holds basis is none (record { s = s; region = region; listed = has; values = keyed_values basis region key }) (keyed_allowed s region has key of_region)
 
     pub base_legal : IsLegal basis.schema.model (base_state basis region key)
     base_legal = base_holds.legal
@@ -122,7 +122,8 @@ module _ (basis : Basis) (is : IsBasis basis) (limits : IsWithinLimits basis.sch
         let state : State = base_state basis region key in
         let values : Valuation = keyed_values basis region key in
         let entity : Entity = focus_entity basis region values in
-        let held : IsHeldAt basis state s entity region values.part = focus_held basis is s region has values (keyed_allowed s region has key of_region) state base_holds in
+        let held : IsHeldAt basis state s entity region values.part =
+        focus_held basis is (record { s = s; region = region; listed = has; values = values }) (keyed_allowed s region has key of_region) state base_holds in
         record {
           entity = entity;
           of_region = record {

@@ -3,21 +3,20 @@ use Rattle.std.proofs.Common.{◌≡◌, ⊎_elim, List, [], map, Any, Contains,
 use Rattle.emc_base.proofs.Lists.{all_from_members, only_member}
 use Rattle.emc_base.proofs.Mapped.{contains_map}
 use Rattle.emc_base.proofs.Numbered.{map_contains}
-use Rattle.round_trip.specs.Words.{SetId, AssocId, Entity, Hosted, Link, State, entities_in, key_of}
+use Rattle.round_trip.specs.Words.{AssocId, Entity, Hosted, Link, State, entities_in, key_of}
 use Rattle.schema_laws.proofs.state_demand.writings.Decisions.{so_or_not}
 use Rattle.schema_laws.proofs.state_demand.lists.Lists.{any_of, none_in_nil, of_any}
 use Rattle.regions.specs.declared.region.Region.{Region}
 use Rattle.regions.specs.Basis.{Basis}
-use Rattle.regions.specs.Patterns.{Valuation}
-use Rattle.regions.specs.Regions.{Holds, TellsLinks, regions_of}
+use Rattle.regions.specs.Regions.{Holds, TellsLinks}
 use Rattle.regions.specs.Symbols.{is_linked}
 use Rattle.regions.specs.region_laws.IsBasis.{IsBasis}
 use Rattle.regions.specs.region_laws.Partners.{HasPartners}
 use Rattle.regions.specs.region_laws.RegionAt.{links_at}
 use Rattle.regions.proofs.region_laws.listing.Listed.{set_is}
-use Rattle.regions.specs.region_laws.pattern.Allowed.{IsAllowed}
+use Rattle.regions.specs.region_laws.pattern.Allowed.{IsAllowed, RegionValues}
+use Rattle.regions.specs.region_laws.Held.{IsHeldAt}
 use Rattle.regions.proofs.region_laws.pattern.symbols.Origins.{linked_decided}
-use Rattle.region_states.specs.focus.Held.{IsHeldAt}
 use Rattle.region_states.specs.conflicts.There.{HasFewLinks}
 use Rattle.region_states.specs.Entities.{focus_entity}
 use Rattle.region_states.specs.Hosting.{HoldsFocus}
@@ -41,40 +40,40 @@ flag_linked : (region : Region) (a : AssocId) → Contains region.linked a → A
 flag_linked region a linked =
     any_of (λ (hosted : Hosted). hosted.assoc ≡ a) (flag_links region) (flag_link a) (contains_map flag_link region.linked a linked) refl
 
-module _ (basis : Basis) (is : IsBasis basis) (s : SetId) (region : Region) (has : Contains (regions_of basis s) region) (values : Valuation) where
+module _ (basis : Basis) (is : IsBasis basis) (at : RegionValues basis) where
   abbrev entity : Entity
-  entity = focus_entity basis region values
+  entity = focus_entity basis at.region at.values
 
   -- the region holds an entity of allowed values, where the links are those that its flags tell
-  flags_held : IsAllowed basis region values → Holds basis region entity (flag_links region)
+  flags_held : IsAllowed basis at.region at.values → Holds basis at.region entity (flag_links at.region)
   flags_held allowed = record {
     typed = refl;
-    atoms = atoms_lie basis is s region has values allowed;
-    flags = all_from_members (TellsLinks basis region (flag_links region)) (basis.hosts region.set)
-        (λ host hosts assoc here few. (flag_linked region host.assoc, flag_told region host.assoc));
+    atoms = atoms_lie basis is at allowed;
+    flags = all_from_members (TellsLinks basis at.region (flag_links at.region)) (basis.hosts at.region.set)
+        (λ host hosts assoc here few. (flag_linked at.region host.assoc, flag_told at.region host.assoc));
   }
 
-  partners_here : (state : State) → HoldsFocus basis region values state → HasPartners basis state s entity region values.part
-  partners_here state holds = subst (λ u. HasPartners basis state u entity region values.part) (set_is basis s region has) holds.partners
+  partners_here : (state : State) → HoldsFocus basis at.region at.values state → HasPartners basis state at.s entity at.region at.values.part
+  partners_here state holds = subst (λ u. HasPartners basis state u entity at.region at.values.part) (set_is basis at.s at.region at.listed) holds.partners
 
-  pub focus_held : IsAllowed basis region values → (state : State) → HoldsFocus basis region values state → IsHeldAt basis state s entity region values.part
+  pub focus_held : IsAllowed basis at.region at.values → (state : State) → HoldsFocus basis at.region at.values state → IsHeldAt basis state at.s entity at.region at.values.part
   focus_held allowed state holds = record {
-    stands = subst (λ u. Contains (entities_in state u) entity) (set_is basis s region has) holds.stands;
-    listed = has;
-    links = flag_links region;
+    stands = subst (λ u. Contains (entities_in state u) entity) (set_is basis at.s at.region at.listed) holds.stands;
+    listed = at.listed;
+    links = flag_links at.region;
     holds = flags_held allowed;
     partners = partners_here state holds;
   }
 
   -- of each association that is hosted there it has one link, or none
-  pub few_links : (state : State) → HoldsFocus basis region values state → HasFewLinks basis state s entity
+  pub few_links : (state : State) → HoldsFocus basis at.region at.values state → HasFewLinks basis state at.s entity
   few_links state holds host hosts one two has_one has_two =
-      let partners : HasPartners basis state s entity region values.part = partners_here state holds in
+      let partners : HasPartners basis state at.s entity at.region at.values.part = partners_here state holds in
       let links : List Link = links_at state host (key_of basis.schema.model entity) in
       ⊎_elim
-      (λ (linked : Contains region.linked host.assoc).
+      (λ (linked : Contains at.region.linked host.assoc).
       let link = partners.one host hosts linked in
       only_member links link.0 one link.1 has_one ∙ sym (only_member links link.0 two link.1 has_two))
-      (λ (not_linked : ¬ Contains region.linked host.assoc).
+      (λ (not_linked : ¬ Contains at.region.linked host.assoc).
       absurd (none_in_nil one (subst (λ list. Contains list one) (partners.none host hosts not_linked) has_one)))
-      (so_or_not (is_linked basis region.linked host.assoc) (linked_decided basis region.linked host.assoc))
+      (so_or_not (is_linked basis at.region.linked host.assoc) (linked_decided basis at.region.linked host.assoc))

@@ -6,9 +6,9 @@ use Rattle.round_trip.specs.Words.{SetId, AssocId, PropId, Value, Null, EntityMo
 use Rattle.regions.specs.declared.region.Region.{Region}
 use Rattle.regions.specs.Basis.{Basis}
 use Rattle.regions.specs.Patterns.{Valuation}
+use Rattle.regions.specs.region_laws.Held.{IsOfRegion}
 use Rattle.region_states.specs.defaults.Defaults.{default_valuation}
 use Rattle.schema_laws.specs.short_values.Places.{is_among}
-use Rattle.region_states.specs.focus.Held.{IsOfRegion}
 use Rattle.region_states.specs.LoneStates.{lone_focus}
 
 -- the value is in the domain of the property

@@ -12,6 +12,7 @@ use Rattle.regions.specs.Regions.{regions_of}
 use Rattle.regions.specs.Settled.{possible, single}
 use Rattle.regions.specs.region_laws.Partners.{HasFewPartners, HasPartners}
 use Rattle.regions.specs.region_laws.RegionAt.{links_at}
+use Rattle.regions.specs.region_laws.pattern.Allowed.{RegionValues}
 use Rattle.region_states.specs.defaults.Admissible.{IsAdmissible}
 use Rattle.region_states.specs.Entities.{focus_entity}
 
@@ -57,17 +58,29 @@ pub record HasOneEntityPerKey (basis : Basis) (region : Region) : Type 0 where
 module _ (basis : Basis) (outer : ℕ) where
   -- for each region and admissible values, this state holds an entity that has them
   pub record HostsFocuses (state : Region → Valuation → State) : Type 0 where
-    pub holds : (s : SetId) (region : Region) → Contains (regions_of basis s) region → (values : Valuation) → IsAdmissible basis outer region values
-        → HoldsFocus basis region values (state region values)
+    pub holds : (at : RegionValues basis) → IsAdmissible basis outer at.region at.values → HoldsFocus basis at.region at.values (state at.region at.values)
 
-  -- for two regions of a set with the same flags, equal or not, and admissible values with the same key and the same partners, these states hold rivals
+  -- two regions of a set with the same flags, equal or not, and admissible values of both with the same key and the same partners
+  pub record RivalPair : Type 0 where
+    pub s : SetId
+    pub one : Region
+    pub two : Region
+    pub is_one : Contains (regions_of basis s) one
+    pub is_two : Contains (regions_of basis s) two
+    pub linked : one.linked ≡ two.linked
+    pub values : Valuation
+    pub others : Valuation
+    pub admissible : IsAdmissible basis outer one values
+    pub others_admissible : IsAdmissible basis outer two others
+    pub partners : values.part ≡ others.part
+    pub keys : key_of basis.schema.model (focus_entity basis one values) ≡ key_of basis.schema.model (focus_entity basis two others)
+
+  -- for each such pair, these states hold rivals
   pub record HostsRivals (states : Region → Valuation → Region → Valuation → State × State) : Type 0 where
-    pub hold : HaveFewPartners basis → (s : SetId) (one two : Region) → Contains (regions_of basis s) one → Contains (regions_of basis s) two
-        → one.linked ≡ two.linked → (values others : Valuation) → IsAdmissible basis outer one values → IsAdmissible basis outer two others → values.part ≡ others.part
-        → key_of basis.schema.model (focus_entity basis one values) ≡ key_of basis.schema.model (focus_entity basis two others)
-        → HoldRivals basis one two values others (states one values two others).0 (states one values two others).1
+    pub hold : HaveFewPartners basis → (pair : RivalPair) → HoldRivals basis pair.one pair.two pair.values pair.others
+        (states pair.one pair.values pair.two pair.others).0 (states pair.one pair.values pair.two pair.others).1
 
   -- for a region that has one entity for each key alone, these states hold it or leave it out
   pub record LeavesOut (states : Region → Valuation → State × State) : Type 0 where
-    pub leave : HaveFewPartners basis → (s : SetId) (region : Region) → Contains (regions_of basis s) region → HasOneEntityPerKey basis region
-        → (values : Valuation) → IsAdmissible basis outer region values → LeavesFocusOut basis region values (states region values).0 (states region values).1
+    pub leave : HaveFewPartners basis → (at : RegionValues basis) → HasOneEntityPerKey basis at.region → IsAdmissible basis outer at.region at.values
+        → LeavesFocusOut basis at.region at.values (states at.region at.values).0 (states at.region at.values).1

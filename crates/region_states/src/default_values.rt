@@ -14,8 +14,9 @@ ghost use Rattle.regions.specs.Patterns.{Valuation};
 ghost use Rattle.regions.specs.Regions.{regions_of};
 ghost use Rattle.regions.specs.declared.region.Region.{Region};
 ghost use Rattle.regions.specs.region_laws.IsBasis.{IsBasis};
-ghost use Rattle.region_states.specs.defaults.Admissible.{AreChoices, AreTwoChoices, DifferAt, HasNumberedKey, HasSeveral, IsAdmissible, IsChoice};
-ghost use Rattle.region_states.specs.defaults.Candidates.{AreTwoFree, first_free, next_free};
+ghost use Rattle.regions.specs.region_laws.pattern.Allowed.{RegionValues};
+ghost use Rattle.region_states.specs.defaults.Admissible.{AreChoices, AreTwoChoices, DifferAt, HasNumberedKey, IsAdmissible, IsChoice, SeveralOf};
+ghost use Rattle.region_states.specs.defaults.Candidates.{AreGrouped, AreTwoFree, first_free, next_free};
 ghost use Rattle.schema_laws.specs.short_values.Numbers.{number};
 ghost use Rattle.region_states.specs.defaults.Defaults.{alone, changed, default_valuation, one_value, other_value};
 ghost use Rattle.schema_laws.specs.short_values.Fresh.{IsUse, Use, focus_key, fresh, index_of, most_indices};
@@ -43,11 +44,9 @@ pub fn untested_properties_have_two_values()
 
 /// Properties of one group that are of no enumeration have the same free values, whatever their bounds.
 pub fn groups_share_free_values()
-    ensures first { (basis : Basis) → IsBasis basis → (p q : PropId) (declared other : Prop) → At basis.schema.model.props p.index declared
-        → At basis.schema.model.props q.index other → AreInOneGroup basis.schema (prop p) (prop q) → ¬ IsEnum declared.kind → ¬ IsEnum other.kind
+    ensures first { (basis : Basis) → IsBasis basis → (p q : PropId) (declared other : Prop) → AreGrouped basis p q declared other
         → first_free declared.kind (basis.constants (prop p)) ≡ first_free other.kind (basis.constants (prop q)) }
-    ensures next { (basis : Basis) → IsBasis basis → (p q : PropId) (declared other : Prop) → At basis.schema.model.props p.index declared
-        → At basis.schema.model.props q.index other → AreInOneGroup basis.schema (prop p) (prop q) → ¬ IsEnum declared.kind → ¬ IsEnum other.kind
+    ensures next { (basis : Basis) → IsBasis basis → (p q : PropId) (declared other : Prop) → AreGrouped basis p q declared other
         → next_free declared.kind (basis.constants (prop p)) ≡ next_free other.kind (basis.constants (prop q)) }
 {}
 
@@ -69,29 +68,25 @@ pub fn each_region_has_values()
 /// What a property that may have several values may be, whatever the other values are: null if it is nullable, each value that is no constant, and
 /// where it or a property joined to it is dependent each short value.
 pub fn choices_are_told()
-    ensures null { (basis : Basis) → IsBasis basis → (s : SetId) (region : Region) → Contains (regions_of basis s) region → (p : PropId) (declared : Prop) (nullable : Bool)
-        → HasSeveral basis region p declared nullable → IsTrue nullable → IsChoice basis region p Null }
-    ensures free { (basis : Basis) → IsBasis basis → (s : SetId) (region : Region) → Contains (regions_of basis s) region → (p : PropId) (declared : Prop) (nullable : Bool)
-        → HasSeveral basis region p declared nullable → (value : Value) → InDomain value declared.kind → ¬ Contains (basis.constants (prop p)) value
-        → (IsDependent basis.schema.model p → IsShort value) → IsChoice basis region p value }
-    ensures short { (basis : Basis) → IsBasis basis → (s : SetId) (region : Region) → Contains (regions_of basis s) region → (p : PropId) (declared : Prop) (nullable : Bool)
-        → HasSeveral basis region p declared nullable → (q : PropId) → IsDependent basis.schema.model q → AreInOneGroup basis.schema (prop q) (prop p)
-        → (value : Value) → IsShort value → IsOfSort declared.kind value → IsChoice basis region p value }
+    ensures null { (basis : Basis) → IsBasis basis → (of : SeveralOf basis) → IsTrue of.nullable → IsChoice basis of.region of.p Null }
+    ensures free { (basis : Basis) → IsBasis basis → (of : SeveralOf basis) (value : Value) → InDomain value of.declared.kind
+        → ¬ Contains (basis.constants (prop of.p)) value → (IsDependent basis.schema.model of.p → IsShort value) → IsChoice basis of.region of.p value }
+    ensures short { (basis : Basis) → IsBasis basis → (of : SeveralOf basis) (q : PropId) → IsDependent basis.schema.model q
+        → AreInOneGroup basis.schema (prop q) (prop of.p) → (value : Value) → IsShort value → IsOfSort of.declared.kind value
+        → IsChoice basis of.region of.p value }
 {}
 
 /// A property that may have several values has two that aren't null, whatever the other values are; one value is changed alone, or several together;
 /// and a numbered key stays as it is.
 pub fn properties_can_differ()
-    ensures choices { (basis : Basis) → IsBasis basis → IsWithinLimits basis.schema → (s : SetId) (region : Region) → Contains (regions_of basis s) region
-        → (p : PropId) (declared : Prop) (nullable : Bool) → HasSeveral basis region p declared nullable
-        → AreTwoChoices basis region p (one_value basis p declared) (other_value basis p declared) }
-    ensures alone { (basis : Basis) → IsBasis basis → (s : SetId) (region : Region) → Contains (regions_of basis s) region
-        → (outer : ℕ) (values : Valuation) → IsAdmissible basis outer region values → (p : PropId) (one two : Value) → AreTwoChoices basis region p one two
-        → IsAdmissible basis outer region (changed values (alone p one)) × IsAdmissible basis outer region (changed values (alone p two))
-        × DifferAt values (changed values (alone p one)) (changed values (alone p two)) p }
-    ensures together { (basis : Basis) → IsBasis basis → (s : SetId) (region : Region) → Contains (regions_of basis s) region
-        → (outer : ℕ) (values : Valuation) → IsAdmissible basis outer region values → (changes : PropId → Option Value) → AreChoices basis region changes
-        → IsAdmissible basis outer region (changed values changes) }
+    ensures choices { (basis : Basis) → IsBasis basis → (of : SeveralOf basis) → IsWithinLimits basis.schema
+        → AreTwoChoices basis of.region of.p (one_value basis of.p of.declared) (other_value basis of.p of.declared) }
+    ensures alone { (basis : Basis) → IsBasis basis → (outer : ℕ) (at : RegionValues basis) → IsAdmissible basis outer at.region at.values
+        → (p : PropId) (one two : Value) → AreTwoChoices basis at.region p one two
+        → IsAdmissible basis outer at.region (changed at.values (alone p one)) × IsAdmissible basis outer at.region (changed at.values (alone p two))
+        × DifferAt at.values (changed at.values (alone p one)) (changed at.values (alone p two)) p }
+    ensures together { (basis : Basis) → IsBasis basis → (outer : ℕ) (at : RegionValues basis) → IsAdmissible basis outer at.region at.values
+        → (changes : PropId → Option Value) → AreChoices basis at.region changes → IsAdmissible basis outer at.region (changed at.values changes) }
     ensures keys { (basis : Basis) (outer : ℕ) (region : Region) (values : Valuation) → HasNumberedKey basis outer region values
         → (changes : PropId → Option Value) → AreChoices basis region changes → HasNumberedKey basis outer region (changed values changes) }
 {}

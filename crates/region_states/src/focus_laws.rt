@@ -4,46 +4,43 @@ ghost use Rattle.std.specs.Prelude.{◌≡◌, ◌≢◌, ◌↔◌, [], ◌∷�
 ghost use Rattle.round_trip.specs.Words.{Assoc, AssocId, At, ColId, DemandsCell, DemandsRow, Entity, EntitySet, Fragment, IsLegal, Link, LinkFragment, Pair, PropId, Row, Selects, SetId, Shows, ShowsLink, State, Table, TableId, Tables, Value, entities_in, key_of, links_in, rows_in};
 ghost use Rattle.edm_types.specs.declared.model.Mult.TheVariants.{Many};
 ghost use Rattle.schema_laws.specs.state_demand.Owners.{IsJoinedTo, IsOwned};
-ghost use Rattle.schema_laws.specs.sound_demand.Fragments.{IsHostedFragment, IsJoinedFragment, IsOwnedFragment, IsStoredIn};
-ghost use Rattle.schema_laws.specs.sound_demand.ReadBack.{HasLinkOf, IsRowOfLink};
+ghost use Rattle.schema_laws.specs.sound_demand.ReadBack.{HasLinkOf};
 ghost use Rattle.regions.specs.declared.region.Region.{Region};
 ghost use Rattle.regions.specs.declared.pattern.Focus.TheVariants as focus;
 ghost use Rattle.regions.specs.declared.pattern.PatternRow.{PatternRow};
-ghost use Rattle.regions.specs.Basis.{Basis, Host, partner_end};
+ghost use Rattle.regions.specs.Basis.{Basis, Host, HostedAssoc, partner_end};
 ghost use Rattle.regions.specs.Patterns.{by_entity, by_link, pattern_of};
 ghost use Rattle.regions.specs.Regions.{regions_of};
 ghost use Rattle.regions.specs.Shown.{shows_link_row, shows_row};
 ghost use Rattle.regions.specs.Symbols.{is_linked, selects_region};
+ghost use Rattle.regions.specs.region_laws.Held.{HeldEntity, IsAtRow, IsHeldAt, IsOfRegion, LinkRow, LinkedEntity, Standing};
 ghost use Rattle.regions.specs.region_laws.IsBasis.{IsBasis};
 ghost use Rattle.regions.specs.region_laws.Partners.{HasFewPartners, part_by};
 ghost use Rattle.regions.specs.region_laws.RegionAt.{links_at};
-ghost use Rattle.region_states.specs.focus.Agreeing.{IsClearRow, IsRowOfEntity};
-ghost use Rattle.region_states.specs.focus.Held.{HasRow, IsAtLinkRow, IsAtRow, IsHeldAt, IsOfRegion, IsRowOfOne, ListsValue};
+ghost use Rattle.regions.specs.region_laws.pattern.Described.{IsClearRow};
+ghost use Rattle.region_states.specs.focus.Agreeing.{RowAtFragment, RowAtHosted, RowAtJoined};
+ghost use Rattle.region_states.specs.focus.Held.{HasRow, IsRowOfOne, ListsValue};
 
 /// A legal state demands the row of an entity, in a table that its set owns, just where the pattern of the region that holds the entity has a row of the
 /// table; a cell is to hold just the values of the symbols that the pattern lists there; and the pattern has rows of such tables alone. The same of the
 /// row of a link of a joined association. Where hosted associations let an entity have few partners, some region holds it with its partners.
 pub fn a_pattern_is_the_demand()
-    ensures rows { (basis : Basis) → IsBasis basis → (state : State) → IsLegal basis.schema.model state → (s : SetId) (entity : Entity) (region : Region)
-        → (part : AssocId → Bool → PropId → Value) → IsHeldAt basis state s entity region part → (t : TableId) (key : List Value) → IsAtRow basis state s entity t key
-        → DemandsRow basis.schema state t key ↔ HasRow (pattern_of basis (focus.Entity region)) t }
-    ensures cells { (basis : Basis) → IsBasis basis → (state : State) → IsLegal basis.schema.model state → (s : SetId) (entity : Entity) (region : Region)
-        → (part : AssocId → Bool → PropId → Value) → IsHeldAt basis state s entity region part → (t : TableId) (key : List Value) → IsAtRow basis state s entity t key
-        → (col : ColId) (value : Value) → DemandsCell basis.schema state t key col value
-        ↔ ListsValue (pattern_of basis (focus.Entity region)) (by_entity basis.schema.model entity part) t col value }
+    ensures rows { (basis : Basis) → IsBasis basis → (linked : LinkedEntity basis) (t : TableId) (key : List Value)
+        → IsAtRow basis linked.state linked.s linked.entity t key
+        → DemandsRow basis.schema linked.state t key ↔ HasRow (pattern_of basis (focus.Entity linked.region)) t }
+    ensures cells { (basis : Basis) → IsBasis basis → (linked : LinkedEntity basis) (t : TableId) (key : List Value)
+        → IsAtRow basis linked.state linked.s linked.entity t key → (col : ColId) (value : Value) → DemandsCell basis.schema linked.state t key col value
+        ↔ ListsValue (pattern_of basis (focus.Entity linked.region)) (by_entity basis.schema.model linked.entity linked.part) t col value }
     ensures only { (basis : Basis) → IsBasis basis → (s : SetId) (region : Region) → Contains (regions_of basis s) region → (row : PatternRow)
         → Contains (pattern_of basis (focus.Entity region)).rows row
         → (table : Table) × (pairing : List Pair) × At basis.schema.store.tables row.table.index table × IsOwned basis.schema row.table s pairing }
-    ensures link_rows { (basis : Basis) → IsBasis basis → (state : State) → IsLegal basis.schema.model state → (fragment : LinkFragment) (assoc : Assoc) (link : Link)
-        → (t : TableId) (key : List Value) → IsAtLinkRow basis state fragment assoc link t key
-        → DemandsRow basis.schema state t key ↔ HasRow (pattern_of basis (focus.Link fragment.assoc)) t }
-    ensures link_cells { (basis : Basis) → IsBasis basis → (state : State) → IsLegal basis.schema.model state → (fragment : LinkFragment) (assoc : Assoc) (link : Link)
-        → (t : TableId) (key : List Value) → IsAtLinkRow basis state fragment assoc link t key → (col : ColId) (value : Value)
-        → DemandsCell basis.schema state t key col value
-        ↔ ListsValue (pattern_of basis (focus.Link fragment.assoc)) (by_link basis.schema.model assoc link) t col value }
-    ensures partners { (basis : Basis) → IsBasis basis → (state : State) → IsLegal basis.schema.model state → (s : SetId) (entity : Entity) (region : Region)
-        → IsOfRegion basis state s entity region → HasFewPartners basis s
-        → IsHeldAt basis state s entity region (part_by basis state s (key_of basis.schema.model entity)) }
+    ensures link_rows { (basis : Basis) → IsBasis basis → (row : LinkRow basis)
+        → DemandsRow basis.schema row.state row.t row.key ↔ HasRow (pattern_of basis (focus.Link row.fragment.assoc)) row.t }
+    ensures link_cells { (basis : Basis) → IsBasis basis → (row : LinkRow basis) (col : ColId) (value : Value)
+        → DemandsCell basis.schema row.state row.t row.key col value
+        ↔ ListsValue (pattern_of basis (focus.Link row.fragment.assoc)) (by_link basis.schema.model row.assoc row.link) row.t col value }
+    ensures partners { (basis : Basis) → IsBasis basis → (held : HeldEntity basis) → HasFewPartners basis held.s
+        → IsHeldAt basis held.state held.s held.entity held.region (part_by basis held.state held.s (key_of basis.schema.model held.entity)) }
 {}
 
 /// Each row that a legal state demands is that of an entity, in a table that its set owns, or of a link of a joined association; and the pattern of such an
@@ -58,36 +55,28 @@ pub fn no_other_row_is_demanded()
 /// Some region of its set holds an entity of a legal state. Where the region has no flag of a hosted association, the entity hosts no link of it, however
 /// many partners it might have; where it has one, and the partners are few, the entity hosts just one link.
 pub fn flags_tell_links()
-    ensures held { (basis : Basis) → IsBasis basis → (state : State) → IsLegal basis.schema.model state → (s : SetId) (set : EntitySet) → At basis.schema.model.sets s.index set
-        → (entity : Entity) → Contains (entities_in state s) entity → (region : Region) × IsOfRegion basis state s entity region }
-    ensures none { (basis : Basis) → IsBasis basis → (state : State) → IsLegal basis.schema.model state → (s : SetId) (entity : Entity) (region : Region)
-        → IsOfRegion basis state s entity region → (host : Host) → Contains (basis.hosts s) host → ¬ Contains region.linked host.assoc
-        → links_at state host (key_of basis.schema.model entity) ≡ [] }
-    ensures one { (basis : Basis) → IsBasis basis → (state : State) → IsLegal basis.schema.model state → (s : SetId) (entity : Entity) (region : Region)
-        → IsOfRegion basis state s entity region → (host : Host) → Contains (basis.hosts s) host → Contains region.linked host.assoc
-        → (assoc : Assoc) → At basis.schema.model.assocs host.assoc.index assoc → (partner_end host.first_hosts assoc).mult ≢ Many
-        → (link : Link) × (links_at state host (key_of basis.schema.model entity) ≡ link ∷ []) }
+    ensures held { (basis : Basis) → IsBasis basis → (standing : Standing basis)
+        → (region : Region) × IsOfRegion basis standing.state standing.s standing.entity region }
+    ensures none { (basis : Basis) → IsBasis basis → (held : HeldEntity basis) (host : Host) → Contains (basis.hosts held.s) host
+        → ¬ Contains held.region.linked host.assoc → links_at held.state host (key_of basis.schema.model held.entity) ≡ [] }
+    ensures one { (basis : Basis) → IsBasis basis → (held : HeldEntity basis) (at : HostedAssoc basis held.s) → Contains held.region.linked at.host.assoc
+        → (partner_end at.host.first_hosts at.assoc).mult ≢ Many → (link : Link) × (links_at held.state at.host (key_of basis.schema.model held.entity) ≡ link ∷ []) }
 {}
 
 /// Where a row of a pattern has no clash, a fragment shows the row of an entity of a legal state just if it selects the entity, exactly where it shows the
 /// pattern's row just if it selects the region that holds the entity. The same of a link fragment and whether a link is hosted at the entity, with the
 /// region's flag. Whether a joined association's fragment shows the row of a link is told by the pattern.
 pub fn agreement_is_by_the_pattern()
-    ensures entities { (basis : Basis) → IsBasis basis → (state : State) (tables : Tables) → IsStoredIn basis.schema state tables → (s : SetId) (entity : Entity) (region : Region)
-        → (part : AssocId → Bool → PropId → Value) → IsHeldAt basis state s entity region part → (pairing : List Pair) (fragment : Fragment) (table : Table)
-        → IsOwnedFragment basis.schema s pairing fragment table → (row : Row) → IsRowOfEntity basis state tables s pairing entity fragment.table table row
-        → (pattern : PatternRow) → IsClearRow basis (focus.Entity region) fragment.table pattern
-        → (Selects basis.schema.model fragment entity ↔ Shows fragment row)
-        ↔ (IsTrue (selects_region basis region fragment) ↔ IsTrue (shows_row basis.schema.model region.atoms fragment pattern)) }
-    ensures hosts { (basis : Basis) → IsBasis basis → (state : State) (tables : Tables) → IsStoredIn basis.schema state tables → (s : SetId) (entity : Entity) (region : Region)
-        → (part : AssocId → Bool → PropId → Value) → IsHeldAt basis state s entity region part → (pairing : List Pair) (assoc : Assoc) (fragment : LinkFragment) (table : Table)
-        → IsHostedFragment basis.schema s pairing assoc fragment table → (row : Row) → IsRowOfEntity basis state tables s pairing entity fragment.table table row
-        → (pattern : PatternRow) → IsClearRow basis (focus.Entity region) fragment.table pattern
-        → (HasLinkOf basis.schema state s pairing assoc fragment entity ↔ ShowsLink fragment row)
-        ↔ (IsTrue (is_linked basis region.linked fragment.assoc) ↔ IsTrue (shows_link_row basis.schema.model region.atoms fragment pattern)) }
-    ensures links { (basis : Basis) → IsBasis basis → (state : State) (tables : Tables) → IsStoredIn basis.schema state tables
-        → (assoc : Assoc) (fragment : LinkFragment) (table : Table) → IsJoinedFragment basis.schema assoc fragment table
-        → (link : Link) → Contains (links_in state fragment.assoc) link → (row : Row) → Contains (rows_in tables fragment.table) row
-        → IsRowOfLink basis.schema fragment assoc table link row → (pattern : PatternRow) → IsClearRow basis (focus.Link fragment.assoc) fragment.table pattern
-        → IsTrue (shows_link_row basis.schema.model [] fragment pattern) ↔ ShowsLink fragment row }
+    ensures entities { (basis : Basis) → IsBasis basis → (linked : LinkedEntity basis) (fragment : Fragment)
+        → (at : RowAtFragment basis linked.state linked.s linked.entity fragment)
+        → (pattern : PatternRow) → IsClearRow basis (focus.Entity linked.region) pattern → pattern.table ≡ fragment.table
+        → (Selects basis.schema.model fragment linked.entity ↔ Shows fragment at.row)
+        ↔ (IsTrue (selects_region basis linked.region fragment) ↔ IsTrue (shows_row basis.schema.model linked.region.atoms fragment pattern)) }
+    ensures hosts { (basis : Basis) → IsBasis basis → (linked : LinkedEntity basis) (fragment : LinkFragment)
+        → (at : RowAtHosted basis linked.state linked.s linked.entity fragment)
+        → (pattern : PatternRow) → IsClearRow basis (focus.Entity linked.region) pattern → pattern.table ≡ fragment.table
+        → (HasLinkOf basis.schema linked.state linked.s at.pairing at.assoc fragment linked.entity ↔ ShowsLink fragment at.row)
+        ↔ (IsTrue (is_linked basis linked.region.linked fragment.assoc) ↔ IsTrue (shows_link_row basis.schema.model linked.region.atoms fragment pattern)) }
+    ensures links { (basis : Basis) → IsBasis basis → (at : RowAtJoined basis) (pattern : PatternRow) → IsClearRow basis (focus.Link at.fragment.assoc) pattern
+        → pattern.table ≡ at.fragment.table → IsTrue (shows_link_row basis.schema.model [] at.fragment pattern) ↔ ShowsLink at.fragment at.row }
 {}

@@ -18,9 +18,9 @@ ghost use Rattle.regions.specs.declared.pattern.Focus.TheVariants as focus;
 ghost use Rattle.regions.specs.declared.pattern.Symbol.{Symbol};
 ghost use Rattle.regions.specs.declared.region.Region.{Region};
 ghost use Rattle.regions.specs.region_laws.IsBasis.{IsBasis};
-ghost use Rattle.regions.specs.region_laws.pattern.Allowed.{IsAllowed};
+ghost use Rattle.regions.specs.region_laws.Held.{IsHeldAt};
+ghost use Rattle.regions.specs.region_laws.pattern.Allowed.{IsAllowed, RegionValues};
 ghost use Rattle.regions.specs.region_laws.pattern.Listed.{Lists};
-ghost use Rattle.region_states.specs.focus.Held.{IsHeldAt};
 ghost use Rattle.region_states.specs.defaults.Admissible.{IsAdmissible};
 ghost use Rattle.region_states.specs.conflicts.There.{HasFewLinks};
 ghost use Rattle.region_states.specs.BasePopulation.{IsBaseFor, IsKeyOf, base_state};
@@ -49,25 +49,25 @@ pub use region_basis::{
 pub fn an_entity_has_its_values()
     ensures values { (basis : Basis) (region : Region) (values : Valuation) (p : PropId) → Contains (props_of basis.schema.model region.ty) p
         → value_of basis.schema.model (focus_entity basis region values) p ≡ values.prop p }
-    ensures symbols { (basis : Basis) → IsBasis basis → (s : SetId) (region : Region) → Contains (regions_of basis s) region → (values : Valuation) (t : TableId) (c : ColId)
-        (one : Symbol) → Lists (pattern_of basis (focus.Entity region)) t c one
-        → value_under (by_entity basis.schema.model (focus_entity basis region values) values.part) one ≡ value_under values one }
-    ensures admissible { (basis : Basis) → IsBasis basis → (s : SetId) (region : Region) → Contains (regions_of basis s) region → (values : Valuation)
-        → (outer : ℕ) → IsAdmissible basis outer region values → IsAdmissible basis outer region (by_entity basis.schema.model (focus_entity basis region values) values.part) }
+    ensures symbols { (basis : Basis) → IsBasis basis → (at : RegionValues basis) (t : TableId) (c : ColId) (one : Symbol)
+        → Lists (pattern_of basis (focus.Entity at.region)) t c one
+        → value_under (by_entity basis.schema.model (focus_entity basis at.region at.values) at.values.part) one ≡ value_under at.values one }
+    ensures admissible { (basis : Basis) → IsBasis basis → (at : RegionValues basis) (outer : ℕ) → IsAdmissible basis outer at.region at.values
+        → IsAdmissible basis outer at.region (by_entity basis.schema.model (focus_entity basis at.region at.values) at.values.part) }
 {}
 
 /// In a state that holds an entity of allowed values, the region holds it with the partners that are told; and it hosts few links.
 pub fn a_focus_is_held()
-    ensures held { (basis : Basis) → IsBasis basis → (s : SetId) (region : Region) → Contains (regions_of basis s) region → (values : Valuation) → IsAllowed basis region values
-        → (state : State) → HoldsFocus basis region values state → IsHeldAt basis state s (focus_entity basis region values) region values.part }
-    ensures few { (basis : Basis) → IsBasis basis → (s : SetId) (region : Region) → Contains (regions_of basis s) region → (values : Valuation) (state : State)
-        → HoldsFocus basis region values state → HasFewLinks basis state s (focus_entity basis region values) }
+    ensures held { (basis : Basis) → IsBasis basis → (at : RegionValues basis) → IsAllowed basis at.region at.values → (state : State)
+        → HoldsFocus basis at.region at.values state → IsHeldAt basis state at.s (focus_entity basis at.region at.values) at.region at.values.part }
+    ensures few { (basis : Basis) → IsBasis basis → (at : RegionValues basis) (state : State) → HoldsFocus basis at.region at.values state
+        → HasFewLinks basis state at.s (focus_entity basis at.region at.values) }
 {}
 
 /// Where no association set is declared, the states of one entity, and the empty one, are legal, and they are all that the tests for failing states ask for.
 pub fn lone_states_serve()
-    ensures legal { (basis : Basis) → IsBasis basis → HasNoAssociationSets basis.schema.model → (s : SetId) (region : Region) → Contains (regions_of basis s) region
-        → (values : Valuation) → IsAllowed basis region values → HoldsFocus basis region values (lone_focus basis region values) }
+    ensures legal { (basis : Basis) → IsBasis basis → HasNoAssociationSets basis.schema.model → (at : RegionValues basis) → IsAllowed basis at.region at.values
+        → HoldsFocus basis at.region at.values (lone_focus basis at.region at.values) }
     ensures empty { (basis : Basis) → IsBasis basis → HasNoAssociationSets basis.schema.model → IsLegal basis.schema.model (empty_state basis.schema.model) }
     ensures hosts { (basis : Basis) → IsBasis basis → HasNoAssociationSets basis.schema.model → (outer : ℕ) → HostsFocuses basis outer (lone_focus basis) }
     ensures rivals { (basis : Basis) → IsBasis basis → HasNoAssociationSets basis.schema.model → (outer : ℕ)

@@ -1,7 +1,7 @@
 -- What regions and patterns are told by, and which links an entity hosts.
 -- Source: this project's profile of MSL version 3: the groups of properties and columns, and where links stand.
 use Rattle.std.specs.Prelude.{◌≡◌, List, Contains, Bool, Option, if◌then◌else◌}
-use Rattle.round_trip.specs.Words.{SetId, TypeId, AssocId, GroupId, Value, Kind, Assoc, End, Schema, Link, Hosted, State, links_in}
+use Rattle.round_trip.specs.Words.{SetId, TypeId, AssocId, GroupId, Value, Kind, Assoc, End, Schema, Link, Hosted, State, At, links_in}
 use Rattle.round_trip.specs.soundness.mappings.Joined.{Member}
 
 -- an association whose links stand with the entities at one end, and whether this is the first
@@ -27,6 +27,13 @@ host_end first_hosts assoc = if first_hosts then assoc.first else assoc.second
 -- the end of their partners
 abbrev pub partner_end : Bool → Assoc → End
 partner_end first_hosts assoc = if first_hosts then assoc.second else assoc.first
+
+-- an association that is hosted at the set
+pub record HostedAssoc (basis : Basis) (s : SetId) : Type 0 where
+  pub host : Host
+  pub hosts : Contains (basis.hosts s) host
+  pub assoc : Assoc
+  pub is_assoc : At basis.schema.model.assocs host.assoc.index assoc
 
 -- the key of the entity that hosts a link
 abbrev pub host_key : Bool → Link → List Value

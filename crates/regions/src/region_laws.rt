@@ -15,7 +15,7 @@ ghost use Rattle.schema_laws.specs.state_demand.MadeTables.{given_cells};
 ghost use Rattle.schema_laws.specs.state_demand.Owners.{IsJoinedTo, IsOwned, StandsAt};
 ghost use Rattle.schema_laws.specs.state_demand.Writings.{entity_writing, link_writing};
 ghost use Rattle.regions.specs.Atoms.{Allows, LiesIn, atom_of, atoms_of};
-ghost use Rattle.regions.specs.Basis.{Basis, Host, host_end, partner_end};
+ghost use Rattle.regions.specs.Basis.{Basis, Host, HostedAssoc, host_end, partner_end};
 ghost use Rattle.regions.specs.Fitting.{DecidesDomains, fits};
 ghost use Rattle.regions.specs.Patterns.{Valuation, by_entity, by_link, cell_symbols, is_written, pattern_by, pattern_row};
 ghost use Rattle.regions.specs.Regions.{Holds, count_of, most_counted, regions_of, tested_props};
@@ -24,6 +24,7 @@ ghost use Rattle.regions.specs.declared.pattern.PatternRow.{PatternRow};
 ghost use Rattle.regions.specs.declared.region.Region.{Region};
 ghost use Rattle.regions.specs.region_laws.Concrete.{AreConcrete, HasSymbol, IsWritingAt, IsWritingOfLink, TellsEnd, concrete};
 ghost use Rattle.regions.specs.region_laws.Counting.{counted};
+ghost use Rattle.regions.specs.region_laws.Held.{HeldEntity, Holding, IsAtRow, IsHeldAt, LinkRow, LinkedEntity, Standing};
 ghost use Rattle.regions.specs.region_laws.IsBasis.{AreHostedLinks, IsBasis};
 ghost use Rattle.regions.specs.region_laws.Partners.{HasFewPartners, HasPartners, part_by};
 ghost use Rattle.regions.specs.region_laws.RegionAt.{IsAtomOf, hosted_links, links_at, region_at};
@@ -60,21 +61,15 @@ pub fn atoms_part_values()
 pub fn regions_part_entities()
     ensures hosted { (basis : Basis) (state : State) (s : SetId) (entity : Entity)
         → AreHostedLinks basis state s entity (hosted_links basis state s (key_of basis.schema.model entity)) }
-    ensures held { (basis : Basis) → IsBasis basis → (state : State) → IsLegal basis.schema.model state → (s : SetId) (set : EntitySet) → At basis.schema.model.sets s.index set
-        → (entity : Entity) → Contains (entities_in state s) entity → (links : List Hosted) → AreHostedLinks basis state s entity links
-        → Contains (regions_of basis s) (region_at basis s entity links) × Holds basis (region_at basis s entity links) entity links }
-    ensures only { (basis : Basis) → IsBasis basis → (s : SetId) (entity : Entity) (links : List Hosted) (region : Region) → Contains (regions_of basis s) region
-        → Holds basis region entity links → region ≡ region_at basis s entity links }
-    ensures one { (basis : Basis) → IsBasis basis → (state : State) → IsLegal basis.schema.model state → (s : SetId) (set : EntitySet) → At basis.schema.model.sets s.index set
-        → (entity : Entity) → Contains (entities_in state s) entity → (links : List Hosted) → AreHostedLinks basis state s entity links
-        → (region : Region) → Contains (regions_of basis s) region → Holds basis region entity links → (host : Host) → Contains (basis.hosts s) host
-        → (assoc : Assoc) → At basis.schema.model.assocs host.assoc.index assoc → (partner_end host.first_hosts assoc).mult ≢ Many
-        → Contains region.linked host.assoc → (link : Link) × (links_at state host (key_of basis.schema.model entity) ≡ link ∷ []) }
-    ensures none { (basis : Basis) → IsBasis basis → (state : State) → IsLegal basis.schema.model state → (s : SetId) (set : EntitySet) → At basis.schema.model.sets s.index set
-        → (entity : Entity) → Contains (entities_in state s) entity → (links : List Hosted) → AreHostedLinks basis state s entity links
-        → (region : Region) → Contains (regions_of basis s) region → Holds basis region entity links → (host : Host) → Contains (basis.hosts s) host
-        → (assoc : Assoc) → At basis.schema.model.assocs host.assoc.index assoc → (partner_end host.first_hosts assoc).mult ≢ Many
-        → ¬ Contains region.linked host.assoc → links_at state host (key_of basis.schema.model entity) ≡ [] }
+    ensures held { (basis : Basis) → IsBasis basis → (at : Standing basis) (links : List Hosted) → AreHostedLinks basis at.state at.s at.entity links
+        → Contains (regions_of basis at.s) (region_at basis at.s at.entity links) × Holds basis (region_at basis at.s at.entity links) at.entity links }
+    ensures only { (basis : Basis) → IsBasis basis → (held : Holding basis) → held.region ≡ region_at basis held.s held.entity held.links }
+    ensures one { (basis : Basis) → IsBasis basis → (held : HeldEntity basis) (at : HostedAssoc basis held.s)
+        → (partner_end at.host.first_hosts at.assoc).mult ≢ Many → Contains held.region.linked at.host.assoc
+        → (link : Link) × (links_at held.state at.host (key_of basis.schema.model held.entity) ≡ link ∷ []) }
+    ensures none { (basis : Basis) → IsBasis basis → (held : HeldEntity basis) (at : HostedAssoc basis held.s)
+        → (partner_end at.host.first_hosts at.assoc).mult ≢ Many → ¬ Contains held.region.linked at.host.assoc
+        → links_at held.state at.host (key_of basis.schema.model held.entity) ≡ [] }
 {}
 
 /// A listed region is a possible one: its type is a concrete one of the set, it has an atom of each tested property, and links only where its entities may
@@ -87,13 +82,11 @@ pub fn regions_are_possible()
         → AllZip (IsAtomOf basis) (tested_props basis region.ty) region.atoms }
     ensures hosts { (basis : Basis) → IsBasis basis → (s : SetId) (region : Region) → Contains (regions_of basis s) region
         → (a : AssocId) → Contains region.linked a → (host : Host) × Contains (basis.hosts s) host × (a ≡ host.assoc) }
-    ensures may { (basis : Basis) → IsBasis basis → (s : SetId) (region : Region) → Contains (regions_of basis s) region
-        → (host : Host) → Contains (basis.hosts s) host → (assoc : Assoc) → At basis.schema.model.assocs host.assoc.index assoc
-        → Contains region.linked host.assoc → IsA basis.schema.model region.ty (host_end host.first_hosts assoc).ty }
-    ensures must { (basis : Basis) → IsBasis basis → (s : SetId) (region : Region) → Contains (regions_of basis s) region
-        → (host : Host) → Contains (basis.hosts s) host → (assoc : Assoc) → At basis.schema.model.assocs host.assoc.index assoc
-        → IsA basis.schema.model region.ty (host_end host.first_hosts assoc).ty → (partner_end host.first_hosts assoc).mult ≢ ZeroOrOne
-        → Contains region.linked host.assoc }
+    ensures may { (basis : Basis) → IsBasis basis → (s : SetId) (region : Region) → Contains (regions_of basis s) region → (at : HostedAssoc basis s)
+        → Contains region.linked at.host.assoc → IsA basis.schema.model region.ty (host_end at.host.first_hosts at.assoc).ty }
+    ensures must { (basis : Basis) → IsBasis basis → (s : SetId) (region : Region) → Contains (regions_of basis s) region → (at : HostedAssoc basis s)
+        → IsA basis.schema.model region.ty (host_end at.host.first_hosts at.assoc).ty → (partner_end at.host.first_hosts at.assoc).mult ≢ ZeroOrOne
+        → Contains region.linked at.host.assoc }
 {}
 
 /// No region of a set is listed twice.
@@ -109,9 +102,8 @@ pub fn regions_are_counted()
 
 /// Whether a fragment selects an entity is decided by any region that holds it.
 pub fn selection_is_by_regions()
-    ensures selects { (basis : Basis) → IsBasis basis → (fragment : Fragment) → Contains basis.schema.mapping.fragments fragment
-        → (s : SetId) (region : Region) → Contains (regions_of basis s) region → (entity : Entity) (links : List Hosted) → Holds basis region entity links
-        → IsTrue (selects_region basis region fragment) ↔ Selects basis.schema.model fragment entity }
+    ensures selects { (basis : Basis) → IsBasis basis → (fragment : Fragment) → Contains basis.schema.mapping.fragments fragment → (held : Holding basis)
+        → IsTrue (selects_region basis held.region fragment) ↔ Selects basis.schema.model fragment held.entity }
 {}
 
 /// What an entity, or a link, writes by one fragment is what the fragment says in symbols, with their values.
@@ -127,42 +119,32 @@ pub fn fragments_write_their_symbols()
 /// The writings of a region in symbols are just those of an entity that it holds with its partners; those of an association just those of a link.
 /// Where a hosted association lets an entity have few partners, the entities of a legal state have theirs.
 pub fn patterns_are_demand()
-    ensures region { (basis : Basis) → IsBasis basis → (state : State) (s : SetId) (entity : Entity) → Contains (entities_in state s) entity
-        → (region : Region) → Contains (regions_of basis s) region → (links : List Hosted) → Holds basis region entity links
-        → (part : AssocId → Bool → PropId → Value) → HasPartners basis state s entity region part
+    ensures region { (basis : Basis) → IsBasis basis → (state : State) (s : SetId) (entity : Entity) (region : Region) (part : AssocId → Bool → PropId → Value)
+        → IsHeldAt basis state s entity region part
         → AreConcrete (by_entity basis.schema.model entity part) (region_writings basis region) (IsWritingAt basis state s entity) }
     ensures link { (basis : Basis) (state : State) (a : AssocId) (assoc : Assoc) → At basis.schema.model.assocs a.index assoc → (link : Link) → Contains (links_in state a) link
         → AreConcrete (by_link basis.schema.model assoc link) (link_writings basis a) (IsWritingOfLink basis state a assoc link) }
-    ensures partners { (basis : Basis) → IsBasis basis → (state : State) → IsLegal basis.schema.model state → (s : SetId) (set : EntitySet) → At basis.schema.model.sets s.index set
-        → (entity : Entity) → Contains (entities_in state s) entity → (links : List Hosted) → AreHostedLinks basis state s entity links
-        → (region : Region) → Contains (regions_of basis s) region → Holds basis region entity links → HasFewPartners basis s
-        → HasPartners basis state s entity region (part_by basis state s (key_of basis.schema.model entity)) }
+    ensures partners { (basis : Basis) → IsBasis basis → (held : HeldEntity basis) → HasFewPartners basis held.s
+        → HasPartners basis held.state held.s held.entity held.region (part_by basis held.state held.s (key_of basis.schema.model held.entity)) }
 {}
 
 /// The row at the key of an entity, in a table that its set owns, is demanded just where the region that holds it writes the table, and a cell is to
 /// hold just the values of its symbols. The same of the row of a link of a joined association.
 pub fn cells_are_symbols()
-    ensures writings { (basis : Basis) → IsBasis basis → (t : TableId) (s : SetId) (pairing : List Pair) → IsOwned basis.schema t s pairing
-        → (state : State) → IsLegal basis.schema.model state → (entity : Entity) (key : List Value) → StandsAt basis.schema state s pairing key entity
-        → (writing : Writing) → WritesRow basis.schema state t key writing ↔ ((writing.table ≡ t) × IsWritingAt basis state s entity writing) }
-    ensures rows { (basis : Basis) → IsBasis basis → (t : TableId) (s : SetId) (pairing : List Pair) → IsOwned basis.schema t s pairing
-        → (state : State) → IsLegal basis.schema.model state → (entity : Entity) (key : List Value) → StandsAt basis.schema state s pairing key entity
-        → (region : Region) → Contains (regions_of basis s) region → (links : List Hosted) → Holds basis region entity links
-        → (part : AssocId → Bool → PropId → Value) → HasPartners basis state s entity region part
-        → DemandsRow basis.schema state t key ↔ IsTrue (is_written (region_writings basis region) t) }
-    ensures cells { (basis : Basis) → IsBasis basis → (t : TableId) (s : SetId) (pairing : List Pair) → IsOwned basis.schema t s pairing
-        → (state : State) → IsLegal basis.schema.model state → (entity : Entity) (key : List Value) → StandsAt basis.schema state s pairing key entity
-        → (region : Region) → Contains (regions_of basis s) region → (links : List Hosted) → Holds basis region entity links
-        → (part : AssocId → Bool → PropId → Value) → HasPartners basis state s entity region part → (col : ColId) (value : Value)
-        → DemandsCell basis.schema state t key col value ↔ HasSymbol (by_entity basis.schema.model entity part) (region_writings basis region) t col value }
-    ensures link_rows { (basis : Basis) → IsBasis basis → (state : State) → IsLegal basis.schema.model state → (t : TableId) (fragment : LinkFragment) (assoc : Assoc)
-        → IsJoinedTo basis.schema t fragment assoc → (link : Link) → Contains (links_in state fragment.assoc) link
-        → DemandsRow basis.schema state t (written_key basis.schema.store (link_writing basis.schema.model fragment assoc link))
-        ↔ IsTrue (is_written (link_writings basis fragment.assoc) t) }
-    ensures link_cells { (basis : Basis) → IsBasis basis → (state : State) → IsLegal basis.schema.model state → (t : TableId) (fragment : LinkFragment) (assoc : Assoc)
-        → IsJoinedTo basis.schema t fragment assoc → (link : Link) → Contains (links_in state fragment.assoc) link → (col : ColId) (value : Value)
-        → DemandsCell basis.schema state t (written_key basis.schema.store (link_writing basis.schema.model fragment assoc link)) col value
-        ↔ HasSymbol (by_link basis.schema.model assoc link) (link_writings basis fragment.assoc) t col value }
+    ensures writings { (basis : Basis) → IsBasis basis → (standing : Standing basis) (t : TableId) (key : List Value)
+        → IsAtRow basis standing.state standing.s standing.entity t key → (writing : Writing)
+        → WritesRow basis.schema standing.state t key writing ↔ ((writing.table ≡ t) × IsWritingAt basis standing.state standing.s standing.entity writing) }
+    ensures rows { (basis : Basis) → IsBasis basis → (linked : LinkedEntity basis) (t : TableId) (key : List Value)
+        → IsAtRow basis linked.state linked.s linked.entity t key
+        → DemandsRow basis.schema linked.state t key ↔ IsTrue (is_written (region_writings basis linked.region) t) }
+    ensures cells { (basis : Basis) → IsBasis basis → (linked : LinkedEntity basis) (t : TableId) (key : List Value)
+        → IsAtRow basis linked.state linked.s linked.entity t key → (col : ColId) (value : Value) → DemandsCell basis.schema linked.state t key col value
+        ↔ HasSymbol (by_entity basis.schema.model linked.entity linked.part) (region_writings basis linked.region) t col value }
+    ensures link_rows { (basis : Basis) → IsBasis basis → (row : LinkRow basis)
+        → DemandsRow basis.schema row.state row.t row.key ↔ IsTrue (is_written (link_writings basis row.fragment.assoc) row.t) }
+    ensures link_cells { (basis : Basis) → IsBasis basis → (row : LinkRow basis) (col : ColId) (value : Value)
+        → DemandsCell basis.schema row.state row.t row.key col value
+        ↔ HasSymbol (by_link basis.schema.model row.assoc row.link) (link_writings basis row.fragment.assoc) row.t col value }
 {}
 
 /// A pattern has a row for each written table, in the order of tables, with a cell for each column that lists no symbol twice.

@@ -12,7 +12,8 @@ use Rattle.regions.specs.declared.region.Region.{Region}
 use Rattle.regions.specs.Basis.{Basis}
 use Rattle.regions.specs.Regions.{regions_of}
 use Rattle.regions.specs.region_laws.IsBasis.{IsBasis}
-use Rattle.region_states.specs.focus.Held.{IsOfRegion}
+use Rattle.regions.specs.region_laws.Held.{IsOfRegion}
+use Rattle.regions.proofs.region_laws.entities.Held.{set_of_entity}
 use Rattle.region_states.proofs.focus.Flags.{some_region}
 use Rattle.case_laws.specs.filled_rows.Demanded.{IsHeldWith}
 use Rattle.region_states.specs.LoneStates.{HasNoAssociationSets}
@@ -26,7 +27,7 @@ use Rattle.case_laws.specs.Reading.{DecidesFree, HasStateTables}
 use Rattle.case_laws.specs.Told.{AreTold}
 use Rattle.case_laws.proofs.Keys.{set_key_is}
 use Rattle.case_laws.proofs.own.OwnCase.{meets_own, row_there, told_is_own}
-use Rattle.case_laws.proofs.reading.Whole.{key_of_row, set_of_entity}
+use Rattle.case_laws.proofs.reading.Whole.{key_of_row}
 
 module _ (basis : Basis) (is : IsBasis basis) (limits : IsWithinLimits basis.schema) (none : HasNoAssociationSets basis.schema.model) (round : RoundTrips basis.schema)
     (is_free : TableId → ColId → Bool) (decides : DecidesFree basis.schema is_free) (state : State) (legal : IsLegal basis.schema.model state)

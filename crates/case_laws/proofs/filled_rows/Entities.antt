@@ -25,8 +25,8 @@ use Rattle.regions.specs.region_laws.IsBasis.{IsBasis}
 use Rattle.regions.specs.region_laws.Partners.{HasFewPartners}
 use Rattle.regions.specs.region_laws.pattern.Allowed.{partner_parts}
 use Rattle.regions.specs.region_laws.pattern.Described.{row_for, value_in}
+use Rattle.regions.specs.region_laws.Held.{IsAtRow, IsHeldAt}
 use Rattle.regions.proofs.region_laws.pattern.Keys.{key_cell}
-use Rattle.region_states.specs.focus.Held.{IsAtRow, IsHeldAt}
 use Rattle.region_states.proofs.focus.Demanded.{cells, rows}
 use Rattle.region_states.proofs.focus.Listed.{row_owned}
 use Rattle.case_laws.specs.filled_rows.Demanded.{AreAllDemanded, IsDemandedRow, IsHeldWith}

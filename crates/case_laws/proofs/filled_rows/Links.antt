@@ -20,8 +20,8 @@ use Rattle.regions.specs.Basis.{Basis}
 use Rattle.regions.specs.Patterns.{Valuation, by_link, pattern_of}
 use Rattle.regions.specs.region_laws.IsBasis.{IsBasis}
 use Rattle.regions.specs.region_laws.pattern.Described.{row_for}
+use Rattle.regions.specs.region_laws.Held.{IsAtLinkRow}
 use Rattle.regions.proofs.region_laws.pattern.symbols.Hosting.{one_link}
-use Rattle.region_states.specs.focus.Held.{IsAtLinkRow}
 use Rattle.region_states.proofs.focus.Demanded.{link_cells, link_rows as link_row_there}
 use Rattle.region_states.proofs.focus.Listed.{row_joined}
 use Rattle.case_laws.specs.filled_rows.Demanded.{IsDemandedLinkRow}

@@ -15,9 +15,9 @@ use Rattle.regions.specs.region_laws.IsBasis.{IsBasis}
 use Rattle.regions.specs.region_laws.Partners.{HasFewPartners, TellsPartner}
 use Rattle.regions.specs.region_laws.RegionAt.{links_at}
 use Rattle.regions.specs.region_laws.pattern.Allowed.{end_at, partner_parts}
+use Rattle.regions.specs.region_laws.Held.{IsHeldAt, IsOfRegion}
 use Rattle.regions.proofs.region_laws.pattern.Choices.{found_passes, none_passes}
 use Rattle.regions.proofs.region_laws.pattern.symbols.Hosting.{one_host}
-use Rattle.region_states.specs.focus.Held.{IsHeldAt, IsOfRegion}
 use Rattle.region_states.proofs.focus.Flags.{flagged_one, unflagged}
 use Rattle.case_laws.specs.filled_rows.Demanded.{IsHeldWith}
 

@@ -17,8 +17,8 @@ use Rattle.regions.specs.Basis.{Basis}
 use Rattle.regions.specs.region_laws.IsBasis.{AreHostedLinks, IsBasis}
 use Rattle.regions.specs.region_laws.Partners.{HasFewPartners}
 use Rattle.regions.specs.region_laws.RegionAt.{region_at}
+use Rattle.regions.specs.region_laws.Held.{IsAtLinkRow, IsAtRow}
 use Rattle.regions.proofs.region_laws.entities.Regions.{region_among, region_holds}
-use Rattle.region_states.specs.focus.Held.{IsAtLinkRow, IsAtRow}
 use Rattle.region_states.proofs.focus.Demanded.{row_of_one}
 use Rattle.case_laws.specs.filled_rows.Demanded.{IsHeldWith}
 use Rattle.case_laws.specs.filled_rows.Filled.{FillsRows, entity_rows, link_rows}

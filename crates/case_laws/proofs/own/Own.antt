@@ -22,10 +22,11 @@ use Rattle.regions.specs.region_laws.Partners.{HasFewPartners}
 use Rattle.regions.proofs.region_laws.listing.Listed.{set_is}
 use Rattle.regions.specs.region_laws.pattern.Allowed.{IsAllowed}
 use Rattle.regions.specs.region_laws.pattern.Described.{value_in}
+use Rattle.regions.specs.region_laws.Held.{IsAtRow, IsHeldAt}
 use Rattle.regions.proofs.region_laws.pattern.Laws.{listed_from}
 use Rattle.regions.proofs.region_laws.pattern.types.Regions.{lies_in}
 use Rattle.regions.proofs.region_laws.pattern.symbols.Standing.{listed_prop}
-use Rattle.region_states.specs.focus.Held.{HasRow, IsAtRow, IsHeldAt}
+use Rattle.region_states.specs.focus.Held.{HasRow}
 use Rattle.case_laws.specs.filled_rows.Demanded.{IsHeldWith}
 use Rattle.case_laws.proofs.filled_rows.Partners.{held_with_partners, parts}
 use Rattle.conflict_laws.specs.rival.Alike.{IsClear}

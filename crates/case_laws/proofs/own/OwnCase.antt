@@ -14,6 +14,7 @@ use Rattle.regions.specs.region_laws.IsBasis.{IsBasis}
 use Rattle.regions.proofs.region_laws.listing.Listed.{set_is}
 use Rattle.region_states.proofs.focus.Flags.{some_region}
 use Rattle.regions.proofs.region_laws.pattern.types.Regions.{parts_of}
+use Rattle.regions.proofs.region_laws.entities.Held.{set_of_entity}
 use Rattle.case_laws.specs.filled_rows.Demanded.{IsHeldWith}
 use Rattle.region_states.specs.LoneStates.{HasNoAssociationSets}
 use Rattle.case_laws.specs.region_cases.Cases.{case_of}
@@ -27,7 +28,7 @@ use Rattle.case_laws.proofs.own.OwnTold.{entity_told, links_told}
 use Rattle.case_laws.proofs.shown.Present.{present_row}
 use Rattle.case_laws.proofs.reading.Readable.{some_row}
 use Rattle.case_laws.proofs.reading.RoundTripping.{few, readable}
-use Rattle.case_laws.proofs.reading.Whole.{one_entity, one_links, set_of_entity}
+use Rattle.case_laws.proofs.reading.Whole.{one_entity, one_links}
 
 module _ (basis : Basis) (is : IsBasis basis) (limits : IsWithinLimits basis.schema) (none : HasNoAssociationSets basis.schema.model) (round : RoundTrips basis.schema)
     (is_free : TableId → ColId → Bool) (decides : DecidesFree basis.schema is_free) (state : State) (legal : IsLegal basis.schema.model state)

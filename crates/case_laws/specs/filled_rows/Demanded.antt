@@ -10,7 +10,7 @@ use Rattle.regions.specs.declared.region.Region.{Region}
 use Rattle.regions.specs.Basis.{Basis}
 use Rattle.regions.specs.Regions.{Holds, regions_of}
 use Rattle.regions.specs.region_laws.IsBasis.{AreHostedLinks}
-use Rattle.region_states.specs.focus.Held.{IsAtRow}
+use Rattle.regions.specs.region_laws.Held.{IsAtRow}
 
 -- an entity of the state, the links that it hosts, and the region that holds it with them
 pub record IsHeldWith (basis : Basis) (state : State) (s : SetId) (entity : Entity) (links : List Hosted) (region : Region) : Type 0 where

@@ -1,10 +1,9 @@
 -- The usual values of two ends in one cell differ: they are numbered, and have different numbers.
-use Rattle.std.proofs.Common.{◌≡◌, ◌≢◌, ◌⊎◌, ⊎_elim, inl, inr, ◌==◌, ◌+◌, ◌*◌, ◌≤◌, ℕ, suc, List, [], ◌∷◌, length, Contains, Bool, not, Some, refl, sym, ap, subst, ◌∙◌, arith}
+use Rattle.std.proofs.Common.{◌≡◌, ◌≢◌, ⊎_elim, ◌==◌, ◌≤◌, ℕ, suc, List, [], ◌∷◌, length, Contains, Bool, not, Some, sym, ap, subst, ◌∙◌, arith}
 use Rattle.std.specs.Option.{option_map_or}
 use Rattle.std.proofs.lemmas.Bool.{cond_both}
 use Rattle.std.proofs.lemmas.Bool.Decides.{not_from_Decides}
 use Rattle.std.proofs.lemmas.Option.{slice_get_within}
-use Rattle.emc_base.specs.declared.value.Kind.TheVariants as kind
 use Rattle.emc_base.proofs.Lists.{at_once}
 use Rattle.round_trip.specs.Words.{TableId, ColId, AssocId, PropId, Value, Null, Kind, Assoc, At, key_props}
 use Rattle.round_trip.specs.soundness.models.Inheritance.{IsKeyProp}
@@ -22,37 +21,14 @@ use Rattle.regions.specs.region_laws.pattern.Listed.{Lists}
 use Rattle.regions.proofs.region_laws.pattern.symbols.Hosting.{assoc_here, end_prop, one_host, the_assoc}
 use Rattle.regions.proofs.region_laws.pattern.Laws.{listed_from}
 use Rattle.regions.proofs.region_laws.pattern.symbols.Standing.{IsEndOf, end_of}
-use Rattle.schema_laws.specs.short_values.Numbers.{letter, number}
 use Rattle.region_states.specs.defaults.Defaults.{default_part}
 use Rattle.schema_laws.specs.short_values.Fresh.{fresh_at, IsUse, Use, fresh, partner, partner_key}
 use Rattle.schema_laws.specs.short_values.Places.{place_in}
 use Rattle.schema_laws.proofs.sound_demand.Keys.{keys_few}
 use Rattle.schema_laws.proofs.short_values.Places.{place_within, fresh_is}
 use Rattle.schema_laws.proofs.sound_types.Inherited.{key_prop}
-use Rattle.schema_laws.proofs.short_values.Short.{letter_same, number_same}
+use Rattle.schema_laws.proofs.short_values.Short.{fresh_apart}
 use Rattle.schema_laws.proofs.short_values.Uses.{one_use}
-
--- a numbered value is a number or a text
-fresh_row : (k : Kind) (i : ℕ) → (fresh k 0 i ≡ number (5 * i + 0 + 7)) ⊎ (fresh k 0 i ≡ letter (5 * i + 0 + 97))
-fresh_row kind.Boolean i = inl refl
-fresh_row kind.Byte i = inl refl
-fresh_row kind.Int16 i = inl refl
-fresh_row kind.Int32 i = inl refl
-fresh_row kind.Int64 i = inl refl
-fresh_row (kind.Text bound) i = inr refl
-fresh_row (kind.Binary bound) i = inl refl
-fresh_row (kind.Enum enumeration) i = inl refl
-
--- numbered values of two kinds that are one have one number
-fresh_index : (k m : Kind) (i j : ℕ) → fresh k 0 i ≡ fresh m 0 j → i ≡ j
-fresh_index k m i j same = by (fresh_row k i) (fresh_row m j)
-  where
-    by : (fresh k 0 i ≡ number (5 * i + 0 + 7)) ⊎ (fresh k 0 i ≡ letter (5 * i + 0 + 97))
-        → (fresh m 0 j ≡ number (5 * j + 0 + 7)) ⊎ (fresh m 0 j ≡ letter (5 * j + 0 + 97)) → i ≡ j
-    by (inl one) (inl two) = let numbers = number_same (5 * i + 0 + 7) (5 * j + 0 + 7) (sym one ∙ same ∙ two) in omega (arith, numbers)
-    by (inl one) (inr two) = absurd (let never : number (5 * i + 0 + 7) ≡ letter (5 * j + 0 + 97) = sym one ∙ same ∙ two in cc)
-    by (inr one) (inl two) = absurd (let never : letter (5 * i + 0 + 97) ≡ number (5 * j + 0 + 7) = sym one ∙ same ∙ two in cc)
-    by (inr one) (inr two) = let codes = letter_same (5 * i + 0 + 97) (5 * j + 0 + 97) (sym one ∙ same ∙ two) in omega (arith, codes)
 
 -- a property stands at its place
 at_place : (p : PropId) (props : List PropId) → Contains props p → At props (place_in p props) p
@@ -164,6 +140,6 @@ module _ (basis : Basis) (is : IsBasis basis) (limits : IsWithinLimits basis.sch
       let two : IsEnd b second q = listed_end b second q lists_two in
       let value_one = numbered a first p one in
       let value_two = numbered b second q two in
-      let index = fresh_index value_one.0 value_two.0 (partner_key a.index (place_in p (key a first p one))) (partner_key b.index (place_in q (key b second q two)))
-      (sym value_one.1 ∙ alike ∙ value_two.1) in
+      let index = (fresh_apart value_one.0 value_two.0 0 0 (partner_key a.index (place_in p (key a first p one))) (partner_key b.index (place_in q (key b second q two)))
+      (omega arith) (omega arith) (sym value_one.1 ∙ alike ∙ value_two.1)).1 in
       different (one_end a b first second p q one two (one_use (number_for a first p one) (number_for b second q two) (is_use a first p one) (is_use b second q two) index))

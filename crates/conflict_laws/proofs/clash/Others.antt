@@ -15,7 +15,7 @@ use Rattle.regions.specs.Patterns.{Valuation, pattern_of, value_under}
 use Rattle.regions.specs.Regions.{regions_of}
 use Rattle.regions.specs.Settled.{Possible, multi, possible, single}
 use Rattle.regions.specs.region_laws.IsBasis.{IsBasis}
-use Rattle.regions.specs.region_laws.pattern.Listed.{Lists}
+use Rattle.regions.specs.region_laws.pattern.Listed.{Lists, PatternCell, IsKeyPair}
 use Rattle.regions.proofs.region_laws.pattern.Keys.{key_cell, owned_here}
 use Rattle.regions.proofs.region_laws.pattern.Laws.{listed_from, part_in_key}
 use Rattle.regions.proofs.region_laws.pattern.symbols.Standing.{listed_prop}
@@ -31,12 +31,14 @@ use Rattle.conflict_laws.proofs.clash.Clashing.{IsClash}
 pub clash_no_key : (basis : Basis) → IsBasis basis → (s : SetId) (region : Region) → Contains (regions_of basis s) region → (t : TableId) (c : ColId) (one two : Symbol)
     → IsClash basis (focus.Entity region) t c one two → ¬ Contains (key_columns basis.schema.store t) c
 clash_no_key basis is s region has t c one two clash key =
-    let owned = owned_here basis is s region has t c clash.lists_one.0 clash.lists_one.1 in
+    let owned = owned_here basis is s region has (record { t = t; col = c; cell = clash.lists_one.0; has = clash.lists_one.1 }) in
     let pair = map_contains (λ (one_pair : Pair). one_pair.col) owned.0 c (subst (λ cols. Contains cols c) (sym owned.1.cols) key) in
     let P : ColId → Type 0 = λ d. (other : Symbol) → Lists (pattern_of basis (focus.Entity region)) t d other → other ≡ symbol.Prop pair.0.prop in
     let alone_there : P pair.0.col = λ other lists.
     (let cell : List Symbol = lists.0 in
-    one_stands cell (symbol.Prop pair.0.prop) other (key_cell basis is s region has t owned.0 owned.1 pair.0 pair.1 cell lists.1) lists.2) in
+    let here : PatternCell basis (focus.Entity region) = record { t = t; col = pair.0.col; cell = cell; has = lists.1 } in
+    let key_pair : IsKeyPair basis.schema s t pair.0.col pair.0 = record { pairing = owned.0; owned = owned.1; paired = pair.1; at_col = refl } in
+    one_stands cell (symbol.Prop pair.0.prop) other (key_cell basis is s region has here pair.0 key_pair) lists.2) in
     let only : P c = subst P pair.2 alone_there in
     clash.clash.different (only one clash.lists_one ∙ sym (only two clash.lists_two))
   where
@@ -62,7 +64,8 @@ module _ (basis : Basis) (is : IsBasis basis) (limits : IsWithinLimits basis.sch
           record {
             is_declared = above.1;
             among = among;
-            no_key = λ key. no_key (part_in_key basis is (focus.Entity region) (s, has) t c p lists (key_is_part basis.schema.model is.sound.model p region.ty key));
+            no_key = λ key. no_key (part_in_key basis is p (record { of = focus.Entity region; t = t; col = c; lists = lists }) (s, has)
+                (key_is_part basis.schema.model is.sound.model p region.ty key));
             several = several;
           },
         )
@@ -80,8 +83,9 @@ module _ (basis : Basis) (is : IsBasis basis) (limits : IsWithinLimits basis.sch
 
     -- both are admissible, and differ in the property alone
     both : IsAdmissible basis 0 region with_one × IsAdmissible basis 0 region with_other × DifferAt usual with_one with_other p
-    both = differ_at basis is s region has 0 usual (default_admissible basis is limits s region has 0 (omega arith)) p (one_value basis p declared) (other_value basis p declared)
-        (two_choices basis is s region has p declared nullable has_several.1 limits)
+    both = differ_at basis is 0 (record { s = s; region = region; listed = has; values = usual }) (default_admissible basis is limits s region has 0 (omega arith)) p
+        (one_value basis p declared) (other_value basis p declared) (two_choices basis is
+        (record { s = s; region = region; listed = has; p = p; declared = declared; nullable = nullable; several = has_several.1 }) limits)
 
     -- these are the other values that are tried
     others_are : with_others basis region (symbol.Prop p) (possible basis.schema.model region.atoms (symbol.Prop p)) ≡ with_one ∷ with_other ∷ []

@@ -68,7 +68,7 @@ module _ (basis : Basis) (is : IsBasis basis) (s : SetId) (region : Region) (has
         (λ (free : StandsFree basis t c q).
         let plain : IsPlain basis (col t c) = is_plain basis is (col t c) hosts in
         let told : IsTold basis is s region has q (atom.Is v) = found_told basis is s region has q (atom.Is v) at in
-        let kinds = plain.kinds q told.declared told.is_declared (same_group basis is (focus.Entity region) (s, has) t c q lists free.free_prop) in
+        let kinds = plain.kinds q told.declared told.is_declared (same_group basis is q (record { of = focus.Entity region; t = t; col = c; lists = lists }) (s, has) free.free_prop) in
         let constant : Contains (basis.constants (prop q)) v =
         (atom_tells basis.fits is.domains (basis.constants (prop q)) told.declared (atom.Is v) told.among).1 (plain_kind told.declared.kind kinds.0 kinds.1) in
         let of_prop : IsConstant basis.schema (prop q) v = ((is.constants (prop q) (free_member basis.schema (prop q) free.free_prop)).each v).0 constant in

@@ -15,6 +15,7 @@ use Rattle.regions.specs.region_laws.IsBasis.{IsBasis}
 use Rattle.regions.specs.region_laws.pattern.Allowed.{CanBe, IsAllowed}
 use Rattle.regions.specs.region_laws.pattern.Listed.{Lists}
 use Rattle.regions.proofs.region_laws.pattern.Laws.{symbol_possible}
+use Rattle.regions.specs.region_laws.Held.{HeldEntity}
 use Rattle.region_states.specs.focus.Held.{ListsValue}
 use Rattle.region_states.proofs.focus.Flags.{some_region}
 use Rattle.region_states.specs.conflicts.Conflicts.{IsConflictAt}
@@ -33,7 +34,7 @@ module _ (basis : Basis) (is : IsBasis basis) (s : SetId) (region : Region) (has
       → value_under values one ≡ v
   value_is one lists v is_one =
       let P : Possible → Type 0 = λ can. CanBe can (value_under values one) in
-      subst P is_one (symbol_possible basis is (focus.Entity region) (s, has) values allowed t c one lists)
+      subst P is_one (symbol_possible basis is (record { of = focus.Entity region; is_focus = (s, has); values = values; allowed = allowed }) t c one lists)
 
   conflict_of : (v w : Value) → v ≢ w → ListsValue (pattern_of basis (focus.Entity region)) values t c v
       → ListsValue (pattern_of basis (focus.Entity region)) values t c w → (it : Conflict) × IsConflictAt basis s kind.Clash it
@@ -61,13 +62,14 @@ module _ (basis : Basis) (is : IsBasis basis) (limits : IsWithinLimits basis.sch
       let clash : Clashes basis.schema state fails.place = fails.fails.0 in
       let row : IsRowOf basis state s clash.t clash.key = fails.fails.1 in
       let entity : Entity = row.entity in
-      let found = some_region basis is state fails.legal s row.owned.set row.owned.is_set entity row.at.stands in
+      let found = some_region basis is (record { state = state; legal = fails.legal; s = s; entity = entity; stands = row.at.stands }) in
       let region : Region = found.0 in
       let of = found.1 in
+      let held : HeldEntity basis = record { state = state; legal = fails.legal; s = s; entity = entity; region = region; of_region = of } in
       let part = told_part basis state s entity in
       let values : Valuation = by_entity basis.schema.model entity part in
       let listed : (v : Value) → DemandsCell basis.schema state clash.t clash.key clash.col v → ListsValue (pattern_of basis (focus.Entity region)) values clash.t clash.col v =
-      demanded_listed basis is state s entity region of.listed of.links of.holds part (told_links basis is limits state fails.legal s entity region of row.few) fails.legal
-      clash.t row.pairing row.owned clash.key row.at clash.col in
-      conflict_of basis is s region of.listed values (told_allowed basis is limits state fails.legal s entity region of) clash.t clash.col clash.one clash.two clash.different
+      demanded_listed basis is held part (told_links basis is limits held row.few) clash.t clash.key
+      (record { pairing = row.pairing; owned = row.owned; at = row.at }) clash.col in
+      conflict_of basis is s region of.listed values (told_allowed basis is limits held) clash.t clash.col clash.one clash.two clash.different
       (listed clash.one clash.demands_one) (listed clash.two clash.demands_two)

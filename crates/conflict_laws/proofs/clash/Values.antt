@@ -29,6 +29,7 @@ use Rattle.conflict_laws.proofs.clash.Clashing.{Decides-clash, IsClash}
 use Rattle.conflict_laws.proofs.clash.Ends.{ends_differ}
 use Rattle.conflict_laws.proofs.clash.Others.{clash_no_key, one_differs, with_others_admissible}
 use Rattle.conflict_laws.proofs.clash.Single.{single_null}
+use Rattle.conflict_laws.specs.Told.{ClashingCell}
 
 -- what a symbol can be: one value alone, a property of several values, or an end
 data Sort (basis : Basis) (region : Region) : Symbol → Type 0 where
@@ -57,7 +58,12 @@ module _ (basis : Basis) (is : IsBasis basis) (limits : IsWithinLimits basis.sch
 
   -- the usual value of a symbol is one that is possible
   usual_can : (one : Symbol) → Listed one → CanBe (possible basis.schema.model region.atoms one) (value_under usual one)
-  usual_can one lists = symbol_possible basis is (focus.Entity region) (s, has) usual (default_admissible basis is limits s region has 0 (omega arith)).allowed t c one lists
+  usual_can one lists = symbol_possible basis is (record {
+    of = focus.Entity region;
+    is_focus = (s, has);
+    values = usual;
+    allowed = (default_admissible basis is limits s region has 0 (omega arith)).allowed;
+  }) t c one lists
 
   -- and the only one where only one is
   usual_is : (one : Symbol) → Listed one → (v : Value) → possible basis.schema.model region.atoms one ≡ single v → value_under usual one ≡ v
@@ -131,13 +137,18 @@ module _ (basis : Basis) (is : IsBasis basis) (limits : IsWithinLimits basis.sch
       (ends_differ basis is limits region t c a b first second p q clash.lists_one clash.lists_two clash.clash.different)
 
   -- the first such values are chosen
-  pub values_differ : (one two : Symbol) → IsTrue (is_clash basis (focus.Entity region) t c one two)
+  told_differ : (one two : Symbol) → IsTrue (is_clash basis (focus.Entity region) t c one two)
       → IsAdmissible basis 0 region (clash_values basis region one two)
       × (value_under (clash_values basis region one two) one ≢ value_under (clash_values basis region one two) two)
-  values_differ one two told =
+  told_differ one two told =
       let clash : IsClash basis (focus.Entity region) t c one two = (Decides-clash basis (focus.Entity region) t c one two).0 told in
       let by = some_differ one two (sort_of basis region one) (sort_of basis region two) clash in
       let decides = λ (values : Valuation). Decides-not (same_value (value_under values one) (value_under values two))
       (Decides-value (value_under values one) (value_under values two)) in
       let found = found_or (differ_under one two) (values_tried basis region one two) by.0 usual by.1 ((decides by.0).1 by.2) in
       (tried_admissible one two clash (clash_values basis region one two) found.0, (decides (clash_values basis region one two)).0 found.1)
+
+pub values_differ : (basis : Basis) → IsBasis basis → IsWithinLimits basis.schema → (at : ClashingCell basis)
+    → IsAdmissible basis 0 at.region (clash_values basis at.region at.one at.two)
+    × (value_under (clash_values basis at.region at.one at.two) at.one ≢ value_under (clash_values basis at.region at.one at.two) at.two)
+values_differ basis is limits at = told_differ basis is limits at.s at.region at.listed at.t at.col at.one at.two at.clash

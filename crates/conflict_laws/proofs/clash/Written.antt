@@ -4,10 +4,9 @@ use Rattle.std.proofs.lemmas.Bool.Decides.{Decides-eqb}
 use Rattle.std.proofs.lemmas.List.Elements.{Contains-append_left, Contains-append_right}
 use Rattle.emc_base.proofs.Lists.{all_from_members}
 use Rattle.emc_base.proofs.Mapped.{contains_filter, contains_map}
-use Rattle.round_trip.specs.Words.{SetId, TypeId, TableId, ColId, AssocId, PropId, Value, Assoc, DemandsCell, Entity, Fragment, Hosted, IsLegal, Link, LinkFragment, Pair, State, Writing, At, IsA, key_of, key_props, links_in, value_beside, value_of}
+use Rattle.round_trip.specs.Words.{SetId, TypeId, TableId, ColId, AssocId, PropId, Value, Assoc, DemandsCell, Entity, Fragment, Link, LinkFragment, Pair, State, Writing, At, IsA, key_of, key_props, links_in, value_beside, value_of}
 use Rattle.round_trip.specs.soundness.mappings.Fragments.{WritesEndKey}
 use Rattle.schema_laws.specs.state_demand.MadeTables.{given_cells}
-use Rattle.schema_laws.specs.state_demand.Owners.{IsOwned, StandsAt}
 use Rattle.schema_laws.specs.state_demand.Selecting.{same_key}
 use Rattle.schema_laws.specs.state_demand.Writings.{link_writing}
 use Rattle.schema_laws.proofs.state_demand.writings.Given.{gives_cell}
@@ -21,7 +20,6 @@ use Rattle.regions.specs.declared.region.Region.{Region}
 use Rattle.regions.specs.declared.pattern.Focus.TheVariants as focus
 use Rattle.regions.specs.Basis.{Basis, Host, host_end, host_key, partner_end, partner_key}
 use Rattle.regions.specs.Patterns.{Valuation, by_entity, pattern_of}
-use Rattle.regions.specs.Regions.{Holds, regions_of}
 use Rattle.regions.specs.Symbols.{SymbolWriting, fragment_writing, fragments_of, host_writings, is_linked, link_fragment_writing, link_fragments_of, region_writings, selects_region}
 use Rattle.regions.specs.region_laws.Concrete.{AreConcrete, HasSymbol, IsConcrete, IsWritingAt, TellsEnd, WritesEntity, WritesHosted, concrete}
 use Rattle.regions.specs.region_laws.IsBasis.{IsBasis}
@@ -35,6 +33,8 @@ use Rattle.regions.proofs.region_laws.writings.Patterns.{may_host, pairs_at, pai
 use Rattle.regions.proofs.region_laws.entities.Selected.{Decides-selected}
 use Rattle.schema_laws.proofs.state_demand.lists.Ids.{Decides-assoc}
 use Rattle.regions.proofs.region_laws.pattern.symbols.Origins.{linked_decided}
+use Rattle.regions.specs.region_laws.Held.{HeldEntity, IsAtRow}
+use Rattle.regions.proofs.region_laws.entities.Held.{holding_of, standing_of}
 use Rattle.region_states.specs.focus.Held.{ListsValue}
 use Rattle.region_states.proofs.focus.Listed.{has_symbol}
 
@@ -92,41 +92,41 @@ module _ (basis : Basis) (is : IsBasis basis) (fragment : LinkFragment) (mapped 
       sym (ap (λ props. value_beside pair.prop props (key_of basis.schema.model entity)) (sym keys)
       ∙ beside_map (value_of basis.schema.model entity) (key_props basis.schema.model entity.ty) pair.prop in_own)
 
-module _ (basis : Basis) (is : IsBasis basis) (state : State) (s : SetId) (entity : Entity) (region : Region) (among : Contains (regions_of basis s) region)
-    (links : List Hosted) (holds : Holds basis region entity links) (part : AssocId → Bool → PropId → Value) (has_told : HasToldLinks basis state s entity region part) where
+module _ (basis : Basis) (is : IsBasis basis) (held : HeldEntity basis) (part : AssocId → Bool → PropId → Value)
+    (has_told : HasToldLinks basis held.state held.s held.entity held.region part) where
   abbrev values : Valuation
-  values = by_entity basis.schema.model entity part
+  values = by_entity basis.schema.model held.entity part
 
   abbrev key : List Value
-  key = key_of basis.schema.model entity
+  key = key_of basis.schema.model held.entity
 
   abbrev own_writings : List SymbolWriting
-  own_writings = map fragment_writing (fragments_of basis region)
+  own_writings = map fragment_writing (fragments_of basis held.region)
 
   abbrev linked_hosts : List Host
-  linked_hosts = filter (λ host. is_linked basis region.linked host.assoc) (basis.hosts region.set)
+  linked_hosts = filter (λ host. is_linked basis held.region.linked host.assoc) (basis.hosts held.region.set)
 
   abbrev hosted_writings : List SymbolWriting
   hosted_writings = flat_map (host_writings basis) linked_hosts
 
   -- what the entity writes by a fragment of its set
-  entity_listed : (writing : Writing) → WritesEntity basis state s entity writing → IsListed values (region_writings basis region) writing
+  entity_listed : (writing : Writing) → WritesEntity basis held.state held.s held.entity writing → IsListed values (region_writings basis held.region) writing
   entity_listed writing by =
       let fragment : Fragment = by.fragment in
-      let chosen : Fragment → Bool = λ one. (one.set.index == region.set.index) && selects_region basis region one in
-      let same_set : (fragment.set.index == region.set.index) ≡ true =
-      (Decides-eqb fragment.set.index region.set.index).1 (ap (λ (one : SetId). one.index) (by.of_set ∙ sym (set_is basis s region among))) in
-      let selects : selects_region basis region fragment ≡ true =
-      (Decides-selected basis is fragment by.writes.mapped s region among entity links holds).1 by.writes.selected in (
+      let chosen : Fragment → Bool = λ one. (one.set.index == held.region.set.index) && selects_region basis held.region one in
+      let same_set : (fragment.set.index == held.region.set.index) ≡ true =
+      (Decides-eqb fragment.set.index held.region.set.index).1 (ap (λ (one : SetId). one.index) (by.of_set ∙ sym (set_is basis held.s held.region held.of_region.listed))) in
+      let selects : selects_region basis held.region fragment ≡ true =
+      (Decides-selected basis is fragment by.writes.mapped (holding_of basis held)).1 by.writes.selected in (
         fragment_writing fragment,
         Contains-append_left own_writings hosted_writings (fragment_writing fragment)
-            (contains_map fragment_writing (fragments_of basis region) fragment
+            (contains_map fragment_writing (fragments_of basis held.region) fragment
             (contains_filter chosen basis.schema.mapping.fragments fragment by.writes.mapped (λ k. same_set k && selects k))),
-        record { table = ap (λ (one : Writing). one.table) by.is; cells = ap given_cells by.is ∙ entity_concrete basis.schema.model fragment entity part },
+        record { table = ap (λ (one : Writing). one.table) by.is; cells = ap given_cells by.is ∙ entity_concrete basis.schema.model fragment held.entity part },
       )
 
   -- a link that the entity hosts is flagged, and the values tell both its keys
-  module _ (writing : Writing) (by : WritesHosted basis state s entity writing) where
+  module _ (writing : Writing) (by : WritesHosted basis held.state held.s held.entity writing) where
     abbrev host : Host
     host = by.host
 
@@ -139,11 +139,11 @@ module _ (basis : Basis) (is : IsBasis basis) (state : State) (s : SetId) (entit
     at_host : At basis.schema.model.assocs host.assoc.index by.assoc
     at_host = let P : AssocId → Type 0 = λ a. At basis.schema.model.assocs a.index by.assoc in subst P by.of_assoc by.writes.is_assoc
 
-    here : Contains (links_at state host key) by.link
-    here = contains_filter (λ (link : Link). same_key (host_key host.first_hosts link) key) (links_in state host.assoc) by.link
-        (subst (λ a. Contains (links_in state a) by.link) by.of_assoc by.writes.stands) ((Decides-key (host_key host.first_hosts by.link) key).1 by.at_key)
+    here : Contains (links_at held.state host key) by.link
+    here = contains_filter (λ (link : Link). same_key (host_key host.first_hosts link) key) (links_in held.state host.assoc) by.link
+        (subst (λ a. Contains (links_in held.state a) by.link) by.of_assoc by.writes.stands) ((Decides-key (host_key host.first_hosts by.link) key).1 by.at_key)
 
-    linked : Contains region.linked host.assoc
+    linked : Contains held.region.linked host.assoc
     linked = has_told.flagged host by.hosts by.link here
 
     abbrev TellsOwn : Bool → Pair → Type 0
@@ -156,9 +156,9 @@ module _ (basis : Basis) (is : IsBasis basis) (state : State) (s : SetId) (entit
     own_told : All (TellsOwn host.first_hosts) (pairs_at host.first_hosts by.fragment)
     own_told = all_from_members (TellsOwn host.first_hosts) (pairs_at host.first_hosts by.fragment) (λ pair has.
         let end : TypeId = (host_end host.first_hosts by.assoc).ty in
-        let under : IsA basis.schema.model entity.ty end = (is.types.tells entity.ty end).0
-        (subst (λ t. IsTrue (basis.is_a t end)) (sym holds.typed) (may_host basis is s region among host by.hosts linked by.assoc at_host)) in
-        own_part basis is by.fragment by.writes.mapped by.assoc by.writes.is_assoc entity host.first_hosts under pair has
+        let under : IsA basis.schema.model held.entity.ty end = (is.types.tells held.entity.ty end).0
+        (subst (λ t. IsTrue (basis.is_a t end)) (sym held.of_region.holds.typed) (may_host basis is held.s held.region held.of_region.listed host by.hosts linked by.assoc at_host)) in
+        own_part basis is by.fragment by.writes.mapped by.assoc by.writes.is_assoc held.entity host.first_hosts under pair has
         ∙ ap (value_beside pair.prop (key_props basis.schema.model end)) (sym by.at_key))
 
     other_told : All (TellsOther host.first_hosts) (pairs_beyond host.first_hosts by.fragment)
@@ -178,10 +178,10 @@ module _ (basis : Basis) (is : IsBasis basis) (state : State) (s : SetId) (entit
         link_concrete basis.schema.model by.fragment by.assoc by.link values host.first_hosts partner_hosts both.0 both.1
 
     -- so what it writes is listed
-    hosted_listed : IsListed values (region_writings basis region) writing
+    hosted_listed : IsListed values (region_writings basis held.region) writing
     hosted_listed =
-        let among_hosts : Contains linked_hosts host = contains_filter (λ (one : Host). is_linked basis region.linked one.assoc) (basis.hosts region.set) host
-        (subst (λ u. Contains (basis.hosts u) host) (sym (set_is basis s region among)) by.hosts) ((linked_decided basis region.linked host.assoc).1 linked) in
+        let among_hosts : Contains linked_hosts host = contains_filter (λ (one : Host). is_linked basis held.region.linked one.assoc) (basis.hosts held.region.set) host
+        (subst (λ u. Contains (basis.hosts u) host) (sym (set_is basis held.s held.region held.of_region.listed)) by.hosts) ((linked_decided basis held.region.linked host.assoc).1 linked) in
         let among_fragments : Contains (link_fragments_of basis host.assoc) by.fragment =
         contains_filter (λ (one : LinkFragment). one.assoc.index == host.assoc.index) basis.schema.mapping.links by.fragment by.writes.mapped
         ((Decides-assoc by.fragment.assoc host.assoc).1 by.of_assoc) in (
@@ -192,17 +192,17 @@ module _ (basis : Basis) (is : IsBasis basis) (state : State) (s : SetId) (entit
         )
 
   -- and so is all that is written at the entity
-  writing_listed : (writing : Writing) → IsWritingAt basis state s entity writing → IsListed values (region_writings basis region) writing
+  writing_listed : (writing : Writing) → IsWritingAt basis held.state held.s held.entity writing → IsListed values (region_writings basis held.region) writing
   writing_listed writing (inl by) = entity_listed writing by
   writing_listed writing (inr by) = hosted_listed writing by
 
   -- each value that a cell of the entity's row is to hold is that of a symbol which the pattern lists there
-  pub demanded_listed : IsLegal basis.schema.model state → (t : TableId) (pairing : List Pair) → IsOwned basis.schema t s pairing → (row_key : List Value)
-      → StandsAt basis.schema state s pairing row_key entity → (c : ColId) (value : Value) → DemandsCell basis.schema state t row_key c value
-      → ListsValue (pattern_of basis (focus.Entity region)) values t c value
-  demanded_listed legal t pairing owned row_key at c value demands =
-      let own = (row_writings basis is t s pairing owned state legal entity row_key at demands.0).0 demands.1 in
-      let has : HasSymbol values (region_writings basis region) demands.0.table c value =
-      gives_symbol values (region_writings basis region) demands.0 (writing_listed demands.0 own.1) c value (gives_cell demands.0 c value demands.2) in
-      let H : TableId → Type 0 = λ u. HasSymbol values (region_writings basis region) u c value in
-      (has_symbol basis is values (focus.Entity region) t c value).0 (subst H own.0 has)
+  pub demanded_listed : (t : TableId) (row_key : List Value) → IsAtRow basis held.state held.s held.entity t row_key → (c : ColId) (value : Value)
+      → DemandsCell basis.schema held.state t row_key c value
+      → ListsValue (pattern_of basis (focus.Entity held.region)) (by_entity basis.schema.model held.entity part) t c value
+  demanded_listed t row_key at c value demands =
+      let own = (row_writings basis is (standing_of basis held) t row_key at demands.0).0 demands.1 in
+      let has : HasSymbol values (region_writings basis held.region) demands.0.table c value =
+      gives_symbol values (region_writings basis held.region) demands.0 (writing_listed demands.0 own.1) c value (gives_cell demands.0 c value demands.2) in
+      let H : TableId → Type 0 = λ u. HasSymbol values (region_writings basis held.region) u c value in
+      (has_symbol basis is values (focus.Entity held.region) t c value).0 (subst H own.0 has)

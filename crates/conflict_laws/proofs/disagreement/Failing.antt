@@ -12,44 +12,45 @@ use Rattle.schema_laws.specs.sound_demand.Fragments.{IsHostedFragment, IsOwnedFr
 use Rattle.schema_laws.specs.sound_demand.Made.{tables_for}
 use Rattle.schema_laws.proofs.sound_demand.tuples.Disagreeing.{fails_at_entities, tuples_of_hosts}
 use Rattle.schema_laws.proofs.sound_demand.Kept.{clash_shown, tables_there}
-use Rattle.cells.specs.Limits.{IsWithinLimits}
 use Rattle.regions.specs.declared.region.Region.{Region}
 use Rattle.regions.specs.declared.pattern.Focus.TheVariants as focus
-use Rattle.regions.specs.declared.pattern.PatternRow.{PatternRow}
 use Rattle.regions.specs.Basis.{Basis, Host}
 use Rattle.regions.specs.Patterns.{Valuation, pattern_of}
 use Rattle.regions.specs.Regions.{regions_of}
 use Rattle.regions.specs.Shown.{shows_link_row, shows_row}
 use Rattle.regions.specs.Symbols.{is_linked, selects_region}
-use Rattle.regions.specs.region_laws.IsBasis.{IsBasis}
-use Rattle.regions.specs.region_laws.pattern.Described.{HasNoClashes}
+use Rattle.regions.specs.region_laws.Held.{IsHeldAt, LinkedEntity}
 use Rattle.regions.proofs.region_laws.pattern.types.Regions.{parts_of}
-use Rattle.region_states.specs.focus.Held.{HasRow, IsHeldAt}
+use Rattle.regions.specs.region_laws.pattern.Allowed.{RegionValues}
+use Rattle.region_states.specs.focus.Held.{HasRow}
 use Rattle.region_states.proofs.focus.Listed.{row_owned}
 use Rattle.region_states.specs.defaults.Admissible.{IsAdmissible}
 use Rattle.region_states.specs.defaults.Defaults.{default_valuation}
 use Rattle.region_states.proofs.defaults.Defaults.{default_admissible}
 use Rattle.region_states.specs.conflicts.Conflicts.{IsConflictAt, TellsOfSet, is_fact, kind_of}
 use Rattle.region_states.specs.conflicts.Facts.{differ, differs_at, differs_at_links, is_hosted, shows_link_pattern, shows_pattern}
-use Rattle.region_states.specs.conflicts.There.{FailsThere, NoneFailsBy}
+use Rattle.region_states.specs.conflicts.There.{FailsThere}
 use Rattle.region_states.specs.declared.conflicts.conflict.Conflict.{Conflict}
 use Rattle.region_states.specs.declared.conflicts.conflict.Conflict.TheVariants as conflict
-use Rattle.conflict_laws.proofs.clash.Clear.{row_clear}
+use Rattle.conflict_laws.proofs.clash.Clear.{region_clear}
 use Rattle.region_states.specs.Entities.{focus_entity}
-use Rattle.region_states.specs.Hosting.{HoldsFocus, HostsFocuses}
+use Rattle.region_states.specs.Hosting.{HoldsFocus}
 use Rattle.region_states.proofs.Held.{focus_held}
 use Rattle.conflict_laws.proofs.disagreement.Differing.{entity_only, host_only, row_there}
 use Rattle.conflict_laws.proofs.disagreement.OneOnly.{one_is_so}
 use Rattle.conflict_laws.proofs.disagreement.PatternRows.{linked_row, selected_row, shown_row}
 use Rattle.conflict_laws.proofs.disagreement.Deciding.{Decides-disagrees, Decides-hosted, SomeDiffers, SomeLinksDiffer}
+use Rattle.conflict_laws.specs.States.{ClearStates}
+use Rattle.conflict_laws.specs.rival.Alike.{IsClear}
+use Rattle.conflict_laws.specs.Told.{DifferingFragment}
 
-module _ (basis : Basis) (is : IsBasis basis) (limits : IsWithinLimits basis.schema) (state : Region → Valuation → State) (hosts : HostsFocuses basis 0 state)
-    (none : NoneFailsBy basis.schema kind.Clash) where
+module _ (basis : Basis) (states : ClearStates basis) where
   -- no legal state clashes, and so each has tables
   pub stored : (c : State) → IsLegal basis.schema.model c → IsStoredIn basis.schema c (tables_for basis.schema c)
   stored c legal = record {
     legal = legal;
-    are = tables_there basis.schema is.sound c (clash_shown basis.schema is.sound c (λ place clashes. none place c c (record { legal = legal; fails = clashes })));
+    are = tables_there basis.schema states.given.is_basis.sound c (clash_shown basis.schema states.given.is_basis.sound c
+        (λ place clashes. states.no_clash place c c (record { legal = legal; fails = clashes })));
   }
 
   module _ (s : SetId) (region : Region) (has : Contains (regions_of basis s) region) where
@@ -57,7 +58,7 @@ module _ (basis : Basis) (is : IsBasis basis) (limits : IsWithinLimits basis.sch
     values = default_valuation basis 0 region
 
     abbrev c : State
-    c = state region values
+    c = states.given.state region values
 
     abbrev tables : Tables
     tables = tables_for basis.schema c
@@ -67,28 +68,34 @@ module _ (basis : Basis) (is : IsBasis basis) (limits : IsWithinLimits basis.sch
 
     -- the usual values are admissible, so the state holds the entity
     admissible : IsAdmissible basis 0 region values
-    admissible = default_admissible basis is limits s region has 0 (omega arith)
+    admissible = default_admissible basis states.given.is_basis states.given.limits s region has 0 (omega arith)
+
+    abbrev at_values : RegionValues basis
+    at_values = record { s = s; region = region; listed = has; values = values }
 
     holds : HoldsFocus basis region values c
-    holds = hosts.holds s region has values admissible
+    holds = states.given.hosts.holds at_values admissible
 
     -- and the region holds it with its partners
     held : IsHeldAt basis c s entity region values.part
-    held = focus_held basis is s region has values admissible.allowed c holds
+    held = focus_held basis states.given.is_basis at_values admissible.allowed c holds
+
+    abbrev linked : LinkedEntity basis
+    linked = record { state = c; legal = holds.legal; s = s; entity = entity; region = region; part = values.part; held = held }
 
     in_tables : IsStoredIn basis.schema c tables
     in_tables = stored c holds.legal
 
     -- no row of the pattern clashes
-    clear : (row : PatternRow) → Contains (pattern_of basis (focus.Entity region)).rows row → HasNoClashes basis.schema.model region.atoms row
-    clear = row_clear basis is limits state hosts none s region has
+    clear : IsClear basis region
+    clear = region_clear basis states s region has
 
     -- the set owns the table of each row of the pattern
     abbrev IsOwnedTable : TableId → Type 0
     IsOwnedTable t = (table : Table) × (pairing : List Pair) × At basis.schema.store.tables t.index table × IsOwned basis.schema t s pairing
 
     owned_table : (t : TableId) → HasRow (pattern_of basis (focus.Entity region)) t → IsOwnedTable t
-    owned_table t row = subst IsOwnedTable row.2 (row_owned basis is s region has row.0 row.1)
+    owned_table t row = subst IsOwnedTable row.2 (row_owned basis states.given.is_basis s region has row.0 row.1)
 
     module _ (fragment : Fragment) (mapped : Contains basis.schema.mapping.fragments fragment) (told : IsTrue (differs_at basis region fragment)) where
       abbrev selected : Bool
@@ -107,7 +114,7 @@ module _ (basis : Basis) (is : IsBasis basis) (limits : IsWithinLimits basis.sch
       -- in both cases its table has a row
       has_row : HasRow (pattern_of basis (focus.Entity region)) fragment.table
       has_row = ⊎_elim
-          (λ (so : IsTrue selected). selected_row basis is region fragment mapped of_region so)
+          (λ (so : IsTrue selected). selected_row basis states.given.is_basis region fragment mapped of_region so)
           (λ (so : IsTrue shown). shown_row basis (focus.Entity region) fragment.table (shows_row basis.schema.model region.atoms fragment) so)
           (one_is_so selected shown apart.1)
 
@@ -116,15 +123,16 @@ module _ (basis : Basis) (is : IsBasis basis) (limits : IsWithinLimits basis.sch
       disagrees =
           let at = owned_table fragment.table has_row in
           let to : IsOwnedFragment basis.schema s at.1 fragment at.0 = record { mapped = mapped; is_table = at.2; owned = at.3 } in
-          let row = row_there basis is c tables in_tables s entity region values.part held clear at.1 fragment.table at.0 at.2 at.3 has_row in
-          let only = entity_only basis is c tables in_tables s entity region values.part held clear at.1 fragment at.0 to row.0 row.1 apart.1 in
-          fails_at_entities basis.schema is.sound c tables in_tables s at.1 fragment at.0 to row.0 entity
+          let row = row_there basis states.given.is_basis linked tables in_tables clear at.1 fragment.table at.0 at.2 at.3 has_row in
+          let only = entity_only basis states.given.is_basis linked tables in_tables clear at.1 fragment at.0 to row.0 row.1 apart.1 in
+          fails_at_entities basis.schema states.given.is_basis.sound c tables in_tables s at.1 fragment at.0 to row.0 entity
           (record { has_row = row.1.among; stands = row.1.at; one_only = only })
 
       -- so the state fails there
-      pub fails : (d : State) → FailsAt basis.schema kind.Disagrees
-          (place_at fragment.place (key_of basis.schema.model (focus_entity basis region (default_valuation basis 0 region))) []) (state region (default_valuation basis 0 region)) d
-      fails d = record { legal = holds.legal; fails = disagrees }
+      fails_in : (d : State) → FailsAt basis.schema kind.Disagrees
+          (place_at fragment.place (key_of basis.schema.model (focus_entity basis region (default_valuation basis 0 region))) [])
+          (states.given.state region (default_valuation basis 0 region)) d
+      fails_in d = record { legal = holds.legal; fails = disagrees }
 
       -- and that is a failure of the set
       fragment_there : FailsThere basis s kind.Disagrees
@@ -153,7 +161,7 @@ module _ (basis : Basis) (is : IsBasis basis) (limits : IsWithinLimits basis.sch
       -- in both cases the table has a row
       has_link_row : HasRow (pattern_of basis (focus.Entity region)) fragment.table
       has_link_row = ⊎_elim
-          (λ (so : IsTrue flagged). linked_row basis is region host_of.0 host_of.1 fragment mapped host_of.2 so)
+          (λ (so : IsTrue flagged). linked_row basis states.given.is_basis region host_of.0 host_of.1 fragment mapped host_of.2 so)
           (λ (so : IsTrue link_shown). shown_row basis (focus.Entity region) fragment.table (shows_link_row basis.schema.model region.atoms fragment) so)
           (one_is_so flagged link_shown links_apart.1)
 
@@ -161,13 +169,13 @@ module _ (basis : Basis) (is : IsBasis basis) (limits : IsWithinLimits basis.sch
       link_fragment_there : FailsThere basis s kind.Disagrees
       link_fragment_there =
           let at = owned_table fragment.table has_link_row in
-          let assoc = assoc_of basis.schema is.sound fragment mapped in
+          let assoc = assoc_of basis.schema states.given.is_basis.sound fragment mapped in
           let to : IsHostedFragment basis.schema s at.1 assoc.0 fragment at.0 = record {
             to = record { mapped = mapped; is_table = at.2; is_assoc = assoc.1 };
             owned = at.3;
           } in
-          let row = row_there basis is c tables in_tables s entity region values.part held clear at.1 fragment.table at.0 at.2 at.3 has_link_row in
-          let only = host_only basis is c tables in_tables s entity region values.part held clear at.1 assoc.0 fragment at.0 to row.0 row.1 links_apart.1 in
+          let row = row_there basis states.given.is_basis linked tables in_tables clear at.1 fragment.table at.0 at.2 at.3 has_link_row in
+          let only = host_only basis states.given.is_basis linked tables in_tables clear at.1 assoc.0 fragment at.0 to row.0 row.1 links_apart.1 in
           let keys = keys_in_row basis.schema assoc.0 fragment row.0 in
           let hosts_here : Contains (basis.hosts s) host_of.0 = subst (λ u. Contains (basis.hosts u) host_of.0) (parts_of basis s region has).of_set host_of.1 in
           record {
@@ -176,11 +184,16 @@ module _ (basis : Basis) (is : IsBasis basis) (limits : IsWithinLimits basis.sch
             d = c;
             legal = holds.legal;
             fails = (
-              (tuples_of_hosts basis.schema is.sound c tables in_tables s at.1 assoc.0 fragment at.0 to).fails row.0 entity
+              (tuples_of_hosts basis.schema states.given.is_basis.sound c tables in_tables s at.1 assoc.0 fragment at.0 to).fails row.0 entity
                   (record { has_row = row.1.among; stands = row.1.at; one_only = only }),
               inr (fragment, host_of.0, keys, mapped, hosts_here, host_of.2, refl),
             );
           }
+
+  pub fails : (at : DifferingFragment basis) (d : State) → FailsAt basis.schema kind.Disagrees
+      (place_at at.fragment.place (key_of basis.schema.model (focus_entity basis at.region (default_valuation basis 0 at.region))) [])
+      (states.given.state at.region (default_valuation basis 0 at.region)) d
+  fails at = fails_in at.s at.region at.listed at.fragment at.mapped at.differs
 
   -- so a conflict of this kind is a failure of the set
   pub there : (s : SetId) (one : Conflict) → IsConflictAt basis s kind.Disagrees one → FailsThere basis s kind.Disagrees

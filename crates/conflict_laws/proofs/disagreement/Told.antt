@@ -13,37 +13,32 @@ use Rattle.schema_laws.specs.sound_demand.Fragments.{IsHostedFragment, IsOwnedFr
 use Rattle.schema_laws.proofs.sound_demand.tuples.Disagreeing.{tuples_of_entities, tuples_of_hosts}
 use Rattle.schema_laws.proofs.sound_demand.Fitting.{link_ids, sound_fragment}
 use Rattle.schema_laws.proofs.sound_demand.owners.Owned.{owned}
-use Rattle.cells.specs.Limits.{IsWithinLimits}
 use Rattle.regions.specs.declared.region.Region.{Region}
 use Rattle.regions.specs.declared.pattern.Focus.TheVariants as focus
-use Rattle.regions.specs.declared.pattern.PatternRow.{PatternRow}
 use Rattle.regions.specs.Basis.{Basis, Host}
-use Rattle.regions.specs.Patterns.{Valuation, pattern_of}
 use Rattle.regions.specs.Regions.{regions_of}
 use Rattle.regions.specs.Symbols.{is_linked, selects_region}
-use Rattle.regions.specs.region_laws.IsBasis.{IsBasis}
 use Rattle.regions.specs.region_laws.Partners.{HasFewPartners, part_by}
 use Rattle.regions.specs.region_laws.pattern.Allowed.{end_at}
-use Rattle.regions.specs.region_laws.pattern.Described.{HasNoClashes}
+use Rattle.regions.specs.region_laws.Held.{IsHeldAt, LinkedEntity}
 use Rattle.regions.proofs.region_laws.pattern.symbols.Hosting.{assoc_here, host_set, hosted_side, the_assoc}
 use Rattle.regions.proofs.region_laws.pattern.symbols.Origins.{side}
 use Rattle.regions.proofs.region_laws.pattern.types.Regions.{parts_of}
 use Rattle.region_states.specs.focus.Agreeing.{IsRowOfEntity}
-use Rattle.region_states.specs.focus.Held.{IsHeldAt}
 use Rattle.region_states.proofs.focus.Flags.{held_at, some_region}
 use Rattle.region_states.specs.conflicts.Conflicts.{IsConflictAt}
 use Rattle.region_states.specs.conflicts.Facts.{differ, is_hosted, shows_link_pattern, shows_pattern}
-use Rattle.region_states.specs.conflicts.There.{FailsThere, IsAtFragment, NoneFailsBy}
+use Rattle.region_states.specs.conflicts.There.{FailsThere, IsAtFragment}
 use Rattle.region_states.specs.declared.conflicts.conflict.Conflict.{Conflict}
 use Rattle.region_states.specs.declared.conflicts.conflict.Conflict.TheVariants as conflict
-use Rattle.conflict_laws.proofs.clash.Clear.{row_clear}
-use Rattle.region_states.specs.Hosting.{HostsFocuses}
+use Rattle.conflict_laws.proofs.clash.Clear.{region_clear}
 use Rattle.conflict_laws.proofs.disagreement.Deciding.{Decides-disagrees, Decides-hosted, SomeDiffers, SomeLinksDiffer}
 use Rattle.conflict_laws.proofs.disagreement.Differing.{entity_differs, host_differs}
 use Rattle.conflict_laws.proofs.disagreement.Places.{no_fragment, one_fragment, one_link_fragment}
+use Rattle.conflict_laws.specs.States.{ClearStates}
+use Rattle.conflict_laws.specs.rival.Alike.{IsClear}
 
-module _ (basis : Basis) (is : IsBasis basis) (limits : IsWithinLimits basis.schema) (state : Region → Valuation → State) (hosts : HostsFocuses basis 0 state)
-    (none : NoneFailsBy basis.schema kind.Clash) (s : SetId) (few : HasFewPartners basis s) where
+module _ (basis : Basis) (states : ClearStates basis) (s : SetId) (few : HasFewPartners basis s) where
   abbrev SomeConflict : Type 0
   SomeConflict = (one : Conflict) × IsConflictAt basis s kind.Disagrees one
 
@@ -59,25 +54,36 @@ module _ (basis : Basis) (is : IsBasis basis) (limits : IsWithinLimits basis.sch
     record HeldBy (entity : Entity) : Type 0 where
       region : Region
       held : IsHeldAt basis c s entity region (part_by basis c s (key_of basis.schema.model entity))
-      clear : (row : PatternRow) → Contains (pattern_of basis (focus.Entity region)).rows row → HasNoClashes basis.schema.model region.atoms row
+      clear : IsClear basis region
+
+    abbrev linked_by : (entity : Entity) → HeldBy entity → LinkedEntity basis
+    linked_by entity of = record {
+      state = c;
+      legal = legal;
+      s = s;
+      entity = entity;
+      region = of.region;
+      part = part_by basis c s (key_of basis.schema.model entity);
+      held = of.held;
+    }
 
     -- there is one
     held_by : (t : TableId) (pairing : List Pair) → IsOwned basis.schema t s pairing → (entity : Entity) → Contains (entities_in c s) entity → HeldBy entity
     held_by t pairing own entity stands =
-        let found = some_region basis is c legal s own.set own.is_set entity stands in
+        let found = some_region basis states.given.is_basis (record { state = c; legal = legal; s = s; entity = entity; stands = stands }) in
         record {
           region = found.0;
-          held = held_at basis is c legal s entity found.0 found.1 few;
-          clear = row_clear basis is limits state hosts none s found.0 found.1.listed;
+          held = held_at basis states.given.is_basis (record { state = c; legal = legal; s = s; entity = entity; region = found.0; of_region = found.1 }) few;
+          clear = region_clear basis states s found.0 found.1.listed;
         }
 
     module _ (fragment : Fragment) (mapped : Contains basis.schema.mapping.fragments fragment) (of_set : fragment.set ≡ s) where
       the_table : (table : Table) × At basis.schema.store.tables fragment.table.index table
-      the_table = item_at basis.schema.store.tables fragment.table.index (sound_fragment basis.schema is.sound fragment mapped).ids.table
+      the_table = item_at basis.schema.store.tables fragment.table.index (sound_fragment basis.schema states.given.is_basis.sound fragment mapped).ids.table
 
       -- the set owns the fragment's table
       the_owner : (pairing : List Pair) × IsOwned basis.schema fragment.table s pairing
-      the_owner = owned basis.schema is.sound fragment.table s fragment.pairs
+      the_owner = owned basis.schema states.given.is_basis.sound fragment.table s fragment.pairs
           (inl (record { fragment = fragment; is_fragment = mapped; to_table = refl; of_set = of_set; pairs_are = refl }))
 
       to : IsOwnedFragment basis.schema s the_owner.0 fragment the_table.0
@@ -88,7 +94,7 @@ module _ (basis : Basis) (is : IsBasis basis) (limits : IsWithinLimits basis.sch
       at_entity row entity by =
           let of : HeldBy entity = held_by fragment.table the_owner.0 the_owner.1 entity by.stands.stands in
           let of_entity : IsRowOfEntity basis c tables s the_owner.0 entity fragment.table the_table.0 row = record { among = by.has_row; at = by.stands } in
-          let differs = entity_differs basis is c tables in_tables s entity of.region (part_by basis c s (key_of basis.schema.model entity)) of.held of.clear
+          let differs = entity_differs basis states.given.is_basis (linked_by entity of) tables in_tables of.clear
           the_owner.0 fragment the_table.0 to row of_entity by.one_only in
           let number : fragment.set.index ≡ of.region.set.index = ap (λ (u : SetId). u.index) (of_set ∙ sym (parts_of basis s of.region of.held.listed).of_set) in
           conflict_at of.region of.held.listed fragment.place (inl (
@@ -106,27 +112,27 @@ module _ (basis : Basis) (is : IsBasis basis) (limits : IsWithinLimits basis.sch
       of_fragment : (tuple : List Value) → IsInOneOnly (IsWrittenTuple basis.schema c fragment) (IsShownTuple tables fragment) tuple → SomeConflict
       of_fragment tuple only =
           let key = key_in_tuple basis.schema.model (element_of basis.schema.model fragment.set) fragment.pairs tuple in
-          let at = (tuples_of_entities basis.schema is.sound c tables in_tables s the_owner.0 fragment the_table.0 to key).0 (tuple, only, refl) in
+          let at = (tuples_of_entities basis.schema states.given.is_basis.sound c tables in_tables s the_owner.0 fragment the_table.0 to key).0 (tuple, only, refl) in
           at_entity at.0 at.1 at.2
 
     module _ (fragment : LinkFragment) (mapped : Contains basis.schema.mapping.links fragment) (host : Host) (is_host : Contains (basis.hosts s) host)
         (of_assoc : fragment.assoc ≡ host.assoc) (assoc : Assoc) (here : At basis.schema.model.assocs fragment.assoc.index assoc) where
       link_table : (table : Table) × At basis.schema.store.tables fragment.table.index table
-      link_table = item_at basis.schema.store.tables fragment.table.index (link_ids basis.schema is.sound fragment mapped).table
+      link_table = item_at basis.schema.store.tables fragment.table.index (link_ids basis.schema states.given.is_basis.sound fragment mapped).table
 
-      maps : LinkMaps basis.schema fragment.table fragment (the_assoc basis is fragment mapped)
-      maps = record { is_fragment = mapped; is_assoc = assoc_here basis is fragment mapped; to_table = refl }
+      maps : LinkMaps basis.schema fragment.table fragment (the_assoc basis states.given.is_basis fragment mapped)
+      maps = record { is_fragment = mapped; is_assoc = assoc_here basis states.given.is_basis fragment mapped; to_table = refl }
 
       -- the host's end writes the table's primary key
-      owns : (b : Bool) → IsHostedAt basis.schema fragment.table (side b fragment) → (end_at b (the_assoc basis is fragment mapped)).set ≡ s
+      owns : (b : Bool) → IsHostedAt basis.schema fragment.table (side b fragment) → (end_at b (the_assoc basis states.given.is_basis fragment mapped)).set ≡ s
           → Owns basis.schema fragment.table s (side b fragment)
-      owns true hosted at_set = inr (fragment, the_assoc basis is fragment mapped, maps, inl (hosted, at_set, refl))
-      owns false hosted at_set = inr (fragment, the_assoc basis is fragment mapped, maps, inr (hosted, at_set, refl))
+      owns true hosted at_set = inr (fragment, the_assoc basis states.given.is_basis fragment mapped, maps, inl (hosted, at_set, refl))
+      owns false hosted at_set = inr (fragment, the_assoc basis states.given.is_basis fragment mapped, maps, inr (hosted, at_set, refl))
 
       -- the set owns the link fragment's table
       link_owner : (pairing : List Pair) × IsOwned basis.schema fragment.table s pairing
-      link_owner = owned basis.schema is.sound fragment.table s (side host.first_hosts fragment)
-          (owns host.first_hosts (hosted_side basis is fragment mapped s host is_host of_assoc) (host_set basis is fragment mapped s host is_host of_assoc))
+      link_owner = owned basis.schema states.given.is_basis.sound fragment.table s (side host.first_hosts fragment)
+          (owns host.first_hosts (hosted_side basis states.given.is_basis fragment mapped s host is_host of_assoc) (host_set basis states.given.is_basis fragment mapped s host is_host of_assoc))
 
       link_to : IsHostedFragment basis.schema s link_owner.0 assoc fragment link_table.0
       link_to = record { to = record { mapped = mapped; is_table = link_table.1; is_assoc = here }; owned = link_owner.1 }
@@ -136,7 +142,7 @@ module _ (basis : Basis) (is : IsBasis basis) (limits : IsWithinLimits basis.sch
       at_host row entity by =
           let of : HeldBy entity = held_by fragment.table link_owner.0 link_owner.1 entity by.stands.stands in
           let of_entity : IsRowOfEntity basis c tables s link_owner.0 entity fragment.table link_table.0 row = record { among = by.has_row; at = by.stands } in
-          let differs = host_differs basis is c tables in_tables s entity of.region (part_by basis c s (key_of basis.schema.model entity)) of.held of.clear
+          let differs = host_differs basis states.given.is_basis (linked_by entity of) tables in_tables of.clear
           link_owner.0 assoc fragment link_table.0 link_to row of_entity by.one_only in
           let hosts_it : Contains (basis.hosts of.region.set) host =
           subst (λ u. Contains (basis.hosts u) host) (sym (parts_of basis s of.region of.held.listed).of_set) is_host in
@@ -155,7 +161,7 @@ module _ (basis : Basis) (is : IsBasis basis) (limits : IsWithinLimits basis.sch
       of_link_fragment : (tuple : List Value) → IsInOneOnly (IsWrittenLinkTuple basis.schema c fragment) (IsShownLinkTuple tables fragment) tuple → SomeConflict
       of_link_fragment tuple only =
           let keys = keys_in_tuple basis.schema.model assoc fragment tuple in
-          let at = ((tuples_of_hosts basis.schema is.sound c tables in_tables s link_owner.0 assoc fragment link_table.0 link_to).keys keys).0 (tuple, only, refl) in
+          let at = ((tuples_of_hosts basis.schema states.given.is_basis.sound c tables in_tables s link_owner.0 assoc fragment link_table.0 link_to).keys keys).0 (tuple, only, refl) in
           at_host at.0 at.1 at.2
 
   module _ (fails : FailsThere basis s kind.Disagrees) where
@@ -188,14 +194,14 @@ module _ (basis : Basis) (is : IsBasis basis) (limits : IsWithinLimits basis.sch
     -- so the fragment that disagrees is the one at whose place it does
     told_by : ByFragment ⊎ ByLinkFragment → IsAtFragment basis s fails.place → SomeConflict
     told_by (inl (fragment, mapped, only, at)) (inl (other, key, there, of_set, at_other)) =
-        let same : fragment ≡ other = one_fragment basis.schema is.sound fragment other mapped there (one_name fragment.place other.place (key_in fragment) key at at_other) in
+        let same : fragment ≡ other = one_fragment basis.schema states.given.is_basis.sound fragment other mapped there (one_name fragment.place other.place (key_in fragment) key at at_other) in
         of_fragment fails.c fails.legal disagrees.tables in_tables fragment mapped (ap (λ (one : Fragment). one.set) same ∙ of_set) disagrees.tuple only
     told_by (inl (fragment, mapped, only, at)) (inr (other, host, key, there, is_host, of_assoc, at_other)) =
-        absurd (no_fragment basis.schema is.sound fragment other mapped there (one_name fragment.place other.place (key_in fragment) key at at_other))
+        absurd (no_fragment basis.schema states.given.is_basis.sound fragment other mapped there (one_name fragment.place other.place (key_in fragment) key at at_other))
     told_by (inr (fragment, assoc, mapped, here, only, at)) (inl (other, key, there, of_set, at_other)) =
-        absurd (no_fragment basis.schema is.sound other fragment there mapped (one_name other.place fragment.place key (keys_in assoc fragment) at_other at))
+        absurd (no_fragment basis.schema states.given.is_basis.sound other fragment there mapped (one_name other.place fragment.place key (keys_in assoc fragment) at_other at))
     told_by (inr (fragment, assoc, mapped, here, only, at)) (inr (other, host, key, there, is_host, of_assoc, at_other)) =
-        let same : fragment ≡ other = one_link_fragment basis.schema is.sound fragment other mapped there
+        let same : fragment ≡ other = one_link_fragment basis.schema states.given.is_basis.sound fragment other mapped there
         (one_name fragment.place other.place (keys_in assoc fragment) key at at_other) in
         of_link_fragment fails.c fails.legal disagrees.tables in_tables fragment mapped host is_host (ap (λ (one : LinkFragment). one.assoc) same ∙ of_assoc) assoc here
         disagrees.tuple only

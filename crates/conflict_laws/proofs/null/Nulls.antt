@@ -105,4 +105,9 @@ module _ (basis : Basis) (is : IsBasis basis) where
       let found = null_of_nullable basis.schema.model region.atoms one several in
       ap (value_under values) found.2 ∙ several_null region found.0 found.1 found.3 found.4 (subst Several found.2 several))
       (null_or_several can (value_under values one) told
-      (symbol_possible basis is (focus.Entity region) (s, has) values (default_admissible basis is limits s region has 0 (omega arith)).allowed t col one lists))
+      (symbol_possible basis is (record {
+        of = focus.Entity region;
+        is_focus = (s, has);
+        values = values;
+        allowed = (default_admissible basis is limits s region has 0 (omega arith)).allowed;
+      }) t col one lists))

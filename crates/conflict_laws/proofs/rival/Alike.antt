@@ -41,7 +41,7 @@ use Rattle.region_states.proofs.defaults.groups.Classes.{at_class, class_at}
 use Rattle.region_states.proofs.defaults.Listed.{IsTold, found_told, tested_no_key}
 use Rattle.region_states.proofs.defaults.Valued.{Tells, atom_tells}
 use Rattle.region_states.specs.conflicts.SameFacts.{are_compatible}
-use Rattle.conflict_laws.specs.rival.Alike.{AreComparable, AreWrittenAlike, PatternsMatch}
+use Rattle.conflict_laws.specs.rival.Alike.{AreComparable, PatternsMatch, AreTwins}
 use Rattle.conflict_laws.proofs.rival.Atoms.{constant_moves, is_atom, kind_cases, open_atom, plain_class}
 use Rattle.conflict_laws.proofs.rival.Clear.{free_value, known_single, known_value, listed_free}
 use Rattle.conflict_laws.proofs.rival.Linked.{end_too}
@@ -132,8 +132,8 @@ module _ (basis : Basis) (is : IsBasis basis) (s : SetId) (region other : Region
       -- its group is tested
       group_tested : IsTested basis.schema (prop p)
       group_tested =
-          let told : IsTrue (basis.tested (col t c)) = telling_tested basis is (focus.Entity region) (s, comparable.is_one) t c head.0 (cell, has, head.1) stands.free_col.2
-          (telling model region.atoms head.0 v head.2) in
+          let told : IsTrue (basis.tested (col t c)) = telling_tested basis is head.0
+          (record { of = focus.Entity region; t = t; col = c; lists = (cell, has, head.1) }) (s, comparable.is_one) stands.free_col.2 (telling model region.atoms head.0 v head.2) in
           joined_tested basis is (col t c) (prop p) (joined.back (prop p) (col t c) (joined_by basis t c p stands))
           (is_tested basis is (col t c) (free_member basis.schema (col t c) stands.free_col) told)
 
@@ -231,8 +231,7 @@ module _ (basis : Basis) (is : IsBasis basis) (s : SetId) (region other : Region
       (λ (some : v ≢ Null). absurd (never v some settled others allowed one n (only_stands cell_too one told.0) told.2 is_value))
       (value_or_not v Null)
 
-module _ (basis : Basis) (is : IsBasis basis) (s : SetId) (one two : Region) (comparable : AreComparable basis s one two) (values others : Valuation)
-    (allowed : IsAllowed basis one values) (allowed_too : IsAllowed basis two others) (alike : AreWrittenAlike basis one two values others) where
+module _ (basis : Basis) (is : IsBasis basis) (s : SetId) (one two : Region) (values others : Valuation) (twins : AreTwins basis s one two values others) where
   -- cells that hold the same match
   alike_cells : (t : TableId) (c : ColId) (cell other : List Symbol) → HasCell (pattern_of basis (focus.Entity one)) t c cell → HasCell (pattern_of basis (focus.Entity two)) t c other
       → are_compatible (settle basis.schema.model one.atoms cell) (settle basis.schema.model two.atoms other) ≡ true
@@ -241,15 +240,17 @@ module _ (basis : Basis) (is : IsBasis basis) (s : SetId) (one two : Region) (co
       by : (first : Settled) → settle basis.schema.model one.atoms cell ≡ first → (second : Settled) → settle basis.schema.model two.atoms other ≡ second
           → are_compatible first second ≡ true
       by (known v) at (known w) at_other = (Decides-value v w).1
-          (sym (known_value basis one comparable.clear_one t c cell has is s comparable.is_one values allowed v at)
-          ∙ alike.cells t c cell other has has_other
-          ∙ known_value basis two comparable.clear_two t c other has_other is s comparable.is_two others allowed_too w at_other)
-      by (known v) at (free q n) at_other = mixed basis is s one two comparable t c cell other has has_other others allowed_too v at q n at_other
-          (sym (known_value basis one comparable.clear_one t c cell has is s comparable.is_one values allowed v at) ∙ alike.cells t c cell other has has_other)
-      by (free p m) at (known w) at_other = mixed basis is s two one (comparable_back basis s one two comparable) t c other cell has_other has values allowed w at_other p m at
-          (sym (known_value basis two comparable.clear_two t c other has_other is s comparable.is_two others allowed_too w at_other) ∙ sym (alike.cells t c cell other has has_other))
+          (sym (known_value basis one twins.comparable.clear_one t c cell has is s twins.comparable.is_one values twins.allowed v at)
+          ∙ twins.alike.cells t c cell other has has_other
+          ∙ known_value basis two twins.comparable.clear_two t c other has_other is s twins.comparable.is_two others twins.others_allowed w at_other)
+      by (known v) at (free q n) at_other = mixed basis is s one two twins.comparable t c cell other has has_other others twins.others_allowed v at q n at_other
+          (sym (known_value basis one twins.comparable.clear_one t c cell has is s twins.comparable.is_one values twins.allowed v at) ∙ twins.alike.cells t c cell other has has_other)
+      by (free p m) at (known w) at_other =
+          mixed basis is s two one (comparable_back basis s one two twins.comparable) t c other cell has_other has values twins.allowed w at_other p m at
+          (sym (known_value basis two twins.comparable.clear_two t c other has_other is s twins.comparable.is_two others twins.others_allowed w at_other)
+          ∙ sym (twins.alike.cells t c cell other has has_other))
       by (free p m) at (free q n) at_other = refl
 
   -- and so the patterns do
   pub alike_match : PatternsMatch basis one two
-  alike_match = patterns_match basis one two (record { rows = alike.rows; cells = alike_cells })
+  alike_match = patterns_match basis one two (record { rows = twins.alike.rows; cells = alike_cells })

@@ -82,7 +82,8 @@ module _ (basis : Basis) (region : Region) (clear : IsClear basis region) (t : T
     -- the value of a cell is the one that is known
     pub known_value : (v : Value) → settle basis.schema.model region.atoms cell ≡ known v → value_in values cell ≡ v
     known_value v settled =
-        let told = cell_known basis is (focus.Entity region) (s, among) values allowed t c cell has clear_cell v settled in
+        let told = cell_known basis is (record { of = focus.Entity region; is_focus = (s, among); values = values; allowed = allowed })
+        (record { t = t; col = c; cell = cell; has = has }) clear_cell v settled in
         first_value values cell v told.0 told.1
 
     -- or that of the one symbol
@@ -90,7 +91,8 @@ module _ (basis : Basis) (region : Region) (clear : IsClear basis region) (t : T
         → (cell ≡ one ∷ []) × (value_in values cell ≡ value_under values one) × (possible basis.schema.model region.atoms one ≡ multi n)
         × (value_under values one ≡ Null → n ≡ true)
     free_value one n settled =
-        let told = cell_free basis is (focus.Entity region) (s, among) values allowed t c cell has clear_cell one n settled in (
+        let told = cell_free basis is (record { of = focus.Entity region; is_focus = (s, among); values = values; allowed = allowed })
+        (record { t = t; col = c; cell = cell; has = has }) clear_cell one n settled in (
           told.0,
           ap (value_in values) told.0,
           free_several one one (possible basis.schema.model region.atoms one) n

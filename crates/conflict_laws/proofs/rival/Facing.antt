@@ -104,8 +104,9 @@ module _ (basis : Basis) (is : IsBasis basis) where
             let none : atom_at region.atoms p ≡ None = no_atom model region.atoms p (several ∙ ap multi null) in
             let among = listed_prop basis is s region comparable.is_one t c p (listed_from basis is (focus.Entity region) t c (symbol.Prop p) (cell, has, listed)) in
             let untested = lost_untested basis is s region comparable.is_one p among none in
-            let here = untested_once basis is (focus.Entity region) (focus.Entity region) (s, comparable.is_one) (s, comparable.is_one) faces.t t faces.c c p
-            (faces.cell, faces.has, faces.listed) (cell, has, listed) stands.free_prop untested in
+            let here = untested_once basis is p
+            (record { of = focus.Entity region; t = faces.t; col = faces.c; lists = (faces.cell, faces.has, faces.listed) })
+            (record { of = focus.Entity region; t = t; col = c; lists = (cell, has, listed) }) (s, comparable.is_one) (s, comparable.is_one) stands.free_prop untested in
             let Holds : TableId → ColId → Type 0 = λ u d. settle model other.atoms (listed_in (pattern_of basis (focus.Entity other)) u d) ≡ known Null in
             let is_null : Holds t c = subst (Holds t) here.1 (subst (λ u. Holds u faces.c) here.0 faces.null) in
             let never : free q m ≡ known Null = sym settled ∙ ap (settle model other.atoms) (sym (listed_is basis other t c cell_too has_too)) ∙ is_null in
@@ -142,8 +143,8 @@ module _ (basis : Basis) (is : IsBasis basis) where
         -- the primary key's cell is that of the paired property
         pub key_pair : (pairing : List Pair) → IsOwned basis.schema t s pairing → (pair : Pair) → Contains pairing pair → pair.col ≡ c → p ≡ pair.prop
         key_pair pairing own pair paired at_col =
-            let Cell : ColId → Type 0 = λ d. HasCell (pattern_of basis (focus.Entity region)) t d cell in
-            let key : cell ≡ symbol.Prop pair.prop ∷ [] = key_cell basis is s region comparable.is_one t pairing own pair paired cell (subst Cell (sym at_col) has) in
+            let key : cell ≡ symbol.Prop pair.prop ∷ [] = key_cell basis is s region comparable.is_one (record { t = t; col = c; cell = cell; has = has }) pair
+            (record { pairing = pairing; owned = own; paired = paired; at_col = at_col }) in
             let both : symbol.Prop p ∷ [] ≡ symbol.Prop pair.prop ∷ [] = sym alone ∙ key in
             cc
 

@@ -23,7 +23,7 @@ use Rattle.regions.proofs.region_laws.pattern.symbols.Standing.{listed_prop}
 use Rattle.schema_laws.specs.short_values.Fresh.{focus_key, fresh}
 use Rattle.region_states.specs.defaults.Defaults.{changed, declared_value, default_valuation, default_value, value_by}
 use Rattle.schema_laws.specs.short_values.Places.{is_among, place_in}
-use Rattle.region_states.specs.defaults.Admissible.{AreChoices, HasSeveral, IsAdmissible, IsChoice}
+use Rattle.region_states.specs.defaults.Admissible.{AreChoices, IsAdmissible, IsChoice, SeveralOf}
 use Rattle.region_states.proofs.defaults.Changes.{changed_admissible, null_choice}
 use Rattle.region_states.proofs.defaults.Defaults.{default_admissible}
 use Rattle.schema_laws.proofs.short_values.Places.{Decides-among}
@@ -31,11 +31,12 @@ use Rattle.schema_laws.proofs.state_demand.lists.Places.{map_agree}
 use Rattle.region_states.specs.conflicts.SameFacts.{is_multi, is_one_of, lists_anywhere}
 use Rattle.region_states.proofs.Entities.{has_value}
 use Rattle.region_states.specs.Entities.{focus_entity}
-use Rattle.conflict_laws.specs.rival.Alike.{AreComparable, HaveOneKey}
+use Rattle.conflict_laws.specs.rival.Alike.{AreComparable, HaveOneKey, PatternsMatch}
 use Rattle.conflict_laws.specs.rival.RivalValues.{faces_null, first_values, rival_value, second_values, shared_value}
 use Rattle.conflict_laws.proofs.rival.Reading.{anywhere, faces_nullable, faces_told, somewhere}
-use Rattle.conflict_laws.proofs.rival.Rows.{AreMatched}
+use Rattle.conflict_laws.proofs.rival.Rows.{AreMatched, are_matched, matched_back}
 use Rattle.conflict_laws.proofs.rival.Shared.{shared_choice}
+use Rattle.conflict_laws.proofs.rival.Alike.{comparable_back}
 
 -- where there are several
 multi_told : (can : Possible) → is_multi can ≡ true → (n : Bool) × (can ≡ multi n)
@@ -149,23 +150,39 @@ module _ (basis : Basis) (is : IsBasis basis) (s : SetId) (one two : Region) whe
         let among = listed_prop basis is s region comparable.is_one rival.t rival.c p
         (listed_from basis is (focus.Entity region) rival.t rival.c (symbol.Prop p) rival.lists) in
         let above = declared_above basis.schema.model is.sound.model p region.ty among in
-        let several : (declared : Prop) → At basis.schema.model.props p.index declared → HasSeveral basis region p declared n =
-        λ declared here. record { is_declared = here; among = among; no_key = rival.no_key; several = rival.several } in
+        let several : (declared : Prop) → At basis.schema.model.props p.index declared → SeveralOf basis = λ declared here. record {
+          s = s;
+          region = region;
+          listed = comparable.is_one;
+          p = p;
+          declared = declared;
+          nullable = n;
+          several = record { is_declared = here; among = among; no_key = rival.no_key; several = rival.several };
+        } in
         ⊎_elim
         (λ (null : (faces_null basis region other p ≡ true) × (v ≡ Null)). subst (IsChoice basis region p) (sym null.1)
-        (null_choice basis is s region comparable.is_one p above.0 n (several above.0 above.1)
+        (null_choice basis is (several above.0 above.1)
         (faces_nullable basis region other p is comparable.clear_one matched n rival.several (faces_told basis region other p null.0))))
         (λ (shared : (declared : Prop) × At basis.schema.model.props p.index declared × (v ≡ shared_value basis one two p declared)).
         subst (IsChoice basis region p) (sym shared.2)
-        (shared_choice basis is one two limits s region comparable.is_one p shared.0 n (several shared.0 shared.1)))
+        (shared_choice basis is one two limits (several shared.0 shared.1)))
         told.1
 
     -- so they are admissible together
     pub rival_admissible : IsAdmissible basis 0 region (changed (default_valuation basis 0 region) (rival_value basis one two region other))
-    rival_admissible = changed_admissible basis is s region comparable.is_one 0 (default_valuation basis 0 region)
+    rival_admissible = changed_admissible basis is 0 (record { s = s; region = region; listed = comparable.is_one; values = default_valuation basis 0 region })
         (default_admissible basis is limits s region comparable.is_one 0 (omega arith)) (rival_value basis one two region other) choices
 
   module _ (comparable : AreComparable basis s one two) where
+    -- and so are those of both regions
+    pub rivals_admissible : IsWithinLimits basis.schema → PatternsMatch basis one two
+        → IsAdmissible basis 0 one (first_values basis one two) × IsAdmissible basis 0 two (second_values basis one two)
+    rivals_admissible limits match =
+        let matched : AreMatched basis one two = are_matched basis one two match in (
+          rival_admissible limits one two comparable matched,
+          rival_admissible limits two one (comparable_back basis s one two comparable) (matched_back basis one two matched),
+        )
+
     -- types of one set have one key
     same_keys : key_props basis.schema.model one.ty ≡ key_props basis.schema.model two.ty
     same_keys =

@@ -1,5 +1,5 @@
 -- The value that properties of a group share in both regions: it is the same of each, and one that each may have.
-use Rattle.std.proofs.Common.{◌≡◌, ◌⊎◌, inl, inr, ℕ, suc, ◌<◌, ◌≤◌, ◌&&◌, [], ◌∷◌, List, length, slice_get, Contains, Option, Some, None, Bool, true, if◌then◌else◌, refl, sym, ap, subst, ◌∙◌, arith}
+use Rattle.std.proofs.Common.{◌≡◌, ◌⊎◌, inl, inr, ℕ, suc, ◌<◌, ◌≤◌, ◌&&◌, [], ◌∷◌, List, length, slice_get, Option, Some, None, Bool, true, if◌then◌else◌, refl, sym, ap, subst, ◌∙◌, arith}
 use Rattle.std.specs.List.{enumerate_from, list_any}
 use Rattle.std.specs.Option.{option_map_or}
 use Rattle.std.proofs.lemmas.Bool.{and_parts, cond_both}
@@ -14,7 +14,7 @@ use Rattle.emc_base.proofs.Numbered.{enumerated_at}
 use Rattle.emc_base.specs.declared.value.Under.{Under}
 use Rattle.emc_base.specs.declared.value.Kind.TheVariants as kind
 use Rattle.emc_base.specs.declared.value.Under.TheVariants as under
-use Rattle.round_trip.specs.Words.{SetId, PropId, TypeId, GroupId, Value, Kind, EntityType, Prop, At, props_of}
+use Rattle.round_trip.specs.Words.{PropId, TypeId, GroupId, Value, Kind, EntityType, Prop, At, props_of}
 use Rattle.round_trip.specs.soundness.mappings.Joined.{IsDependent, prop}
 use Rattle.round_trip.specs.soundness.Kinds.{IsEnum, IsKeyKind, under_kind}
 use Rattle.round_trip.proofs.Classes.{class_of, joined_class}
@@ -23,13 +23,12 @@ use Rattle.schema_laws.proofs.state_demand.lists.Lists.{of_any}
 use Rattle.cells.specs.Limits.{IsSmallModel, IsWithinLimits, most_props}
 use Rattle.regions.specs.declared.region.Region.{Region}
 use Rattle.regions.specs.Basis.{Basis}
-use Rattle.regions.specs.Regions.{regions_of}
 use Rattle.regions.specs.region_laws.IsBasis.{IsBasis}
 use Rattle.schema_laws.specs.short_values.Short.{IsShort}
 use Rattle.region_states.specs.defaults.Candidates.{AreTwoFree, first_free, next_free}
 use Rattle.schema_laws.specs.short_values.Fresh.{first_shared, fresh, most_indices, second_shared, shared_first, shared_second}
 use Rattle.schema_laws.specs.short_values.Places.{is_dependent}
-use Rattle.region_states.specs.defaults.Admissible.{HasSeveral, IsChoice}
+use Rattle.region_states.specs.defaults.Admissible.{HasSeveral, IsChoice, SeveralOf}
 use Rattle.region_states.proofs.defaults.Changes.{free_choice, short_choice}
 use Rattle.region_states.proofs.defaults.groups.Classes.{at_class, class_at, joined_key_kind}
 use Rattle.schema_laws.proofs.sound_types.Dependent.{dependent_is}
@@ -155,7 +154,13 @@ module _ (basis : Basis) (is : IsBasis basis) (one two : Region) where
   shared_same p q declared other here there same (inr no_enums) =
       let in_group : AreInOneGroup basis.schema (prop p) (prop q) = (is.groups (prop p) (prop q) (slice_get_within basis.schema.model.props p.index declared here)
       (slice_get_within basis.schema.model.props q.index other there)).0 same in
-      let frees = free_shared basis is p q declared other here there in_group no_enums.0 no_enums.1 in
+      let frees = free_shared basis is p q declared other (record {
+        is_declared = here;
+        other_declared = there;
+        in_one_group = in_group;
+        no_enum = no_enums.0;
+        other_no_enum = no_enums.1;
+      }) in
       let tests = tells_same basis p q same in
       let index = index_same basis p q same one two in
       let fresh_same : fresh declared.kind 0 (shared_index basis one two p) ≡ fresh other.kind 0 (shared_index basis one two q) =
@@ -173,8 +178,19 @@ module _ (basis : Basis) (is : IsBasis basis) (one two : Region) where
           let class = (joined_class basis.schema is.sound (prop p) (prop q) joins (class_of declared.kind)).0 (class_at basis.schema p declared here) in
           sym (at_class basis.schema q (class_of declared.kind) other there class)
 
-  module _ (limits : IsWithinLimits basis.schema) (s : SetId) (region : Region) (has : Contains (regions_of basis s) region) (p : PropId) (declared : Prop) (n : Bool)
-      (several : HasSeveral basis region p declared n) where
+  module _ (limits : IsWithinLimits basis.schema) (of : SeveralOf basis) where
+    abbrev p : PropId
+    p = of.p
+
+    abbrev declared : Prop
+    declared = of.declared
+
+    abbrev region : Region
+    region = of.region
+
+    abbrev several : HasSeveral basis of.region of.p of.declared of.nullable
+    several = of.several
+
     -- a group that has a dependent property
     numbered : tells_other basis p ≡ true → IsChoice basis region p (fresh declared.kind 0 (shared_index basis one two p))
     numbered told =
@@ -189,7 +205,7 @@ module _ (basis : Basis) (is : IsBasis basis) (one two : Region) where
         (is.groups (prop q) (prop p) inside (slice_get_within basis.schema.model.props p.index declared several.is_declared)).0
         (sym (same_group_is (group basis p) (group basis q) both.1)) in
         let index : ℕ = shared_index basis one two p in
-        short_choice basis is s region has p declared n several q dependent in_group (fresh declared.kind 0 index)
+        short_choice basis is of q dependent in_group (fresh declared.kind 0 index)
         (fresh_short declared.kind 0 index (omega arith) (index_small basis limits.model one two p))
         (fresh_sort declared.kind (key_kind q dependent in_group) 0 index)
       where
@@ -204,14 +220,14 @@ module _ (basis : Basis) (is : IsBasis basis) (one two : Region) where
     first_one =
         let constants : List Value = basis.constants (prop p) in
         let two_free : AreTwoFree declared.kind constants (first_free declared.kind constants) (next_free declared.kind constants) =
-        open_two basis is limits s region has p declared several.is_declared several.among several.no_key
-        (open_atom basis.schema.model region.atoms p n several.several) in
-        free_choice basis is s region has p declared n several (first_free declared.kind constants) two_free.one_fits two_free.one_free
+        open_two basis is limits of.s region of.listed p declared several.is_declared several.among several.no_key
+        (open_atom basis.schema.model region.atoms p of.nullable several.several) in
+        free_choice basis is of (first_free declared.kind constants) two_free.one_fits two_free.one_free
         (λ dependent. let Short : List Value → Type 0 = λ list. IsShort (first_free declared.kind list) in
         subst Short (sym (dependent_none basis is p declared several.is_declared dependent))
         (first_short declared.kind (dependent_is basis.schema.model is.sound.model p dependent declared several.is_declared)))
 
     -- an entity of either region may have it
-    pub shared_choice : IsChoice basis region p (shared_value basis one two p declared)
+    pub shared_choice : IsChoice basis of.region of.p (shared_value basis one two of.p of.declared)
     shared_choice = cond_both (tells_other basis p) (fresh declared.kind 0 (shared_index basis one two p)) (first_free declared.kind (basis.constants (prop p)))
         (IsChoice basis region p) numbered (λ told. first_one)

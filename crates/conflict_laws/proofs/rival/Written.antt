@@ -75,7 +75,7 @@ module _ (basis : Basis) (is : IsBasis basis) where
         -- parts of keys are one
         keys_same : StandsInKey basis t c p → firsts.prop p ≡ seconds.prop q
         keys_same stands =
-            let owned = owned_here basis is s one comparable.is_one t c cell has in
+            let owned = owned_here basis is s one comparable.is_one (record { t = t; col = c; cell = cell; has = has }) in
             let pair = map_contains (λ (one_pair : Pair). one_pair.col) owned.0 c (subst (λ cols. Contains cols c) (sym owned.1.cols) stands.key_col) in
             let is_p : p ≡ pair.0.prop = key_pair basis is s one two one two comparable matched t c cell other has has_other p m alone several owned.0 owned.1 pair.0 pair.1 pair.2 in
             let is_q : q ≡ pair.0.prop = key_pair basis is s one two two one back turned t c other cell has_other has q n alone_too several_too owned.0 owned.1 pair.0 pair.1 pair.2 in
@@ -86,8 +86,10 @@ module _ (basis : Basis) (is : IsBasis basis) where
         groups_same : StandsFree basis t c p → StandsFree basis t c q → firsts.prop p ≡ seconds.prop q
         groups_same stands stands_too =
             let group : basis.group (prop p) ≡ basis.group (prop q) =
-            same_group basis is (focus.Entity one) (s, comparable.is_one) t c p (cell, has, only_stands cell (symbol.Prop p) alone) stands.free_prop
-            ∙ sym (same_group basis is (focus.Entity two) (s, comparable.is_two) t c q (other, has_other, only_stands other (symbol.Prop q) alone_too) stands_too.free_prop) in
+            same_group basis is p (record { of = focus.Entity one; t = t; col = c; lists = (cell, has, only_stands cell (symbol.Prop p) alone) })
+            (s, comparable.is_one) stands.free_prop
+            ∙ sym (same_group basis is q (record { of = focus.Entity two; t = t; col = c; lists = (other, has_other, only_stands other (symbol.Prop q) alone_too) })
+            (s, comparable.is_two) stands_too.free_prop) in
             let joins : Joined basis.schema (prop p) (prop q) =
             joined.chain (prop p) (col t c) (prop q) (joined_by basis t c p stands) (joined.back (prop q) (col t c) (joined_by basis t c q stands_too)) in
             let first : Prop = stands.free_prop.0 in

@@ -13,8 +13,8 @@ use Rattle.regions.specs.Patterns.{pattern_of}
 use Rattle.regions.specs.Regions.{regions_of}
 use Rattle.regions.specs.region_laws.IsBasis.{IsBasis}
 use Rattle.regions.specs.region_laws.Partners.{HasFewPartners, part_by}
+use Rattle.regions.specs.region_laws.Held.{IsHeldAt, LinkedEntity}
 use Rattle.regions.proofs.region_laws.listing.Listed.{set_is}
-use Rattle.region_states.specs.focus.Held.{IsHeldAt}
 use Rattle.region_states.proofs.focus.Flags.{held_at, some_region}
 use Rattle.region_states.specs.conflicts.Conflicts.{IsConflictAt}
 use Rattle.region_states.specs.conflicts.SameFacts.{is_absent, same_region}
@@ -46,12 +46,14 @@ module _ (basis : Basis) (is : IsBasis basis) (s : SetId) (few : HasFewPartners 
   -- where the other state has no entity of the key, the region leaves no row
   absent_told : ((y : Entity) → Contains (entities_in d s) y → ¬ HasItsKey y) → IsTold basis s
   absent_told none =
-      let found = some_region basis is c have.legal_c s set is_set x has_x in
+      let found = some_region basis is (record { state = c; legal = have.legal_c; s = s; entity = x; stands = has_x }) in
       let region : Region = found.0 in
       let part : AssocId → Bool → PropId → Value = part_by basis c s (key_of basis.schema.model x) in
-      let held : IsHeldAt basis c s x region part = held_at basis is c have.legal_c s x region found.1 few in
+      let held : IsHeldAt basis c s x region part =
+      held_at basis is (record { state = c; legal = have.legal_c; s = s; entity = x; region = region; of_region = found.1 }) few in
+      let linked : LinkedEntity basis = record { state = c; legal = have.legal_c; s = s; entity = x; region = region; part = part; held = held } in
       let absent : IsTrue (is_absent basis region) = never_rows (pattern_of basis (focus.Entity region)).rows (λ row has.
-      let by = row_of_pattern basis is c have.legal_c tables have.are_c s x region part held row.table (row, has, refl) in
+      let by = row_of_pattern basis is linked tables have.are_c row.table (row, has, refl) in
       let other = entity_too basis is c d tables others have s x row.table by in
       none other.0 other.1 other.2) in
       (conflict.Absent region, record { of_kind = refl; of_set = held.listed; holds = absent })
@@ -82,6 +84,6 @@ module _ (basis : Basis) (is : IsBasis basis) (s : SetId) (few : HasFewPartners 
   entity_told there back gone = ⊎_elim
       (λ (found : (y : Entity) × Contains (entities_in d s) y × HasItsKey y).
       both_told found.0 found.2 (λ same. gone (subst (Contains (entities_in d s)) (sym same) found.1))
-      (stand_together basis is s few set is_set c d have.legal_c have.legal_d there back x found.0 has_x found.1 found.2))
+      (stand_together basis is s few c d have.legal_c have.legal_d there back x found.0 has_x found.1 found.2))
       (λ (none : (y : Entity) → Contains (entities_in d s) y → ¬ HasItsKey y). absent_told none)
       (any_or_none HasItsKey (λ y. key_or_not (key_of basis.schema.model x) (key_of basis.schema.model y)) (entities_in d s))

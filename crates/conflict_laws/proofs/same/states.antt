@@ -1,4 +1,3 @@
-pub mod States
 pub mod Legal
 pub mod Links
 pub mod Entities

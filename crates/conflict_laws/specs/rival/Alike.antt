@@ -9,6 +9,7 @@ use Rattle.regions.specs.declared.pattern.Symbol.{Symbol}
 use Rattle.regions.specs.Basis.{Basis}
 use Rattle.regions.specs.Patterns.{Valuation, pattern_of}
 use Rattle.regions.specs.Regions.{regions_of}
+use Rattle.regions.specs.region_laws.pattern.Allowed.{IsAllowed}
 use Rattle.regions.specs.region_laws.pattern.Described.{HasNoClashes, value_in}
 use Rattle.regions.specs.region_laws.pattern.Listed.{HasCell}
 use Rattle.region_states.specs.focus.Held.{HasRow}
@@ -36,6 +37,13 @@ pub record AreWrittenAlike (basis : Basis) (one two : Region) (values others : V
   pub rows : (t : TableId) → HasRow (pattern_of basis (focus.Entity one)) t ↔ HasRow (pattern_of basis (focus.Entity two)) t
   pub cells : (t : TableId) (c : ColId) (cell other : List Symbol) → HasCell (pattern_of basis (focus.Entity one)) t c cell
       → HasCell (pattern_of basis (focus.Entity two)) t c other → value_in values cell ≡ value_in others other
+
+-- two comparable regions of a set, and values that they allow and that write entities of both alike
+pub record AreTwins (basis : Basis) (s : SetId) (one two : Region) (values others : Valuation) : Type 0 where
+  pub comparable : AreComparable basis s one two
+  pub allowed : IsAllowed basis one values
+  pub others_allowed : IsAllowed basis two others
+  pub alike : AreWrittenAlike basis one two values others
 
 -- both have rows in the same tables, and the cells of these can hold the same
 abbrev pub patterns_match : Basis → Region → Region → Bool

@@ -5,7 +5,7 @@ use Rattle.std.proofs.lemmas.Bool.{cond-true, cond_both}
 use Rattle.std.proofs.lemmas.List.Elements.{All-contains}
 use Rattle.std.proofs.lemmas.Option.{same_Some}
 use Rattle.emc_base.proofs.Lists.{all_from_members, at_once}
-use Rattle.round_trip.specs.Words.{SetId, PropId, Value, Null, Prop, At, InDomain, key_props}
+use Rattle.round_trip.specs.Words.{PropId, Value, Null, Prop, At, InDomain, key_props}
 use Rattle.round_trip.specs.soundness.mappings.Joined.{IsDependent, prop}
 use Rattle.condition_logic.specs.declared.atoms.Atom.{Atom}
 use Rattle.condition_logic.specs.declared.atoms.Atom.TheVariants as atom
@@ -17,17 +17,17 @@ use Rattle.regions.specs.declared.region.Region.{Region}
 use Rattle.regions.specs.Atoms.{Allows, LiesIn, atom_at}
 use Rattle.regions.specs.Basis.{Basis}
 use Rattle.regions.specs.Patterns.{Valuation}
-use Rattle.regions.specs.Regions.{regions_of}
 use Rattle.regions.specs.Settled.{Possible, is_nullable, multi, of_atom, single}
 use Rattle.regions.specs.region_laws.IsBasis.{IsBasis}
 use Rattle.regions.proofs.region_laws.values.Atoms.{not_null}
+use Rattle.regions.specs.region_laws.pattern.Allowed.{RegionValues}
 use Rattle.schema_laws.proofs.state_demand.lists.Ids.{Decides-prop}
 use Rattle.schema_laws.specs.short_values.Short.{IsOfSort, IsShort}
 use Rattle.region_states.specs.defaults.Candidates.{AreTwoFree, first_free, next_free}
 use Rattle.schema_laws.specs.short_values.Fresh.{focus_key, fresh, lost, lost_value, fresh_at}
 use Rattle.region_states.specs.defaults.Defaults.{alone, changed, one_value, other_value}
 use Rattle.schema_laws.specs.short_values.Places.{is_dependent, place_in}
-use Rattle.region_states.specs.defaults.Admissible.{AreChoices, AreTwoChoices, DifferAt, HasNumberedKey, HasSeveral, IsAdmissible, IsApart, IsChoice}
+use Rattle.region_states.specs.defaults.Admissible.{AreChoices, AreTwoChoices, DifferAt, HasNumberedKey, IsAdmissible, IsApart, IsChoice, SeveralOf}
 use Rattle.region_states.proofs.defaults.groups.Constants.{dependent_none, joined_none}
 use Rattle.region_states.proofs.defaults.Defaults.{IsSome, either_some, is_open, lies_open, open_two}
 use Rattle.region_states.proofs.defaults.Fitting.{joined_takes}
@@ -71,25 +71,24 @@ changed_key basis outer region values numbered changes choices p key = by (chang
     by None none = numbered p key
     by (Some v) at = absurd ((choices p v at).no_key key)
 
-module _ (basis : Basis) (is : IsBasis basis) (s : SetId) (region : Region) (has : Contains (regions_of basis s) region) where
-  module _ (outer : ℕ) (values : Valuation) (admissible : IsAdmissible basis outer region values) (changes : PropId → Option Value)
-      (choices : AreChoices basis region changes) where
+module _ (basis : Basis) (is : IsBasis basis) (outer : ℕ) (at : RegionValues basis) (admissible : IsAdmissible basis outer at.region at.values) where
+  module _ (changes : PropId → Option Value) (choices : AreChoices basis at.region changes) where
     -- what holds of each old value and of each choice holds of each value
-    each : (p : PropId) (P : Value → Type 0) → P (values.prop p) → ((v : Value) → IsChoice basis region p v → P v) → P (unwrap_or (changes p) (values.prop p))
+    each : (p : PropId) (P : Value → Type 0) → P (at.values.prop p) → ((v : Value) → IsChoice basis at.region p v → P v) → P (unwrap_or (changes p) (at.values.prop p))
     each p P old new = by (changes p) refl
       where
-        by : (found : Option Value) → changes p ≡ found → P (unwrap_or found (values.prop p))
+        by : (found : Option Value) → changes p ≡ found → P (unwrap_or found (at.values.prop p))
         by None none = old
-        by (Some v) at = new v (choices p v at)
+        by (Some v) told = new v (choices p v told)
 
-    pub changed_admissible : IsAdmissible basis outer region (changed values changes)
+    pub changed_admissible : IsAdmissible basis outer at.region (changed at.values changes)
     changed_admissible = record {
       allowed = record {
-        atoms = all_from_members (λ (told : AtomOf). LiesIn (basis.constants (prop told.prop)) told.atom (unwrap_or (changes told.prop) (values.prop told.prop))) region.atoms
+        atoms = all_from_members (λ (told : AtomOf). LiesIn (basis.constants (prop told.prop)) told.atom (unwrap_or (changes told.prop) (at.values.prop told.prop))) at.region.atoms
             (λ told there. each told.prop (LiesIn (basis.constants (prop told.prop)) told.atom)
-            (let Lies : AtomOf → Type 0 = λ one. LiesIn (basis.constants (prop one.prop)) one.atom (values.prop one.prop) in
-            All-contains Lies region.atoms told admissible.allowed.atoms there)
-            (λ v choice. choice.atom told.atom (told_found basis is s region has told there)));
+            (let Lies : AtomOf → Type 0 = λ one. LiesIn (basis.constants (prop one.prop)) one.atom (at.values.prop one.prop) in
+            All-contains Lies at.region.atoms told admissible.allowed.atoms there)
+            (λ v choice. choice.atom told.atom (told_found basis is at.s at.region at.listed told there)));
         props = λ p declared among here. each p (Allows declared) (admissible.allowed.props p declared among here) (λ v choice. choice.allowed declared here);
         parts = admissible.allowed.parts;
       };
@@ -98,128 +97,128 @@ module _ (basis : Basis) (is : IsBasis basis) (s : SetId) (region : Region) (has
       dependent = λ p among by. each p (λ v. v ≢ Null → IsShort v) (admissible.dependent p among by) (λ v choice. choice.dependent by);
     }
 
-  module _ (outer : ℕ) (values : Valuation) (admissible : IsAdmissible basis outer region values) (p : PropId) where
-    alone_choices : (v : Value) → IsChoice basis region p v → AreChoices basis region (alone p v)
-    alone_choices v choice q w at =
-        let same = alone_is p q v w at in
-        subst (λ r. IsChoice basis region r w) (sym same.0) (subst (IsChoice basis region p) same.1 choice)
+  module _ (p : PropId) where
+    alone_choices : (v : Value) → IsChoice basis at.region p v → AreChoices basis at.region (alone p v)
+    alone_choices v choice q w told =
+        let same = alone_is p q v w told in
+        subst (λ r. IsChoice basis at.region r w) (sym same.0) (subst (IsChoice basis at.region p) same.1 choice)
 
-    alone_admissible : (v : Value) → IsChoice basis region p v → IsAdmissible basis outer region (changed values (alone p v))
-    alone_admissible v choice = changed_admissible outer values admissible (alone p v) (alone_choices v choice)
+    alone_admissible : (v : Value) → IsChoice basis at.region p v → IsAdmissible basis outer at.region (changed at.values (alone p v))
+    alone_admissible v choice = changed_admissible (alone p v) (alone_choices v choice)
 
     -- two choices of one property alone
-    pub differ_at : (one two : Value) → AreTwoChoices basis region p one two
-        → IsAdmissible basis outer region (changed values (alone p one)) × IsAdmissible basis outer region (changed values (alone p two))
-        × DifferAt values (changed values (alone p one)) (changed values (alone p two)) p
+    pub differ_at : (one two : Value) → AreTwoChoices basis at.region p one two
+        → IsAdmissible basis outer at.region (changed at.values (alone p one)) × IsAdmissible basis outer at.region (changed at.values (alone p two))
+        × DifferAt at.values (changed at.values (alone p one)) (changed at.values (alone p two)) p
     differ_at one two choices = (
       alone_admissible one choices.one_choice,
       alone_admissible two choices.two_choice,
       record {
-        one_others = λ q different. alone_there p one (values.prop q) q different;
-        two_others = λ q different. alone_there p two (values.prop q) q different;
+        one_others = λ q different. alone_there p one (at.values.prop q) q different;
+        two_others = λ q different. alone_there p two (at.values.prop q) q different;
         one_parts = refl;
         two_parts = refl;
-        one_there = λ null. choices.one_there (sym (alone_here p one (values.prop p)) ∙ null);
-        two_there = λ null. choices.two_there (sym (alone_here p two (values.prop p)) ∙ null);
-        different = λ same. choices.different (sym (alone_here p one (values.prop p)) ∙ same ∙ alone_here p two (values.prop p));
+        one_there = λ null. choices.one_there (sym (alone_here p one (at.values.prop p)) ∙ null);
+        two_there = λ null. choices.two_there (sym (alone_here p two (at.values.prop p)) ∙ null);
+        different = λ same. choices.different (sym (alone_here p one (at.values.prop p)) ∙ same ∙ alone_here p two (at.values.prop p));
       },
     )
 
-  module _ (p : PropId) (declared : Prop) (nullable : Bool) (several : HasSeveral basis region p declared nullable) where
-    abbrev constants : List Value
-    constants = basis.constants (prop p)
+module _ (basis : Basis) (is : IsBasis basis) (of : SeveralOf basis) where
+  abbrev constants : List Value
+  constants = basis.constants (prop of.p)
 
-    -- a property that may have several values is told no atom, or the last
-    open_atom : (atom_at region.atoms p ≡ None) ⊎ (atom_at region.atoms p ≡ Some atom.Other)
-    open_atom = by (atom_at region.atoms p) refl several.several
-      where
-        by : (found : Option Atom) → atom_at region.atoms p ≡ found → option_map_or of_atom found (multi (is_nullable basis.schema.model p)) ≡ multi nullable
-            → (atom_at region.atoms p ≡ None) ⊎ (atom_at region.atoms p ≡ Some atom.Other)
-        by None at same = inl at
-        by (Some atom.Null) at same = absurd (let never : true ≡ false = ap is_single same in cc)
-        by (Some (atom.Is one)) at same = absurd (let never : true ≡ false = ap is_single same in cc)
-        by (Some atom.Other) at same = inr at
+  -- a property that may have several values is told no atom, or the last
+  open_atom : (atom_at of.region.atoms of.p ≡ None) ⊎ (atom_at of.region.atoms of.p ≡ Some atom.Other)
+  open_atom = by (atom_at of.region.atoms of.p) refl of.several.several
+    where
+      by : (found : Option Atom) → atom_at of.region.atoms of.p ≡ found → option_map_or of_atom found (multi (is_nullable basis.schema.model of.p)) ≡ multi of.nullable
+          → (atom_at of.region.atoms of.p ≡ None) ⊎ (atom_at of.region.atoms of.p ≡ Some atom.Other)
+      by None at same = inl at
+      by (Some atom.Null) at same = absurd (let never : true ≡ false = ap is_single same in cc)
+      by (Some (atom.Is one)) at same = absurd (let never : true ≡ false = ap is_single same in cc)
+      by (Some atom.Other) at same = inr at
 
-    -- each declaration of it is this one
-    allows : (v : Value) → Allows declared v → (other : Prop) → At basis.schema.model.props p.index other → Allows other v
-    allows v allowed other at =
-        let same : declared ≡ other = at_once basis.schema.model.props p.index declared other several.is_declared at in
-        let P : Prop → Type 0 = λ one. Allows one v in
-        subst P same allowed
+  -- each declaration of it is this one
+  allows : (v : Value) → Allows of.declared v → (other : Prop) → At basis.schema.model.props of.p.index other → Allows other v
+  allows v allowed other at =
+      let same : of.declared ≡ other = at_once basis.schema.model.props of.p.index of.declared other of.several.is_declared at in
+      let P : Prop → Type 0 = λ one. Allows one v in
+      subst P same allowed
 
-    chosen : (v : Value) → IsSome basis is p declared v → IsChoice basis region p v
-    chosen v some = record {
-      among = several.among;
-      no_key = several.no_key;
-      atom = lies_open basis is region p declared (is_open basis is region p open_atom) v some;
-      allowed = allows v (inr some.fits);
-      dependent = λ by there. some.short by;
-    }
+  chosen : (v : Value) → IsSome basis is of.p of.declared v → IsChoice basis of.region of.p v
+  chosen v some = record {
+    among = of.several.among;
+    no_key = of.several.no_key;
+    atom = lies_open basis is of.region of.p of.declared (is_open basis is of.region of.p open_atom) v some;
+    allowed = allows v (inr some.fits);
+    dependent = λ by there. some.short by;
+  }
 
-    -- a value that isn't null and no constant, and short where it is to be
-    pub free_choice : (v : Value) → InDomain v declared.kind → ¬ Contains constants v → (IsDependent basis.schema.model p → IsShort v) → IsChoice basis region p v
-    free_choice v fits free short = chosen v (record { fits = fits; free = free; short = short })
+  -- a value that isn't null and no constant, and short where it is to be
+  pub free_choice : (v : Value) → InDomain v of.declared.kind → ¬ Contains constants v → (IsDependent basis.schema.model of.p → IsShort v) → IsChoice basis of.region of.p v
+  free_choice v fits free short = chosen v (record { fits = fits; free = free; short = short })
 
-    -- a short value, where it or a property joined to it is dependent
-    pub short_choice : (q : PropId) → IsDependent basis.schema.model q → AreInOneGroup basis.schema (prop q) (prop p)
-        → (v : Value) → IsShort v → IsOfSort declared.kind v → IsChoice basis region p v
-    short_choice q dependent (inl same) v short sort =
-        let is_p : q ≡ p = cc in
-        let by : IsDependent basis.schema.model p = subst (IsDependent basis.schema.model) is_p dependent in
-        free_choice v (dependent_takes basis.schema.model is.sound.model p by declared several.is_declared v short sort)
-        (λ has. none_in_nil v (subst (λ list. Contains list v) (dependent_none basis is p declared several.is_declared by) has)) (λ any. short)
-    short_choice q dependent (inr joins) v short sort =
-        free_choice v (joined_takes basis is q p dependent joins declared several.is_declared v short sort)
-        (λ has. none_in_nil v (subst (λ list. Contains list v) (joined_none basis is p declared several.is_declared q dependent joins) has)) (λ any. short)
+  -- a short value, where it or a property joined to it is dependent
+  pub short_choice : (q : PropId) → IsDependent basis.schema.model q → AreInOneGroup basis.schema (prop q) (prop of.p)
+      → (v : Value) → IsShort v → IsOfSort of.declared.kind v → IsChoice basis of.region of.p v
+  short_choice q dependent (inl same) v short sort =
+      let is_p : q ≡ of.p = cc in
+      let by : IsDependent basis.schema.model of.p = subst (IsDependent basis.schema.model) is_p dependent in
+      free_choice v (dependent_takes basis.schema.model is.sound.model of.p by of.declared of.several.is_declared v short sort)
+      (λ has. none_in_nil v (subst (λ list. Contains list v) (dependent_none basis is of.p of.declared of.several.is_declared by) has)) (λ any. short)
+  short_choice q dependent (inr joins) v short sort =
+      free_choice v (joined_takes basis is q of.p dependent joins of.declared of.several.is_declared v short sort)
+      (λ has. none_in_nil v (subst (λ list. Contains list v) (joined_none basis is of.p of.declared of.several.is_declared q dependent joins) has)) (λ any. short)
 
-    -- null, where it is among the values
-    pub null_choice : nullable ≡ true → IsChoice basis region p Null
-    null_choice is_true = record {
-      among = several.among;
-      no_key = several.no_key;
-      atom = λ a at. absurd (let never : None ≡ Some a = sym nothing.0 ∙ at in cc);
-      allowed = allows Null (inl (refl, nothing.1));
-      dependent = λ by there. absurd (there refl);
-    }
-      where
-        by : (found : Option Atom) → atom_at region.atoms p ≡ found → option_map_or of_atom found (multi (is_nullable basis.schema.model p)) ≡ multi nullable
-            → (atom_at region.atoms p ≡ None) × (declared.nullable ≡ true)
-        by None at same =
-            let is_null : is_nullable basis.schema.model p ≡ declared.nullable = ap (λ found. option_map_or (λ (one : Prop). one.nullable) found false) several.is_declared in
-            (at, sym is_null ∙ ap may_be_null same ∙ is_true)
-        by (Some atom.Null) at same = absurd (let never : true ≡ false = ap is_single same in cc)
-        by (Some (atom.Is one)) at same = absurd (let never : true ≡ false = ap is_single same in cc)
-        by (Some atom.Other) at same = absurd (let never : false ≡ true = ap may_be_null same ∙ is_true in cc)
+  -- null, where it is among the values
+  pub null_choice : of.nullable ≡ true → IsChoice basis of.region of.p Null
+  null_choice is_true = record {
+    among = of.several.among;
+    no_key = of.several.no_key;
+    atom = λ a at. absurd (let never : None ≡ Some a = sym nothing.0 ∙ at in cc);
+    allowed = allows Null (inl (refl, nothing.1));
+    dependent = λ by there. absurd (there refl);
+  }
+    where
+      by : (found : Option Atom) → atom_at of.region.atoms of.p ≡ found → option_map_or of_atom found (multi (is_nullable basis.schema.model of.p)) ≡ multi of.nullable
+          → (atom_at of.region.atoms of.p ≡ None) × (of.declared.nullable ≡ true)
+      by None at same =
+          let is_null : is_nullable basis.schema.model of.p ≡ of.declared.nullable = ap (λ found. option_map_or (λ (one : Prop). one.nullable) found false) of.several.is_declared in
+          (at, sym is_null ∙ ap may_be_null same ∙ is_true)
+      by (Some atom.Null) at same = absurd (let never : true ≡ false = ap is_single same in cc)
+      by (Some (atom.Is one)) at same = absurd (let never : true ≡ false = ap is_single same in cc)
+      by (Some atom.Other) at same = absurd (let never : false ≡ true = ap may_be_null same ∙ is_true in cc)
 
-        nothing : (atom_at region.atoms p ≡ None) × (declared.nullable ≡ true)
-        nothing = by (atom_at region.atoms p) refl several.several
+      nothing : (atom_at of.region.atoms of.p ≡ None) × (of.declared.nullable ≡ true)
+      nothing = by (atom_at of.region.atoms of.p) refl of.several.several
 
-    two_differ : AreTwoFree declared.kind constants (first_free declared.kind constants) (next_free declared.kind constants)
-        → one_value basis p declared ≢ other_value basis p declared
-    two_differ two =
-        let b : Bool = is_dependent basis.schema.model p in
-        let one : Value = fresh declared.kind 0 (lost_value 0) in
-        let other_ : Value = fresh declared.kind 0 (lost_value 1) in
-        by b one other_ (λ same. let index = (fresh_same declared.kind 0 0 (lost_value 0) (lost_value 1) (omega arith) (omega arith) same).1 in absurd (omega (arith, index)))
-      where
-        by : (b : Bool) (one other_ : Value) → one ≢ other_
-            → (if b then one else first_free declared.kind constants) ≢ (if b then other_ else next_free declared.kind constants)
-        by true one other_ different = different
-        by false one other_ different = two.different
+  two_differ : AreTwoFree of.declared.kind constants (first_free of.declared.kind constants) (next_free of.declared.kind constants)
+      → one_value basis of.p of.declared ≢ other_value basis of.p of.declared
+  two_differ two =
+      let b : Bool = is_dependent basis.schema.model of.p in
+      let one : Value = fresh of.declared.kind 0 (lost_value 0) in
+      let other_ : Value = fresh of.declared.kind 0 (lost_value 1) in
+      by b one other_ (λ same. let index = (fresh_same of.declared.kind 0 0 (lost_value 0) (lost_value 1) (omega arith) (omega arith) same).1 in absurd (omega (arith, index)))
+    where
+      by : (b : Bool) (one other_ : Value) → one ≢ other_
+          → (if b then one else first_free of.declared.kind constants) ≢ (if b then other_ else next_free of.declared.kind constants)
+      by true one other_ different = different
+      by false one other_ different = two.different
 
-    -- two values that differ
-    pub two_choices : IsWithinLimits basis.schema → AreTwoChoices basis region p (one_value basis p declared) (other_value basis p declared)
-    two_choices limits =
-        let two : AreTwoFree declared.kind constants (first_free declared.kind constants) (next_free declared.kind constants) =
-        open_two basis is limits s region has p declared several.is_declared several.among several.no_key open_atom in
-        let one : IsSome basis is p declared (one_value basis p declared) =
-        either_some basis is p declared several.is_declared 0 (lost_value 0) (omega arith) (index_below (lost 0) (omega arith)) (first_free declared.kind constants) two.one_fits two.one_free in
-        let other_ : IsSome basis is p declared (other_value basis p declared) =
-        either_some basis is p declared several.is_declared 0 (lost_value 1) (omega arith) (index_below (lost 1) (omega arith)) (next_free declared.kind constants) two.two_fits two.two_free in
-        record {
-          one_choice = chosen (one_value basis p declared) one;
-          two_choice = chosen (other_value basis p declared) other_;
-          one_there = not_null declared.kind (one_value basis p declared) one.fits;
-          two_there = not_null declared.kind (other_value basis p declared) other_.fits;
-          different = two_differ two;
-        }
+  -- two values that differ
+  pub two_choices : IsWithinLimits basis.schema → AreTwoChoices basis of.region of.p (one_value basis of.p of.declared) (other_value basis of.p of.declared)
+  two_choices limits =
+      let two : AreTwoFree of.declared.kind constants (first_free of.declared.kind constants) (next_free of.declared.kind constants) =
+      open_two basis is limits of.s of.region of.listed of.p of.declared of.several.is_declared of.several.among of.several.no_key open_atom in
+      let one : IsSome basis is of.p of.declared (one_value basis of.p of.declared) =
+      either_some basis is of.p of.declared of.several.is_declared 0 (lost_value 0) (omega arith) (index_below (lost 0) (omega arith)) (first_free of.declared.kind constants) two.one_fits two.one_free in
+      let other_ : IsSome basis is of.p of.declared (other_value basis of.p of.declared) =
+      either_some basis is of.p of.declared of.several.is_declared 0 (lost_value 1) (omega arith) (index_below (lost 1) (omega arith)) (next_free of.declared.kind constants) two.two_fits two.two_free in
+      record {
+        one_choice = chosen (one_value basis of.p of.declared) one;
+        two_choice = chosen (other_value basis of.p of.declared) other_;
+        one_there = not_null of.declared.kind (one_value basis of.p of.declared) one.fits;
+        two_there = not_null of.declared.kind (other_value basis of.p of.declared) other_.fits;
+        different = two_differ two;
+      }

@@ -181,7 +181,8 @@ module _ (basis : Basis) (is : IsBasis basis) (limits : IsWithinLimits basis.sch
           let index : ℕ = focus_key (place_in p (key_props basis.schema.model region.ty)) in
           let below : index < most_indices = key_index basis.schema.model is.sound.model region.ty p key in
           record {
-            allowed = inr (fresh_fits declared.kind (key_kind basis.schema.model is.sound.model region.ty p key declared here) (sound_kind basis.schema.model is.sound.model p declared here) outer index few below);
+            allowed = inr (fresh_fits declared.kind (key_kind basis.schema.model is.sound.model region.ty p key declared here)
+                (sound_kind basis.schema.model is.sound.model p declared here) outer index few below);
             atom = λ a at. (let told : IsTold basis is s region has p a = found_told basis is s region has p a at in
                 absurd (tested_no_key basis is p declared here region.ty among told.tested key));
             dependent = λ by there. fresh_short declared.kind outer index few below;
@@ -218,7 +219,8 @@ module _ (basis : Basis) (is : IsBasis basis) (limits : IsWithinLimits basis.sch
           let index : ℕ = partner_key host.assoc.index (place_in p (key_props basis.schema.model t)) in
           let P : Value → Type 0 = λ v. InDomain v declared.kind in
           subst P (sym (default_partner p ∙ fresh_is basis.schema.model p declared is_declared outer index))
-          (fresh_fits declared.kind (key_kind basis.schema.model is.sound.model t p key declared is_declared) (sound_kind basis.schema.model is.sound.model p declared is_declared) outer index few
+          (fresh_fits declared.kind (key_kind basis.schema.model is.sound.model t p key declared is_declared)
+          (sound_kind basis.schema.model is.sound.model p declared is_declared) outer index few
           (partner_index basis.schema.model is.sound.model limits.model host.assoc assoc here t p key))
 
     -- all of it

@@ -1,56 +1,50 @@
 -- A state demands of the rows of an entity or a link just what the pattern says.
-use Rattle.std.proofs.Common.{◌≡◌, ◌↔◌, inl, inr, List, Bool, IsTrue, sym, ap, subst, ◌∙◌}
+use Rattle.std.proofs.Common.{◌≡◌, ◌↔◌, inl, inr, List, sym, ap, ◌∙◌}
 use Rattle.std.proofs.lemmas.List.Elements.{All-contains}
-use Rattle.round_trip.specs.Words.{AssocId, PropId, SetId, TableId, ColId, Assoc, DemandsCell, DemandsRow, Entity, Fragment, IsLegal, Link, LinkFragment, State, Value, Writing, Writes, written_key}
+use Rattle.round_trip.specs.Words.{TableId, ColId, DemandsCell, DemandsRow, Fragment, IsLegal, LinkFragment, State, Value, Writing, Writes, written_key}
 use Rattle.schema_laws.specs.sound_demand.Local.{HasLocalDemand}
 use Rattle.schema_laws.proofs.sound_demand.Local.{local_demand}
-use Rattle.regions.specs.declared.region.Region.{Region}
 use Rattle.regions.specs.declared.pattern.Focus.TheVariants as focus
 use Rattle.regions.specs.Basis.{Basis}
-use Rattle.regions.specs.Patterns.{by_entity, by_link, is_written, pattern_of}
-use Rattle.regions.specs.Symbols.{link_writings}
-use Rattle.regions.specs.region_laws.Concrete.{HasSymbol}
+use Rattle.regions.specs.Patterns.{by_entity, by_link, pattern_of}
 use Rattle.regions.specs.region_laws.IsBasis.{IsBasis}
 use Rattle.regions.proofs.region_laws.writings.Owned.{cell_demanded, link_cell_demanded, link_row_demanded, row_demanded}
-use Rattle.region_states.specs.focus.Held.{HasRow, IsAtLinkRow, IsAtRow, IsHeldAt, IsRowOfOne, ListsValue}
+use Rattle.regions.specs.region_laws.Held.{LinkedEntity, LinkRow, IsAtRow}
+use Rattle.region_states.specs.focus.Held.{HasRow, IsRowOfOne, ListsValue}
 use Rattle.region_states.proofs.focus.Listed.{has_row, has_symbol}
 
-module _ (basis : Basis) (is : IsBasis basis) (state : State) (legal : IsLegal basis.schema.model state) where
-  module _ (s : SetId) (entity : Entity) (region : Region) (part : AssocId → Bool → PropId → Value) (held : IsHeldAt basis state s entity region part)
-      (t : TableId) (key : List Value) (at : IsAtRow basis state s entity t key) where
-    pub rows : DemandsRow basis.schema state t key ↔ HasRow (pattern_of basis (focus.Entity region)) t
+module _ (basis : Basis) (is : IsBasis basis) where
+  module _ (linked : LinkedEntity basis) (t : TableId) (key : List Value) (at : IsAtRow basis linked.state linked.s linked.entity t key) where
+    pub rows : DemandsRow basis.schema linked.state t key ↔ HasRow (pattern_of basis (focus.Entity linked.region)) t
     rows =
-        let by = row_demanded basis is t s at.pairing at.owned state legal entity key at.at region held.listed held.links held.holds part held.partners in
-        let has = has_row basis is (focus.Entity region) t in
+        let by = row_demanded basis is linked t key at in
+        let has = has_row basis is (focus.Entity linked.region) t in
         (λ demanded. has.0 (by.0 demanded), λ there. by.1 (has.1 there))
 
-    pub cells : (col : ColId) (value : Value) → DemandsCell basis.schema state t key col value
-        ↔ ListsValue (pattern_of basis (focus.Entity region)) (by_entity basis.schema.model entity part) t col value
+    pub cells : (col : ColId) (value : Value) → DemandsCell basis.schema linked.state t key col value
+        ↔ ListsValue (pattern_of basis (focus.Entity linked.region)) (by_entity basis.schema.model linked.entity linked.part) t col value
     cells col value =
-        let by = cell_demanded basis is t s at.pairing at.owned state legal entity key at.at region held.listed held.links held.holds part held.partners col value in
-        let has = has_symbol basis is (by_entity basis.schema.model entity part) (focus.Entity region) t col value in
+        let by = cell_demanded basis is linked t key at col value in
+        let has = has_symbol basis is (by_entity basis.schema.model linked.entity linked.part) (focus.Entity linked.region) t col value in
         (λ demanded. has.0 (by.0 demanded), λ there. by.1 (has.1 there))
 
-  module _ (fragment : LinkFragment) (assoc : Assoc) (link : Link) (t : TableId) (key : List Value) (at : IsAtLinkRow basis state fragment assoc link t key) where
-    pub link_rows : DemandsRow basis.schema state t key ↔ HasRow (pattern_of basis (focus.Link fragment.assoc)) t
+  module _ (row : LinkRow basis) where
+    pub link_rows : DemandsRow basis.schema row.state row.t row.key ↔ HasRow (pattern_of basis (focus.Link row.fragment.assoc)) row.t
     link_rows =
-        let P : List Value → Type 0 = λ one. DemandsRow basis.schema state t one ↔ IsTrue (is_written (link_writings basis fragment.assoc) t) in
-        let by : P key = subst P (sym at.at_key) (link_row_demanded basis is state legal t fragment assoc at.joined link at.stands) in
-        let has = has_row basis is (focus.Link fragment.assoc) t in
+        let by = link_row_demanded basis is row in
+        let has = has_row basis is (focus.Link row.fragment.assoc) row.t in
         (λ demanded. has.0 (by.0 demanded), λ there. by.1 (has.1 there))
 
-    pub link_cells : (col : ColId) (value : Value) → DemandsCell basis.schema state t key col value
-        ↔ ListsValue (pattern_of basis (focus.Link fragment.assoc)) (by_link basis.schema.model assoc link) t col value
+    pub link_cells : (col : ColId) (value : Value) → DemandsCell basis.schema row.state row.t row.key col value
+        ↔ ListsValue (pattern_of basis (focus.Link row.fragment.assoc)) (by_link basis.schema.model row.assoc row.link) row.t col value
     link_cells col value =
-        let P : List Value → Type 0 = λ one. DemandsCell basis.schema state t one col value
-        ↔ HasSymbol (by_link basis.schema.model assoc link) (link_writings basis fragment.assoc) t col value in
-        let by : P key = subst P (sym at.at_key) (link_cell_demanded basis is state legal t fragment assoc at.joined link at.stands col value) in
-        let has = has_symbol basis is (by_link basis.schema.model assoc link) (focus.Link fragment.assoc) t col value in
+        let by = link_cell_demanded basis is row col value in
+        let has = has_symbol basis is (by_link basis.schema.model row.assoc row.link) (focus.Link row.fragment.assoc) row.t col value in
         (λ demanded. has.0 (by.0 demanded), λ there. by.1 (has.1 there))
 
   -- each demanded row is that of an entity, or of a link
-  pub row_of_one : (t : TableId) (key : List Value) → DemandsRow basis.schema state t key → IsRowOfOne basis state t key
-  row_of_one t key (writing, writes) = by (local_demand basis.schema is.sound state legal t)
+  pub row_of_one : (state : State) → IsLegal basis.schema.model state → (t : TableId) (key : List Value) → DemandsRow basis.schema state t key → IsRowOfOne basis state t key
+  row_of_one state legal t key (writing, writes) = by (local_demand basis.schema is.sound state legal t)
     where
       by : HasLocalDemand basis.schema state t → IsRowOfOne basis state t key
       by (inl (s, pairing, owned, local)) =

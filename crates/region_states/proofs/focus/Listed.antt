@@ -170,7 +170,7 @@ module _ (basis : Basis) (is : IsBasis basis) where
         of_table = refl;
         is_cell = row_cells basis.schema.store writings t table col.0 key.column key.is_column;
       } in
-      let owned = owned_here basis is s region among t col.0 (cell_symbols writings t col.0) cell in
+      let owned = owned_here basis is s region among (record { t = t; col = col.0; cell = cell_symbols writings t col.0; has = cell }) in
       let same : t ≡ row.table = sym (ap (λ (r : PatternRow). r.table) found.4) in
       let P : TableId → Type 0 = λ u. At basis.schema.store.tables u.index table × IsOwned basis.schema u s owned.0 in
       let there : P row.table = subst P same (found.2, owned.1) in

@@ -17,10 +17,12 @@ use Rattle.regions.specs.region_laws.IsBasis.{AreHostedLinks, IsBasis}
 use Rattle.regions.specs.region_laws.Partners.{HasPartners, TellsPartner}
 use Rattle.regions.specs.region_laws.RegionAt.{hosted_links, links_at}
 use Rattle.regions.proofs.region_laws.entities.Hosting.{hosted_are}
-use Rattle.regions.specs.region_laws.pattern.Allowed.{ArePartners}
+use Rattle.regions.specs.region_laws.pattern.Allowed.{ArePartners, IsAllowed}
+use Rattle.regions.specs.region_laws.Held.{IsHeldAt, LinkedEntity, PartneredEntity}
 use Rattle.regions.proofs.region_laws.pattern.symbols.Origins.{linked_decided}
 use Rattle.regions.proofs.region_laws.pattern.types.Regions.{parts_of}
-use Rattle.region_states.specs.focus.Held.{IsHeldAt}
+use Rattle.regions.specs.Patterns.{by_entity}
+use Rattle.regions.proofs.region_laws.pattern.values.Allowed.{region_allowed}
 
 -- the flag of a host tells whether a link stands at the entity
 module _ (basis : Basis) (state : State) (s : SetId) (entity : Entity) (region : Region) (part : AssocId → Bool → PropId → Value)
@@ -98,3 +100,29 @@ module _ (basis : Basis) (is : IsBasis basis) (state : State) (s : SetId) (entit
           λ p key. ap (λ b. part host.assoc b p) (not_is host.first_hosts) ∙ found.2 assoc here p key,
         ));
   }
+
+module _ (basis : Basis) (is : IsBasis basis) (linked : LinkedEntity basis) where
+  -- the region holds the entity with its hosted links, and the parts are those of its partners' keys
+  abbrev pub partnered : PartneredEntity basis
+  partnered = record {
+    held = record {
+      state = linked.state;
+      legal = linked.legal;
+      s = linked.s;
+      entity = linked.entity;
+      region = linked.region;
+      of_region = record {
+        stands = linked.held.stands;
+        listed = linked.held.listed;
+        links = links basis is linked.state linked.s linked.entity linked.region linked.part linked.held;
+        hosted = are_hosted basis is linked.state linked.s linked.entity linked.region linked.part linked.held;
+        holds = holds_hosted basis is linked.state linked.s linked.entity linked.region linked.part linked.held;
+      };
+    };
+    part = linked.part;
+    partners = are_partners basis is linked.state linked.s linked.entity linked.region linked.part linked.held;
+  }
+
+  -- so its values are such as the region allows
+  pub linked_allowed : IsAllowed basis linked.region (by_entity basis.schema.model linked.entity linked.part)
+  linked_allowed = region_allowed basis is partnered

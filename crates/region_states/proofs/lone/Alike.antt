@@ -25,32 +25,34 @@ module _ (basis : Basis) (is : IsBasis basis) (none : HasNoAssociationSets basis
 
   -- the states of one entity are all that is asked for
   pub lone_hosts : (outer : ℕ) → HostsFocuses basis outer (lone_focus basis)
-  lone_hosts outer = record { holds = λ s region has values admissible. lone_holds basis is none s region has values admissible.allowed }
+  lone_hosts outer = record { holds = λ at admissible. lone_holds basis is none at admissible.allowed }
 
   pub lone_rivals : (outer : ℕ) → HostsRivals basis outer (λ one values two others. (lone_focus basis one values, lone_focus basis two others))
   lone_rivals outer = record {
-    hold = λ few s one two has_one has_two flags values others admissible also parts keys. record {
-      first = lone_holds basis is none s one has_one values admissible.allowed;
-      second = lone_holds basis is none s two has_two others also.allowed;
+    hold = λ few pair. record {
+      first = lone_holds basis is none (record { s = pair.s; region = pair.one; listed = pair.is_one; values = pair.values }) pair.admissible.allowed;
+      second = lone_holds basis is none (record { s = pair.s; region = pair.two; listed = pair.is_two; values = pair.others }) pair.others_admissible.allowed;
       alike = (
-          let mine : Entity = focus_entity basis one values in
-          let theirs : Entity = focus_entity basis two others in
-          let sets : two.set ≡ one.set = set_is basis s two has_two ∙ sym (set_is basis s one has_one) in
-          differ_little one.set mine theirs (lone_focus basis one values) (lone_focus basis two others) (lone_small basis.schema.model one.set mine)
-          (subst (λ u. HasOneAtMost (lone_focus basis two others) u theirs) sets (lone_small basis.schema.model two.set theirs))
-          (sym keys));
+          let mine : Entity = focus_entity basis pair.one pair.values in
+          let theirs : Entity = focus_entity basis pair.two pair.others in
+          let c : State = lone_focus basis pair.one pair.values in
+          let d : State = lone_focus basis pair.two pair.others in
+          let sets : pair.two.set ≡ pair.one.set = set_is basis pair.s pair.two pair.is_two ∙ sym (set_is basis pair.s pair.one pair.is_one) in
+          differ_little pair.one.set mine theirs c d (lone_small basis.schema.model pair.one.set mine)
+          (subst (λ u. HasOneAtMost d u theirs) sets (lone_small basis.schema.model pair.two.set theirs)) (sym pair.keys));
     };
   }
 
   pub lone_leaves : (outer : ℕ) → LeavesOut basis outer (λ region values. (lone_focus basis region values, empty_state basis.schema.model))
   lone_leaves outer = record {
-    leave = λ few s region has one_entity values admissible. (
-        let entity : Entity = focus_entity basis region values in
+    leave = λ few at one_entity admissible. (
+        let set : SetId = at.region.set in
+        let entity : Entity = focus_entity basis at.region at.values in
         record {
-          first = lone_holds basis is none s region has values admissible.allowed;
+          first = lone_holds basis is none at admissible.allowed;
           second = empty_legal basis.schema.model none;
-          left_out = λ other stands. absurd (none_left basis.schema.model region.set other stands);
-          alike = differ_little region.set entity entity (lone_focus basis region values) (empty_state basis.schema.model) (lone_small basis.schema.model region.set entity)
-              (empty_small basis.schema.model region.set entity) refl;
+          left_out = λ other stands. absurd (none_left basis.schema.model set other stands);
+          alike = differ_little set entity entity (lone_focus basis at.region at.values) (empty_state basis.schema.model) (lone_small basis.schema.model set entity)
+              (empty_small basis.schema.model set entity) refl;
         });
   }

@@ -6,15 +6,12 @@ use Rattle.std.proofs.lemmas.List.{length-map}
 use Rattle.std.proofs.lemmas.List.FromFn.{length-enumerate_from}
 use Rattle.emc_base.proofs.Lists.{all_from_members}
 use Rattle.round_trip.specs.Words.{SetId, PropId, Null, EntityModel, EntityType, EntitySet, Prop, Assoc, Entity, State, At, HasAllowedNulls, HasFittingType, HasProp, HasValuesInDomain, InDomain, IsEntity, IsLegal, entities_in, props_of, value_of}
-use Rattle.regions.specs.declared.region.Region.{Region}
 use Rattle.regions.specs.Atoms.{Allows}
 use Rattle.regions.specs.Basis.{Basis, Host}
-use Rattle.regions.specs.Patterns.{Valuation}
-use Rattle.regions.specs.Regions.{regions_of}
 use Rattle.regions.specs.region_laws.IsBasis.{IsBasis, IsHostOf}
 use Rattle.regions.proofs.region_laws.listing.Listed.{is_listed, set_is}
 use Rattle.regions.proofs.region_laws.listing.Possible.{type_fits}
-use Rattle.regions.specs.region_laws.pattern.Allowed.{IsAllowed}
+use Rattle.regions.specs.region_laws.pattern.Allowed.{IsAllowed, RegionValues}
 use Rattle.regions.proofs.region_laws.pattern.values.Allowed.{domain_not_null}
 use Rattle.region_states.specs.Entities.{focus_entity}
 use Rattle.region_states.specs.LoneStates.{HasNoAssociationSets, empty_state, lone_focus, lone_state}
@@ -77,32 +74,32 @@ module _ (basis : Basis) (is : IsBasis basis) where
   pub no_host : HasNoAssociationSets basis.schema.model → (u : SetId) (host : Host) → Contains (basis.hosts u) host → ⊥
   no_host none u host hosts = let by : IsHostOf basis.schema u host = (is.hosts u host).0 hosts in no_assoc basis.schema.model none host.assoc.index by.assoc by.is_assoc
 
-  module _ (s : SetId) (region : Region) (has : Contains (regions_of basis s) region) (values : Valuation) (allowed : IsAllowed basis region values) where
+  module _ (at : RegionValues basis) (allowed : IsAllowed basis at.region at.values) where
     abbrev entity : Entity
-    entity = focus_entity basis region values
+    entity = focus_entity basis at.region at.values
 
     -- each property of the entity may hold its value
     entity_allows : (p : PropId) (declared : Prop) → HasProp basis.schema.model entity p declared → Allows declared (value_of basis.schema.model entity p)
-    entity_allows p declared of_type = carried basis region values p of_type.among (Allows declared) (allowed.props p declared of_type.among of_type.is_declared)
+    entity_allows p declared of_type = carried basis at.region at.values p of_type.among (Allows declared) (allowed.props p declared of_type.among of_type.is_declared)
 
-    is_entity : (type : EntityType) → At basis.schema.model.types region.ty.index type → IsEntity basis.schema.model entity
+    is_entity : (type : EntityType) → At basis.schema.model.types at.region.ty.index type → IsEntity basis.schema.model entity
     is_entity type here = (
       type,
       here,
-      length-map (props_of basis.schema.model region.ty) values.prop
+      length-map (props_of basis.schema.model at.region.ty) at.values.prop
           ∙ ap (λ found. length (option_map_or (λ (one : EntityType). one.props) found [])) here,
     )
 
     -- an entity of allowed values keeps the rules on types and values
-    pub focus_well : StandsWell basis.schema.model region.set entity
+    pub focus_well : StandsWell basis.schema.model at.region.set entity
     focus_well =
-        let listed = is_listed basis s region has in
-        let type = (type_fits basis is s region has listed.set listed.is_set).0 in
+        let listed = is_listed basis at.s at.region at.listed in
+        let type = (type_fits basis is at.s at.region at.listed listed.set listed.is_set).0 in
         record {
           is_entity = is_entity type.0 type.1;
           fits = λ set here. (
-              let at_set : At basis.schema.model.sets s.index set = subst (λ (u : SetId). At basis.schema.model.sets u.index set) (set_is basis s region has) here in
-              let both = type_fits basis is s region has set at_set in
+              let at_set : At basis.schema.model.sets at.s.index set = subst (λ (u : SetId). At basis.schema.model.sets u.index set) (set_is basis at.s at.region at.listed) here in
+              let both = type_fits basis is at.s at.region at.listed set at_set in
               record { concrete = both.0; under = both.1 });
           nulls = λ p declared of_type null. ⊎_elim
               (λ (told : (value_of basis.schema.model entity p ≡ Null) × IsTrue declared.nullable). told.1)
@@ -116,17 +113,17 @@ module _ (basis : Basis) (is : IsBasis basis) where
         }
 
   -- the state of this entity alone holds it
-  pub lone_holds : HasNoAssociationSets basis.schema.model → (s : SetId) (region : Region) → Contains (regions_of basis s) region → (values : Valuation)
-      → IsAllowed basis region values → HoldsFocus basis region values (lone_focus basis region values)
-  lone_holds none s region has values allowed =
-      let entity : Entity = focus_entity basis region values in
-      let listed = is_listed basis s region has in
+  pub lone_holds : HasNoAssociationSets basis.schema.model → (at : RegionValues basis) → IsAllowed basis at.region at.values
+      → HoldsFocus basis at.region at.values (lone_focus basis at.region at.values)
+  lone_holds none at allowed =
+      let entity : Entity = focus_entity basis at.region at.values in
+      let listed = is_listed basis at.s at.region at.listed in
       let P : SetId → Type 0 = λ u. At basis.schema.model.sets u.index listed.set in
       record {
-        legal = lone_legal basis.schema.model none region.set entity (focus_well s region has values allowed);
-        stands = lone_stands basis.schema.model region.set entity listed.set (subst P (sym (set_is basis s region has)) listed.is_set);
+        legal = lone_legal basis.schema.model none at.region.set entity (focus_well at allowed);
+        stands = lone_stands basis.schema.model at.region.set entity listed.set (subst P (sym (set_is basis at.s at.region at.listed)) listed.is_set);
         partners = record {
-          one = λ host hosts linked. absurd (no_host none region.set host hosts);
-          none = λ host hosts not_linked. absurd (no_host none region.set host hosts);
+          one = λ host hosts linked. absurd (no_host none at.region.set host hosts);
+          none = λ host hosts not_linked. absurd (no_host none at.region.set host hosts);
         };
       }

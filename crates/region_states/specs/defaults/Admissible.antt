@@ -1,7 +1,7 @@
 -- Values of an entity of a region whose partners have numbered keys, and which of its values may be others.
 -- Source: CSDL version 3, Property, Key and ReferentialConstraint; this project's regions.
 use Rattle.std.specs.Prelude.{◌≡◌, ◌≢◌, ◌≤◌, ◌<◌, ℕ, Bool, Option, Some, Contains, not}
-use Rattle.round_trip.specs.Words.{PropId, Value, Null, Kind, Prop, Assoc, At, key_props, props_of}
+use Rattle.round_trip.specs.Words.{SetId, PropId, Value, Null, Kind, Prop, Assoc, At, key_props, props_of}
 use Rattle.round_trip.specs.soundness.mappings.Joined.{IsDependent, prop}
 use Rattle.condition_logic.specs.declared.atoms.Atom.{Atom}
 use Rattle.regions.specs.declared.pattern.Symbol.TheVariants as symbol
@@ -9,6 +9,7 @@ use Rattle.regions.specs.declared.region.Region.{Region}
 use Rattle.regions.specs.Atoms.{Allows, LiesIn, atom_at}
 use Rattle.regions.specs.Basis.{Basis, Host, partner_end}
 use Rattle.regions.specs.Patterns.{Valuation}
+use Rattle.regions.specs.Regions.{regions_of}
 use Rattle.regions.specs.Settled.{multi, possible}
 use Rattle.regions.specs.region_laws.pattern.Allowed.{IsAllowed}
 use Rattle.schema_laws.specs.short_values.Short.{IsShort}
@@ -53,6 +54,16 @@ pub record HasSeveral (basis : Basis) (region : Region) (p : PropId) (declared :
   pub among : Contains (props_of basis.schema.model region.ty) p
   pub no_key : ¬ Contains (key_props basis.schema.model region.ty) p
   pub several : possible basis.schema.model region.atoms (symbol.Prop p) ≡ multi nullable
+
+-- such a property of a region of a set
+pub record SeveralOf (basis : Basis) : Type 0 where
+  pub s : SetId
+  pub region : Region
+  pub listed : Contains (regions_of basis s) region
+  pub p : PropId
+  pub declared : Prop
+  pub nullable : Bool
+  pub several : HasSeveral basis region p declared nullable
 
 -- two choices that differ, and of which none is null
 pub record AreTwoChoices (basis : Basis) (region : Region) (p : PropId) (one two : Value) : Type 0 where

@@ -4,9 +4,13 @@ use Rattle.std.specs.Prelude.{◌≢◌, List, [], ◌∷◌, map, filter, slice
 use Rattle.std.specs.List.{list_any}
 use Rattle.emc_base.specs.declared.value.Value.TheVariants as value
 use Rattle.emc_base.specs.declared.value.Kind.TheVariants as kind
-use Rattle.round_trip.specs.Words.{Value, Null, Whole, Flag, Kind, InDomain}
+use Rattle.round_trip.specs.Words.{PropId, Value, Null, Whole, Flag, Kind, Prop, At, InDomain}
+use Rattle.round_trip.specs.soundness.mappings.Joined.{prop}
+use Rattle.round_trip.specs.soundness.Kinds.{IsEnum}
+use Rattle.member_groups.specs.Tested.{AreInOneGroup}
 use Rattle.schema_laws.specs.short_values.Numbers.{letter, number, numbers_from}
 use Rattle.schema_laws.specs.state_demand.Selecting.{same_value}
+use Rattle.regions.specs.Basis.{Basis}
 
 -- both flags, a hundred texts, two byte lists, the numbers of an enumeration, or a hundred numbers
 abbrev pub candidates : Kind → List Value
@@ -33,6 +37,14 @@ first_free kind constants = unwrap_or (slice_get (free_values kind constants) 0)
 -- the second of these
 abbrev pub next_free : Kind → List Value → Value
 next_free kind constants = unwrap_or (slice_get (free_values kind constants) 1) Null
+
+-- two properties of one group, of which none is of an enumeration
+pub record AreGrouped (basis : Basis) (p q : PropId) (declared other : Prop) : Type 0 where
+  pub is_declared : At basis.schema.model.props p.index declared
+  pub other_declared : At basis.schema.model.props q.index other
+  pub in_one_group : AreInOneGroup basis.schema (prop p) (prop q)
+  pub no_enum : ¬ IsEnum declared.kind
+  pub other_no_enum : ¬ IsEnum other.kind
 
 -- two values are different, in the domain of the kind, and no constants
 pub record AreTwoFree (kind : Kind) (constants : List Value) (one two : Value) : Type 0 where

@@ -1,4 +1,5 @@
 pub mod Flags
+pub mod Held
 pub mod Hosting
 pub mod Partners
 pub mod Regions

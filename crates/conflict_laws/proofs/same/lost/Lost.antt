@@ -2,7 +2,7 @@
 use Rattle.std.proofs.Common.{◌≡◌, ◌≢◌, ◌&&◌, [], ◌∷◌, List, Bool, true, true≢false, not, Contains, IsTrue, refl, sym, ap, subst, ◌∙◌, arith}
 use Rattle.std.specs.Option.{option_map_or}
 use Rattle.std.proofs.lemmas.Bool.{and_parts, not-true}
-use Rattle.round_trip.specs.Words.{SetId, TableId, ColId, PropId, Prop, EntitySet, Entity, FailsAt, State, At, key_of, key_props, place_at, props_of, value_of}
+use Rattle.round_trip.specs.Words.{SetId, TableId, ColId, PropId, Prop, EntitySet, Entity, FailsAt, At, key_of, key_props, place_at, props_of, value_of}
 use Rattle.round_trip.specs.declared.FailKind.TheVariants as kind
 use Rattle.schema_laws.proofs.state_demand.lists.Lists.{head_stands}
 use Rattle.regions.specs.declared.region.Region.{Region}
@@ -16,7 +16,7 @@ use Rattle.regions.specs.Settled.{Possible, multi, possible, single}
 use Rattle.regions.proofs.region_laws.entities.Regions.{prop_there}
 use Rattle.regions.specs.region_laws.pattern.Described.{value_in}
 use Rattle.regions.specs.region_laws.pattern.Listed.{HasCell, Lists}
-use Rattle.region_states.specs.defaults.Admissible.{AreTwoChoices, DifferAt, HasSeveral, IsAdmissible}
+use Rattle.region_states.specs.defaults.Admissible.{AreTwoChoices, DifferAt, IsAdmissible, SeveralOf}
 use Rattle.region_states.specs.defaults.Defaults.{alone, changed, default_valuation, one_value, other_value}
 use Rattle.region_states.proofs.defaults.Changes.{differ_at, two_choices}
 use Rattle.region_states.proofs.defaults.Defaults.{default_admissible}
@@ -27,11 +27,13 @@ use Rattle.region_states.specs.Hosting.{HoldRivals}
 use Rattle.region_states.proofs.Entities.{has_value}
 use Rattle.conflict_laws.proofs.rival.Reading.{anywhere}
 use Rattle.conflict_laws.specs.same.SameValues.{with_one, with_other}
-use Rattle.conflict_laws.specs.same.States.{HasStates}
 use Rattle.conflict_laws.proofs.same.rows.Cells.{one_cell}
-use Rattle.conflict_laws.proofs.same.rivals.Rivals.{AreTwins, twins_fail}
-use Rattle.conflict_laws.proofs.same.states.States.{is_clear}
+use Rattle.conflict_laws.proofs.same.rivals.Rivals.{twins_fail}
 use Rattle.conflict_laws.proofs.rival.Rivals.{one_focus_key}
+use Rattle.conflict_laws.specs.States.{RivalStates}
+use Rattle.conflict_laws.proofs.clash.Clear.{region_clear}
+use Rattle.conflict_laws.specs.Told.{LostProp}
+use Rattle.conflict_laws.specs.rival.Alike.{AreTwins, HaveOneKey}
 
 -- what may have several values, by the fact
 several_of : (can : Possible) → is_multi can ≡ true → (nullable : Bool) × (can ≡ multi nullable)
@@ -87,57 +89,73 @@ module _ (basis : Basis) (region : Region) (p : PropId) (lost : IsLost basis reg
   same_value t col [] has = refl
   same_value t col (first ∷ rest) has = same_symbol_value t col first (first ∷ rest, has, head_stands first rest)
 
-module _ (basis : Basis) (state : Region → Valuation → State) (rivals : Region → Valuation → Region → Valuation → State × State)
-    (leaving : Region → Valuation → State × State) (has : HasStates basis state rivals leaving) (s : SetId) (set : EntitySet) (is_set : At basis.schema.model.sets s.index set)
+module _ (basis : Basis) (given : RivalStates basis) (s : SetId) (set : EntitySet) (is_set : At basis.schema.model.sets s.index set)
     (region : Region) (listed : Contains (regions_of basis s) region) (p : PropId) (lost : IsLost basis region p) where
   abbrev FailsWith : Valuation → Valuation → Type 0
   FailsWith one two = FailsAt basis.schema kind.Same (place_at set.name (key_of basis.schema.model (focus_entity basis region one)) [])
-      (rivals region one region two).0 (rivals region one region two).1
+      (given.rivals region one region two).0 (given.rivals region one region two).1
 
   -- values that differ in the property alone
   differ_fails : (base one two : Valuation) → IsAdmissible basis 0 region one → IsAdmissible basis 0 region two → DifferAt base one two p → FailsWith one two
   differ_fails base one two admissible_one admissible_two differ =
-      let clear_region = is_clear basis state rivals leaving has s region listed in
+      let clear_region = region_clear basis given.clear s region listed in
       let twins : AreTwins basis s region region one two = record {
         comparable = record { is_one = listed; is_two = listed; linked = refl; clear_one = clear_region; clear_two = clear_region };
         allowed = admissible_one.allowed;
         others_allowed = admissible_two.allowed;
-        keyed = record {
-          keys = λ q key.
-              let other : q ≢ p = λ same. lost.no_key (subst (Contains (key_props basis.schema.model region.ty)) same key) in
-              differ.one_others q other ∙ sym (differ.two_others q other);
-          parts = differ.one_parts ∙ sym differ.two_parts;
-        };
         alike = record {
           rows = λ t. ((λ there. there), (λ there. there));
           cells = λ t col cell other has_cell too.
               same_value basis region p lost base one two differ t col cell has_cell
-              ∙ ap (value_in two) (one_cell basis has.is_basis (focus.Entity region) t col cell other has_cell too);
+              ∙ ap (value_in two) (one_cell basis given.clear.given.is_basis (focus.Entity region) t col cell other has_cell too);
         };
       } in
-      let hold : HoldRivals basis region region one two (rivals region one region two).0 (rivals region one region two).1 =
-      has.rival.hold has.few s region region listed listed refl one two admissible_one admissible_two (differ.one_parts ∙ sym differ.two_parts)
-      (one_focus_key basis has.is_basis s region region twins.comparable one two twins.keyed) in
-      twins_fail basis has.is_basis has.no_clash s set is_set region region one two twins (rivals region one region two).0 (rivals region one region two).1 hold
+      let keyed : HaveOneKey basis region one two = record {
+        keys = λ q key.
+            let other : q ≢ p = λ same. lost.no_key (subst (Contains (key_props basis.schema.model region.ty)) same key) in
+            differ.one_others q other ∙ sym (differ.two_others q other);
+        parts = differ.one_parts ∙ sym differ.two_parts;
+      } in
+      let hold : HoldRivals basis region region one two (given.rivals region one region two).0 (given.rivals region one region two).1 =
+      given.hold.hold given.few (record {
+        s = s;
+        one = region;
+        two = region;
+        is_one = listed;
+        is_two = listed;
+        linked = refl;
+        values = one;
+        others = two;
+        admissible = admissible_one;
+        others_admissible = admissible_two;
+        partners = differ.one_parts ∙ sym differ.two_parts;
+        keys = one_focus_key basis given.clear.given.is_basis s region region twins.comparable one two keyed;
+      }) in
+      twins_fail basis given.clear.given.is_basis given.clear.no_clash s set is_set region region one two twins keyed
+      (given.rivals region one region two).0 (given.rivals region one region two).1 hold
       (λ same. differ.different (sym (has_value basis region one p lost.among) ∙ ap (λ (e : Entity). value_of basis.schema.model e p) same
       ∙ has_value basis region two p lost.among))
 
   -- and so the states with these fail
-  pub lost_fails : FailsWith (with_one basis region p) (with_other basis region p)
-  lost_fails =
-      let found = prop_there basis has.is_basis region.ty p lost.among in
+  the_lost_fail : FailsWith (with_one basis region p) (with_other basis region p)
+  the_lost_fail =
+      let found = prop_there basis given.clear.given.is_basis region.ty p lost.among in
       let declared : Prop = found.0 in
-      let several : HasSeveral basis region p declared lost.several.0 = record {
-        is_declared = found.1;
-        among = lost.among;
-        no_key = lost.no_key;
-        several = lost.several.1;
+      let several : SeveralOf basis = record {
+        s = s;
+        region = region;
+        listed = listed;
+        p = p;
+        declared = declared;
+        nullable = lost.several.0;
+        several = record { is_declared = found.1; among = lost.among; no_key = lost.no_key; several = lost.several.1 };
       } in
       let base : Valuation = default_valuation basis 0 region in
       let choices : AreTwoChoices basis region p (one_value basis p declared) (other_value basis p declared) =
-      two_choices basis has.is_basis s region listed p declared lost.several.0 several has.limits in
-      let differ = differ_at basis has.is_basis s region listed 0 base (default_admissible basis has.is_basis has.limits s region listed 0 (omega arith)) p (one_value basis p declared)
-      (other_value basis p declared) choices in
+      two_choices basis given.clear.given.is_basis several given.clear.given.limits in
+      let differ = differ_at basis given.clear.given.is_basis 0 (record { s = s; region = region; listed = listed; values = base })
+      (default_admissible basis given.clear.given.is_basis given.clear.given.limits s region listed 0 (omega arith)) p (one_value basis p declared) (other_value basis p declared)
+      choices in
       let first : with_one basis region p ≡ changed base (alone p (one_value basis p declared)) =
       ap (λ there. option_map_or (λ (d : Prop). changed (default_valuation basis 0 region) (alone p (one_value basis p d))) there (default_valuation basis 0 region)) found.1 in
       let second : with_other basis region p ≡ changed base (alone p (other_value basis p declared)) =
@@ -145,3 +163,9 @@ module _ (basis : Basis) (state : Region → Valuation → State) (rivals : Regi
       subst (FailsWith (with_one basis region p)) (sym second)
       (subst (λ one. FailsWith one (changed base (alone p (other_value basis p declared)))) (sym first)
       (differ_fails base (changed base (alone p (one_value basis p declared))) (changed base (alone p (other_value basis p declared))) differ.0 differ.1 differ.2))
+
+pub lost_fails : (basis : Basis) (given : RivalStates basis) (at : LostProp basis) (set : EntitySet) → At basis.schema.model.sets at.s.index set
+    → FailsAt basis.schema kind.Same (place_at set.name (key_of basis.schema.model (focus_entity basis at.region (with_one basis at.region at.p))) [])
+    (given.rivals at.region (with_one basis at.region at.p) at.region (with_other basis at.region at.p)).0
+    (given.rivals at.region (with_one basis at.region at.p) at.region (with_other basis at.region at.p)).1
+lost_fails basis given at set is_set = the_lost_fail basis given at.s set is_set at.region at.listed at.p (lost_told basis at.region at.p at.lost)

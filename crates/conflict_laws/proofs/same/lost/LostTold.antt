@@ -11,15 +11,16 @@ use Rattle.regions.specs.Settled.{Possible, multi, possible, single}
 use Rattle.regions.specs.region_laws.IsBasis.{IsBasis}
 use Rattle.regions.specs.region_laws.pattern.Allowed.{IsAllowed}
 use Rattle.regions.specs.region_laws.pattern.Listed.{Lists}
-use Rattle.region_states.specs.focus.Held.{IsHeldAt}
+use Rattle.regions.specs.region_laws.Held.{IsHeldAt}
 use Rattle.schema_laws.proofs.short_values.Places.{Decides-among}
 use Rattle.region_states.specs.conflicts.SameFacts.{is_lost, is_multi, is_one_of, lists_anywhere}
+use Rattle.region_states.proofs.focus.Partners.{linked_allowed}
 use Rattle.conflict_laws.specs.rival.Alike.{AreWrittenAlike, IsClear}
 use Rattle.conflict_laws.proofs.rival.Reading.{somewhere}
-use Rattle.conflict_laws.proofs.same.rows.Cells.{held_allowed, value_is}
+use Rattle.conflict_laws.proofs.same.rows.Cells.{value_is}
 use Rattle.conflict_laws.proofs.same.states.Entities.{property_differs, single_value}
 use Rattle.conflict_laws.proofs.same.states.Legal.{key_parts, parts_alike}
-use Rattle.conflict_laws.proofs.same.rows.Rows.{HaveSameTables, written_alike}
+use Rattle.conflict_laws.proofs.same.rows.Rows.{HaveSameTables, written_alike, at_x, at_y}
 
 -- what can't have one value alone may have several
 several_or_one : (can : Possible) → ((v : Value) → ¬ (can ≡ single v)) → is_multi can ≡ true
@@ -35,10 +36,10 @@ module _ (basis : Basis) (is : IsBasis basis) (s : SetId) (set : EntitySet) (is_
 
   -- with values that the region allows
   allowed_x : IsAllowed basis region (by_entity basis.schema.model x part)
-  allowed_x = held_allowed basis is c have.legal_c s x region part held_x
+  allowed_x = linked_allowed basis is (at_x basis is c d tables others have s x y keyed region region part part held_x held_y)
 
   allowed_y : IsAllowed basis region (by_entity basis.schema.model y part)
-  allowed_y = held_allowed basis is d have.legal_d s y region part held_y
+  allowed_y = linked_allowed basis is (at_y basis is c d tables others have s x y keyed region region part part held_x held_y)
 
   -- a listed property has one value, that of its cell
   listed_same : (t : TableId) (col : ColId) (p : PropId) → Lists (pattern_of basis (focus.Entity region)) t col (symbol.Prop p)

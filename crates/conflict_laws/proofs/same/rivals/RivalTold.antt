@@ -7,11 +7,11 @@ use Rattle.regions.specs.Patterns.{by_entity}
 use Rattle.regions.specs.region_laws.IsBasis.{IsBasis}
 use Rattle.schema_laws.proofs.state_demand.lists.Ids.{Decides-assoc}
 use Rattle.region_states.specs.conflicts.SameFacts.{are_rivals, match_all, same_region}
+use Rattle.region_states.proofs.focus.Partners.{linked_allowed}
 use Rattle.conflict_laws.specs.rival.Alike.{AreComparable, IsClear, PatternsMatch, patterns_match}
 use Rattle.conflict_laws.proofs.rival.Alike.{alike_match}
 use Rattle.conflict_laws.proofs.rival.Matching.{match_self}
-use Rattle.conflict_laws.proofs.same.rows.Cells.{held_allowed}
-use Rattle.conflict_laws.proofs.same.rows.Rows.{HaveSameTables, written_alike}
+use Rattle.conflict_laws.proofs.same.rows.Rows.{HaveSameTables, written_alike, at_x, at_y}
 use Rattle.conflict_laws.proofs.same.rows.Together.{StandTogether}
 
 module _ (basis : Basis) (is : IsBasis basis) (s : SetId) (c d : State) (tables others : Tables) (have : HaveSameTables basis c d tables others) (x y : Entity)
@@ -29,10 +29,16 @@ module _ (basis : Basis) (is : IsBasis basis) (s : SetId) (c d : State) (tables 
 
   -- and match, since the entities are written alike
   matching : PatternsMatch basis together.one together.two
-  matching = alike_match basis is s together.one together.two comparable (by_entity basis.schema.model x together.part) (by_entity basis.schema.model y together.part)
-      (held_allowed basis is c have.legal_c s x together.one together.part together.held_x)
-      (held_allowed basis is d have.legal_d s y together.two together.part together.held_y)
-      (written_alike basis is c d tables others have s x y keyed together.one together.two together.part together.part together.held_x together.held_y clear_one clear_two)
+  matching =
+      let mine = at_x basis is c d tables others have s x y keyed together.one together.two together.part together.part together.held_x together.held_y in
+      let theirs = at_y basis is c d tables others have s x y keyed together.one together.two together.part together.part together.held_x together.held_y in
+      alike_match basis is s together.one together.two (by_entity basis.schema.model x together.part) (by_entity basis.schema.model y together.part) (record {
+        comparable = comparable;
+        allowed = linked_allowed basis is mine;
+        others_allowed = linked_allowed basis is theirs;
+        alike = written_alike basis is c d tables others have s x y keyed together.one together.two together.part together.part together.held_x together.held_y
+            clear_one clear_two;
+      })
 
   -- so they are rivals
   pub rival_told : same_region together.one together.two ≡ false → IsTrue (are_rivals basis together.one together.two)

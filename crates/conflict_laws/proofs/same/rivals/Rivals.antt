@@ -14,16 +14,15 @@ use Rattle.regions.specs.Patterns.{Valuation, by_entity, pattern_of}
 use Rattle.regions.specs.Regions.{regions_of}
 use Rattle.regions.specs.region_laws.IsBasis.{IsBasis}
 use Rattle.regions.proofs.region_laws.listing.Listed.{set_is}
-use Rattle.regions.specs.region_laws.pattern.Allowed.{IsAllowed}
 use Rattle.regions.specs.region_laws.pattern.Described.{value_in}
 use Rattle.regions.specs.region_laws.pattern.Listed.{HasCell}
-use Rattle.region_states.specs.focus.Held.{IsAtRow, IsHeldAt}
+use Rattle.regions.specs.region_laws.Held.{IsAtRow, IsHeldAt}
 use Rattle.region_states.specs.conflicts.There.{NoneFailsBy}
 use Rattle.region_states.specs.Entities.{focus_entity}
 use Rattle.region_states.specs.Hosting.{DifferAtMostAt, HoldRivals}
 use Rattle.region_states.proofs.Entities.{symbol_value}
 use Rattle.region_states.proofs.Held.{focus_held}
-use Rattle.conflict_laws.specs.rival.Alike.{AreComparable, AreWrittenAlike, HaveOneKey}
+use Rattle.conflict_laws.specs.rival.Alike.{AreWrittenAlike, HaveOneKey, AreTwins}
 use Rattle.conflict_laws.proofs.same.states.Different.{same_fails}
 use Rattle.conflict_laws.proofs.same.states.Legal.{at_same_row, one_at_key, unclashed}
 use Rattle.conflict_laws.proofs.same.states.SameTables.{AgreeAt, AgreeEverywhere, IsAtEither, agree_everywhere, tables_too}
@@ -36,18 +35,11 @@ value_by : (basis : Basis) → IsBasis basis → (s : SetId) (region : Region) �
     → value_in (by_entity basis.schema.model (focus_entity basis region values) values.part) cell ≡ value_in values cell
 value_by basis is s region listed values t col [] has = refl
 value_by basis is s region listed values t col (first ∷ rest) has =
-    symbol_value basis is s region listed values t col first (first ∷ rest, has, head_stands first rest)
-
--- two regions of a set, and values by which their entities have one key and are written alike
-pub record AreTwins (basis : Basis) (s : SetId) (one two : Region) (values others : Valuation) : Type 0 where
-  pub comparable : AreComparable basis s one two
-  pub allowed : IsAllowed basis one values
-  pub others_allowed : IsAllowed basis two others
-  pub keyed : HaveOneKey basis one values others
-  pub alike : AreWrittenAlike basis one two values others
+    symbol_value basis is (record { s = s; region = region; listed = listed; values = values }) t col first (first ∷ rest, has, head_stands first rest)
 
 module _ (basis : Basis) (is : IsBasis basis) (none_clash : NoneFailsBy basis.schema kind.Clash) (s : SetId) (set : EntitySet) (is_set : At basis.schema.model.sets s.index set)
-    (one two : Region) (values others : Valuation) (twins : AreTwins basis s one two values others) (c d : State) (hold : HoldRivals basis one two values others c d) where
+    (one two : Region) (values others : Valuation) (twins : AreTwins basis s one two values others) (keyed : HaveOneKey basis one values others)
+    (c d : State) (hold : HoldRivals basis one two values others c d) where
   -- the entities, and their key
   abbrev mine : Entity
   mine = focus_entity basis one values
@@ -60,14 +52,14 @@ module _ (basis : Basis) (is : IsBasis basis) (none_clash : NoneFailsBy basis.sc
 
   -- the regions hold the entities
   held_x : IsHeldAt basis c s mine one values.part
-  held_x = focus_held basis is s one twins.comparable.is_one values twins.allowed c hold.first
+  held_x = focus_held basis is (record { s = s; region = one; listed = twins.comparable.is_one; values = values }) twins.allowed c hold.first
 
   held_y : IsHeldAt basis d s theirs two others.part
-  held_y = focus_held basis is s two twins.comparable.is_two others twins.others_allowed d hold.second
+  held_y = focus_held basis is (record { s = s; region = two; listed = twins.comparable.is_two; values = others }) twins.others_allowed d hold.second
 
   -- the entities have one key
   same_key : key_of basis.schema.model mine ≡ key_of basis.schema.model theirs
-  same_key = one_focus_key basis is s one two twins.comparable values others twins.keyed
+  same_key = one_focus_key basis is s one two twins.comparable values others keyed
 
   -- and are written alike
   alike_by : AreWrittenAlike basis one two (by_entity basis.schema.model mine values.part) (by_entity basis.schema.model theirs others.part)
@@ -86,8 +78,10 @@ module _ (basis : Basis) (is : IsBasis basis) (none_clash : NoneFailsBy basis.sc
   -- the states agree at the rows of both entities
   agree_there : (t : TableId) (table : Table) → At basis.schema.store.tables t.index table → (key : List Value) → IsAtRow basis c s mine t key → IsAtRow basis d s theirs t key
       → AgreeAt basis.schema c d t table key
-  agree_there t table here = agree_at basis is s c d hold.first.legal hold.second.legal mine theirs one two values.part others.part held_x held_y twins.comparable.clear_one
-      twins.comparable.clear_two alike_by t table here
+  agree_there t table here = agree_at basis is
+      (record { state = c; legal = hold.first.legal; s = s; entity = mine; region = one; part = values.part; held = held_x })
+      (record { state = d; legal = hold.second.legal; s = s; entity = theirs; region = two; part = others.part; held = held_y })
+      twins.comparable.clear_one twins.comparable.clear_two alike_by t table here
 
   -- and these are the rows of this key
   focus_agrees : (t : TableId) (table : Table) → At basis.schema.store.tables t.index table → (key : List Value) → IsAtEither basis s focus_key c d t key

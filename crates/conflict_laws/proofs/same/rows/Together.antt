@@ -3,17 +3,17 @@ use Rattle.std.proofs.Common.{◌≡◌, ◌∷◌, [], List, Bool, Contains, sy
 use Rattle.std.specs.Option.{option_map_or}
 use Rattle.emc_base.proofs.Lists.{only_member, only_stands}
 use Rattle.emc_base.proofs.facts.Images.{flat_map_agree}
-use Rattle.round_trip.specs.Words.{SetId, AssocId, PropId, Assoc, Entity, EntitySet, Hosted, IsLegal, Link, State, TypeId, Value, At, entities_in, key_of, links_in}
+use Rattle.round_trip.specs.Words.{SetId, AssocId, PropId, Assoc, Entity, Hosted, IsLegal, Link, State, TypeId, Value, entities_in, key_of, links_in}
 use Rattle.regions.specs.declared.region.Region.{Region}
 use Rattle.regions.specs.Basis.{Basis, Host, IsHostedLink, host_end, partner_end}
 use Rattle.regions.specs.Regions.{flagged}
 use Rattle.regions.specs.region_laws.IsBasis.{AreHostedLinks, IsBasis, IsHostOf}
 use Rattle.regions.specs.region_laws.Partners.{HasFewPartners, HasPartners, part_by}
 use Rattle.regions.specs.region_laws.RegionAt.{flag_by, flag_in, has_link, hosted_links, links_at, region_at}
+use Rattle.regions.specs.region_laws.Held.{IsHeldAt, IsOfRegion}
 use Rattle.regions.proofs.region_laws.entities.Flags.{flag_is}
 use Rattle.regions.proofs.region_laws.entities.Hosting.{hosted_are}
-use Rattle.regions.proofs.region_laws.entities.Regions.{region_among, region_holds}
-use Rattle.region_states.specs.focus.Held.{IsHeldAt, IsOfRegion}
+use Rattle.regions.proofs.region_laws.entities.Regions.{region_held}
 use Rattle.region_states.proofs.focus.Flags.{held_at}
 use Rattle.conflict_laws.proofs.same.states.HostedAt.{at_host, host_at}
 
@@ -30,7 +30,7 @@ pub record StandTogether (basis : Basis) (s : SetId) (c d : State) (x y : Entity
   pub held_y : IsHeldAt basis d s y two part
   pub linked : one.linked ≡ two.linked
 
-module _ (basis : Basis) (is : IsBasis basis) (s : SetId) (few : HasFewPartners basis s) (set : EntitySet) (is_set : At basis.schema.model.sets s.index set) (c d : State)
+module _ (basis : Basis) (is : IsBasis basis) (s : SetId) (few : HasFewPartners basis s) (c d : State)
     (legal_c : IsLegal basis.schema.model c) (legal_d : IsLegal basis.schema.model d) (there : HasLinksToo basis s c d) (back : HasLinksToo basis s d c) (x y : Entity)
     (has_x : Contains (entities_in c s) x) (has_y : Contains (entities_in d s) y) (same : key_of basis.schema.model x ≡ key_of basis.schema.model y) where
   -- the links that the first entity hosts
@@ -72,22 +72,12 @@ module _ (basis : Basis) (is : IsBasis basis) (s : SetId) (few : HasFewPartners 
 
   -- holds it with these links
   of_x : IsOfRegion basis c s x region_x
-  of_x = record {
-    stands = has_x;
-    listed = region_among basis is c legal_c s set is_set x has_x links hosted_x;
-    links = links;
-    hosted = hosted_x;
-    holds = region_holds basis is c legal_c s set is_set x has_x links hosted_x;
-  }
+  of_x = let by = region_held basis is (record { state = c; legal = legal_c; s = s; entity = x; stands = has_x }) links hosted_x in
+      record { stands = has_x; listed = by.0; links = links; hosted = hosted_x; holds = by.1 }
 
   of_y : IsOfRegion basis d s y region_y
-  of_y = record {
-    stands = has_y;
-    listed = region_among basis is d legal_d s set is_set y has_y links hosted_y;
-    links = links;
-    hosted = hosted_y;
-    holds = region_holds basis is d legal_d s set is_set y has_y links hosted_y;
-  }
+  of_y = let by = region_held basis is (record { state = d; legal = legal_d; s = s; entity = y; stands = has_y }) links hosted_y in
+      record { stands = has_y; listed = by.0; links = links; hosted = hosted_y; holds = by.1 }
 
   -- a flag is told by the links alone, where the partners are few
   flag_told : (t : TypeId) (host : Host) → Contains (basis.hosts s) host → flag_in basis t links host ≡ flagged host.assoc (has_link links host.assoc)
@@ -107,11 +97,11 @@ module _ (basis : Basis) (is : IsBasis basis) (s : SetId) (few : HasFewPartners 
   part = part_by basis c s (key_of basis.schema.model x)
 
   held_x : IsHeldAt basis c s x region_x part
-  held_x = held_at basis is c legal_c s x region_x of_x few
+  held_x = held_at basis is (record { state = c; legal = legal_c; s = s; entity = x; region = region_x; of_region = of_x }) few
 
   -- the second entity has its own partners
   held_own : IsHeldAt basis d s y region_y (part_by basis d s (key_of basis.schema.model y))
-  held_own = held_at basis is d legal_d s y region_y of_y few
+  held_own = held_at basis is (record { state = d; legal = legal_d; s = s; entity = y; region = region_y; of_region = of_y }) few
 
   -- and these are the first one's
   partners_y : HasPartners basis d s y region_y part

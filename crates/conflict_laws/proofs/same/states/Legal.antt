@@ -12,7 +12,7 @@ use Rattle.schema_laws.proofs.sound_demand.Keys.{inherits_keys}
 use Rattle.schema_laws.proofs.sound_demand.Kept.{clash_shown}
 use Rattle.regions.specs.Basis.{Basis}
 use Rattle.regions.specs.region_laws.IsBasis.{IsBasis}
-use Rattle.region_states.specs.focus.Held.{IsAtRow}
+use Rattle.regions.specs.region_laws.Held.{IsAtRow}
 use Rattle.region_states.specs.conflicts.There.{NoneFailsBy}
 
 -- where no legal state fails by a clash, none clashes

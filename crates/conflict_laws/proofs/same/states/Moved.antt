@@ -10,8 +10,9 @@ use Rattle.regions.specs.Basis.{Basis}
 use Rattle.regions.specs.region_laws.Concrete.{IsWritingAt}
 use Rattle.regions.specs.region_laws.IsBasis.{IsBasis}
 use Rattle.regions.specs.region_laws.RegionAt.{links_at}
+use Rattle.regions.specs.region_laws.Held.{IsAtRow}
 use Rattle.regions.proofs.region_laws.writings.Owned.{row_writings}
-use Rattle.region_states.specs.focus.Held.{IsAtRow, IsRowOfOne}
+use Rattle.region_states.specs.focus.Held.{IsRowOfOne}
 use Rattle.region_states.proofs.focus.Demanded.{row_of_one}
 use Rattle.region_states.specs.Hosting.{DifferAtMostAt}
 use Rattle.conflict_laws.proofs.same.states.HostedAt.{at_host, host_at}
@@ -85,9 +86,10 @@ module _ (basis : Basis) (is : IsBasis basis) (s : SetId) (focus_key : List Valu
           (λ (here : (u ≡ s) × (key_of basis.schema.model entity ≡ focus_key)).
           inl (record { entity = entity; at_row = subst (λ one. IsAtRow basis c one entity t key) here.0 at; keyed = here.1 }))
           (λ (elsewhere : ¬ ((u ≡ s) × (key_of basis.schema.model entity ≡ focus_key))).
-          let told = (row_writings basis is t u at.pairing at.owned c legal_c entity key at.at writing).0 writes in
+          let told = (row_writings basis is (record { state = c; legal = legal_c; s = u; entity = entity; stands = at.at.stands }) t key at writing).0 writes in
           let at_d : StandsAt basis.schema d u at.pairing key entity = record { stands = (alike.entities u entity elsewhere).0 at.at.stands; at_key = at.at.at_key } in
-          inr ((row_writings basis is t u at.pairing at.owned d legal_d entity key at_d writing).1 (told.0, entity_moved u entity elsewhere writing told.1)))
+          inr ((row_writings basis is (record { state = d; legal = legal_d; s = u; entity = entity; stands = at_d.stands }) t key
+          (record { pairing = at.pairing; owned = at.owned; at = at_d }) writing).1 (told.0, entity_moved u entity elsewhere writing told.1)))
           (both_or_not (set_or_not u s) (key_or_not (key_of basis.schema.model entity) focus_key))
       by (inr (fragment, assoc, link, at)) =
           let found = (is_local_to_links basis.schema is.sound c legal_c t fragment assoc at.joined).local key writing writes in

@@ -2,7 +2,7 @@ use Rattle.region_states.proofs.defaults.Changes.{changed_admissible, changed_ke
 use Rattle.region_states.proofs.default_values.properties_can_differ.Goals as goal
 
 pub returns-clause-choices : goal.returns-clause-choices
-returns-clause-choices c = λ basis is limits s region has p declared nullable several. two_choices basis is s region has p declared nullable several limits
+returns-clause-choices c = two_choices
 
 pub returns-clause-alone : goal.returns-clause-alone
 returns-clause-alone c = differ_at

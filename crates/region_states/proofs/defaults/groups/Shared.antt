@@ -15,7 +15,7 @@ use Rattle.member_groups.proofs.Constants.{joined_constant}
 use Rattle.schema_laws.specs.state_demand.Selecting.{same_value}
 use Rattle.regions.specs.region_laws.IsBasis.{IsBasis}
 use Rattle.regions.specs.Basis.{Basis}
-use Rattle.region_states.specs.defaults.Candidates.{candidates, first_free, free_values, is_free, next_free}
+use Rattle.region_states.specs.defaults.Candidates.{candidates, first_free, free_values, is_free, next_free, AreGrouped}
 use Rattle.region_states.proofs.defaults.groups.Classes.{at_class, class_at}
 use Rattle.region_states.proofs.defaults.Lists.{Decides-constant}
 
@@ -59,8 +59,13 @@ unbound_same (kind.Text bound) constants no_enum = refl
 unbound_same (kind.Binary bound) constants no_enum = refl
 unbound_same (kind.Enum enumeration) constants no_enum = absurd (no_enum tt)
 
-module _ (basis : Basis) (is : IsBasis basis) (p q : PropId) (declared other : Prop) (here : At basis.schema.model.props p.index declared)
-    (there : At basis.schema.model.props q.index other) where
+module _ (basis : Basis) (is : IsBasis basis) (p q : PropId) (declared other : Prop) (grouped : AreGrouped basis p q declared other) where
+  abbrev here : At basis.schema.model.props p.index declared
+  here = grouped.is_declared
+
+  abbrev there : At basis.schema.model.props q.index other
+  there = grouped.other_declared
+
   constants_same : Joined basis.schema (prop p) (prop q) → (v : Value) → Contains (basis.constants (prop p)) v ↔ Contains (basis.constants (prop q)) v
   constants_same joins v =
       let of_p = (is.constants (prop p) (slice_get_within basis.schema.model.props p.index declared here)).each v in
@@ -69,29 +74,26 @@ module _ (basis : Basis) (is : IsBasis basis) (p q : PropId) (declared other : P
         λ has. of_p.1 (joined_constant basis.schema (prop q) (prop p) joins v (of_q.0 has)),
       )
 
-  joined_free_values : Joined basis.schema (prop p) (prop q) → ¬ IsEnum declared.kind → ¬ IsEnum other.kind
+  joined_free_values : Joined basis.schema (prop p) (prop q)
       → free_values declared.kind (basis.constants (prop p)) ≡ free_values other.kind (basis.constants (prop q))
-  joined_free_values joins no_enum no_other =
+  joined_free_values joins =
       let class = (joined_class basis.schema is.sound (prop p) (prop q) joins (class_of declared.kind)).0 (class_at basis.schema p declared here) in
       let same : class_of other.kind ≡ class_of declared.kind = at_class basis.schema q (class_of declared.kind) other there class in
-      unbound_same declared.kind (basis.constants (prop p)) no_enum
+      unbound_same declared.kind (basis.constants (prop p)) grouped.no_enum
       ∙ ap (λ k. free_values k (basis.constants (prop p))) (sym same)
       ∙ free_same (class_of other.kind) (basis.constants (prop p)) (basis.constants (prop q)) (constants_same joins)
-      ∙ sym (unbound_same other.kind (basis.constants (prop q)) no_other)
+      ∙ sym (unbound_same other.kind (basis.constants (prop q)) grouped.other_no_enum)
 
-  shared : AreInOneGroup basis.schema (prop p) (prop q) → ¬ IsEnum declared.kind → ¬ IsEnum other.kind
-      → free_values declared.kind (basis.constants (prop p)) ≡ free_values other.kind (basis.constants (prop q))
-  shared (inl same) no_enum no_other =
+  shared : AreInOneGroup basis.schema (prop p) (prop q) → free_values declared.kind (basis.constants (prop p)) ≡ free_values other.kind (basis.constants (prop q))
+  shared (inl same) =
       let is_q : p ≡ q = cc in
       let At_ : PropId → Type 0 = λ r. At basis.schema.model.props r.index declared in
       let one : declared ≡ other = at_once basis.schema.model.props q.index declared other (subst At_ is_q here) there in
       λ i. free_values (one i).kind (basis.constants (prop (is_q i)))
-  shared (inr joins) no_enum no_other = joined_free_values joins no_enum no_other
+  shared (inr joins) = joined_free_values joins
 
-  pub first_shared : AreInOneGroup basis.schema (prop p) (prop q) → ¬ IsEnum declared.kind → ¬ IsEnum other.kind
-      → first_free declared.kind (basis.constants (prop p)) ≡ first_free other.kind (basis.constants (prop q))
-  first_shared group no_enum no_other = ap (λ values. unwrap_or (slice_get values 0) Null) (shared group no_enum no_other)
+  pub first_shared : first_free declared.kind (basis.constants (prop p)) ≡ first_free other.kind (basis.constants (prop q))
+  first_shared = ap (λ values. unwrap_or (slice_get values 0) Null) (shared grouped.in_one_group)
 
-  pub next_shared : AreInOneGroup basis.schema (prop p) (prop q) → ¬ IsEnum declared.kind → ¬ IsEnum other.kind
-      → next_free declared.kind (basis.constants (prop p)) ≡ next_free other.kind (basis.constants (prop q))
-  next_shared group no_enum no_other = ap (λ values. unwrap_or (slice_get values 1) Null) (shared group no_enum no_other)
+  pub next_shared : next_free declared.kind (basis.constants (prop p)) ≡ next_free other.kind (basis.constants (prop q))
+  next_shared = ap (λ values. unwrap_or (slice_get values 1) Null) (shared grouped.in_one_group)

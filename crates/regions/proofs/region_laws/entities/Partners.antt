@@ -3,17 +3,17 @@ use Rattle.std.proofs.Common.{◌≡◌, ◌<◌, ⊎_elim, List, [], ◌∷◌,
 use Rattle.std.specs.Option.{option_map_or}
 use Rattle.std.proofs.lemmas.Bool.{cond_both}
 use Rattle.std.proofs.lemmas.Bool.Decides.{not_from_Decides}
-use Rattle.round_trip.specs.Words.{SetId, PropId, AssocId, Value, Null, EntitySet, Assoc, Entity, Hosted, Link, State, At, IsLegal, entities_in, key_of}
+use Rattle.round_trip.specs.Words.{PropId, AssocId, Value, Null, Assoc, Link, key_of}
 use Rattle.schema_laws.proofs.state_demand.lists.Lists.{member_cases, none_in_nil}
-use Rattle.regions.specs.declared.region.Region.{Region}
 use Rattle.regions.specs.Basis.{Basis, Host, partner_end}
-use Rattle.regions.specs.Regions.{Holds, model_of, regions_of}
-use Rattle.regions.specs.region_laws.IsBasis.{AreHostedLinks, IsBasis, IsHostOf}
+use Rattle.regions.specs.Regions.{model_of}
+use Rattle.regions.specs.region_laws.IsBasis.{IsBasis, IsHostOf}
 use Rattle.regions.specs.region_laws.Partners.{HasFewPartners, HasPartners, TellsPartner, part_at, part_by, part_in}
 use Rattle.regions.specs.region_laws.RegionAt.{links_at}
 use Rattle.regions.proofs.region_laws.lists.Choices.{pairs_tail}
 use Rattle.regions.proofs.region_laws.entities.Flags.{InOrder, no_later}
 use Rattle.regions.proofs.region_laws.entities.Regions.{flag_none, flag_one}
+use Rattle.regions.specs.region_laws.Held.{HeldEntity}
 use Rattle.schema_laws.proofs.state_demand.lists.Ids.{Decides-assoc}
 
 -- a host is found by its association
@@ -32,32 +32,27 @@ found_host (other ∷ hosts) order host has =
     (λ (later : Contains hosts host). found_host hosts (pairs_tail (λ (one next : Host). one.assoc.index < next.assoc.index) other hosts order) host later)
     (member_cases other hosts host has))
 
-module _ (basis : Basis) (is : IsBasis basis) (state : State) (legal : IsLegal (model_of basis) state) (s : SetId) (set : EntitySet) (is_set : At
-    (model_of basis).sets s.index set)
-    (entity : Entity) (stands : Contains (entities_in state s) entity) (links : List Hosted) (hosted : AreHostedLinks basis state s entity links) (region : Region)
-    (among : Contains (regions_of basis s) region) (holds : Holds basis region entity links) (few : HasFewPartners basis s) where
+module _ (basis : Basis) (is : IsBasis basis) (held : HeldEntity basis) (few : HasFewPartners basis held.s) where
   abbrev key : List Value
-  key = key_of (model_of basis) entity
+  key = key_of (model_of basis) held.entity
 
   abbrev part : AssocId → Bool → PropId → Value
-  part = part_by basis state s key
+  part = part_by basis held.state held.s key
 
-  told : (host : Host) → Contains (basis.hosts s) host → (link : Link) → links_at state host key ≡ link ∷ [] → TellsPartner basis host link part
+  told : (host : Host) → Contains (basis.hosts held.s) host → (link : Link) → links_at held.state host key ≡ link ∷ [] → TellsPartner basis host link part
   told host hosts link is_one assoc here p has =
-      ap (λ found. option_map_or (part_at basis state key p) found Null) (found_host (basis.hosts s) (is.order s) host hosts)
+      ap (λ found. option_map_or (part_at basis held.state key p) found Null) (found_host (basis.hosts held.s) (is.order held.s) host hosts)
       ∙ ap (λ found. option_map_or (λ (one : Assoc). part_in (model_of basis) (partner_end host.first_hosts one).ty host.first_hosts p
-      (links_at state host key)) found Null) here
+      (links_at held.state host key)) found Null) here
       ∙ ap (part_in (model_of basis) (partner_end host.first_hosts assoc).ty host.first_hosts p) is_one
 
-  pub has_partners : HasPartners basis state s entity region part
+  pub has_partners : HasPartners basis held.state held.s held.entity held.region (part_by basis held.state held.s (key_of (model_of basis) held.entity))
   has_partners = record {
     one = λ host hosts linked. (
-        let by : IsHostOf basis.schema s host = (is.hosts s host).0 hosts in
-        let found = flag_one basis is state legal s set is_set entity stands links hosted region among holds host hosts by.assoc by.is_assoc
-        (few host hosts by.assoc by.is_assoc) linked in
+        let by : IsHostOf basis.schema held.s host = (is.hosts held.s host).0 hosts in
+        let found = flag_one basis is held (record { host = host; hosts = hosts; assoc = by.assoc; is_assoc = by.is_assoc }) (few host hosts by.assoc by.is_assoc) linked in
         (found.0, found.1, told host hosts found.0 found.1));
     none = λ host hosts not_linked. (
-        let by : IsHostOf basis.schema s host = (is.hosts s host).0 hosts in
-        flag_none basis is state legal s set is_set entity stands links hosted region among holds host hosts by.assoc by.is_assoc
-        (few host hosts by.assoc by.is_assoc) not_linked);
+        let by : IsHostOf basis.schema held.s host = (is.hosts held.s host).0 hosts in
+        flag_none basis is held (record { host = host; hosts = hosts; assoc = by.assoc; is_assoc = by.is_assoc }) (few host hosts by.assoc by.is_assoc) not_linked);
   }

@@ -28,12 +28,13 @@ use Rattle.schema_laws.proofs.sound_demand.owners.Pairing.{key_of_set}
 use Rattle.regions.specs.declared.region.Region.{Region}
 use Rattle.regions.specs.Atoms.{LiesIn}
 use Rattle.regions.specs.Basis.{Basis}
-use Rattle.regions.specs.Regions.{Holds, model_of, regions_of, tested_props}
+use Rattle.regions.specs.Regions.{Holds, model_of, tested_props}
 use Rattle.regions.specs.Symbols.{atom_passes, met_by_atoms, selects_region}
 use Rattle.regions.specs.region_laws.IsBasis.{IsBasis}
 use Rattle.regions.specs.region_laws.RegionAt.{atom_in, region_at}
 use Rattle.schema_laws.proofs.sound_types.Inherited.{declared_above}
 use Rattle.regions.proofs.region_laws.entities.Regions.{region_only}
+use Rattle.regions.specs.region_laws.Held.{Holding}
 use Rattle.schema_laws.proofs.state_demand.lists.Ids.{Decides-prop}
 
 -- a test that is looked at only where another passes
@@ -193,10 +194,9 @@ module _ (basis : Basis) (is : IsBasis basis) (fragment : Fragment) (mapped : Co
         Decides-members (λ (cond : Cond). met_by_atoms the_region.atoms cond.on cond.test) (λ (cond : Cond). MetByEntity (model_of basis) entity cond.on cond.test)
         fragment.conds (met pick.0 pick.1)))
 
-  pub Decides-selected : (s : SetId) (region : Region) → Contains (regions_of basis s) region → (entity : Entity) (links : List Hosted) → Holds basis region entity links
-      → Decides (selects_region basis region fragment) (Selects (model_of basis) fragment entity)
-  Decides-selected s region has entity links holds =
-      let is_at : region ≡ region_at basis s entity links = region_only basis is s entity links region has holds in
-      let Held : Region → Type 0 = λ one. Holds basis one entity links in
-      let P : Region → Type 0 = λ one. Decides (selects_region basis one fragment) (Selects (model_of basis) fragment entity) in
-      subst P (sym is_at) (Decides-held s entity links (subst Held is_at holds))
+  pub Decides-selected : (held : Holding basis) → Decides (selects_region basis held.region fragment) (Selects (model_of basis) fragment held.entity)
+  Decides-selected held =
+      let is_at : held.region ≡ region_at basis held.s held.entity held.links = region_only basis is held in
+      let Held : Region → Type 0 = λ one. Holds basis one held.entity held.links in
+      let P : Region → Type 0 = λ one. Decides (selects_region basis one fragment) (Selects (model_of basis) fragment held.entity) in
+      subst P (sym is_at) (Decides-held held.s held.entity held.links (subst Held is_at held.holds))

@@ -15,7 +15,7 @@ use Rattle.condition_logic.specs.declared.atoms.AtomOf.{AtomOf}
 use Rattle.schema_laws.proofs.state_demand.lists.Lists.{member_cases, none_in_nil}
 use Rattle.regions.specs.declared.region.Region.{Region}
 use Rattle.regions.specs.Atoms.{atoms_of}
-use Rattle.regions.specs.Basis.{Basis, Host, host_end, partner_end}
+use Rattle.regions.specs.Basis.{Basis, Host, host_end, partner_end, HostedAssoc}
 use Rattle.regions.specs.Regions.{atoms_at, flag_values, flagged, flags_at, model_of, regions_of, tested_props}
 use Rattle.regions.specs.region_laws.IsBasis.{IsBasis}
 use Rattle.regions.specs.region_laws.RegionAt.{IsAtomOf}
@@ -91,10 +91,16 @@ module _ (basis : Basis) (is : IsBasis basis) (s : SetId) (region : Region) (amo
       of_host basis by.ty (basis.hosts s) by.flags (choice_each (flags_at basis by.ty) (basis.hosts s) by.flags by.are_flags) a
       (subst (λ (r : Region). Contains r.linked a) by.is has)
 
-  module _ (host : Host) (hosts : Contains (basis.hosts s) host) (assoc : Assoc) (here : At (model_of basis).assocs host.assoc.index assoc) where
+  module _ (hosted : HostedAssoc basis s) where
+    abbrev host : Host
+    host = hosted.host
+
+    abbrev assoc : Assoc
+    assoc = hosted.assoc
+
     -- whose entities may have a link
-    pub may_link : Contains region.linked host.assoc → IsA (model_of basis) region.ty (host_end host.first_hosts assoc).ty
-    may_link linked = (is.types.tells region.ty (host_end host.first_hosts assoc).ty).0 (may_host basis is s region among host hosts linked assoc here)
+    pub may_link : Contains region.linked hosted.host.assoc → IsA (model_of basis) region.ty (host_end hosted.host.first_hosts hosted.assoc).ty
+    may_link linked = (is.types.tells region.ty (host_end host.first_hosts assoc).ty).0 (may_host basis is s region among host hosted.hosts linked assoc hosted.is_assoc)
 
     flag_for : (hosts : List Host) (flags : List (List AssocId)) → AllZip (IsFlag basis by.ty) hosts flags → Contains hosts host
         → (flag : List AssocId) × IsFlag basis by.ty host flag × ((a : AssocId) → Contains flag a → Contains (flat_map (λ one. one) flags) a)
@@ -110,17 +116,17 @@ module _ (basis : Basis) (is : IsBasis basis) (s : SetId) (region : Region) (amo
         (member_cases other others host has)
 
     -- and have one, where the partner is mandatory or flags aren't told by links
-    pub must_link : IsA (model_of basis) region.ty (host_end host.first_hosts assoc).ty → (partner_end host.first_hosts assoc).mult ≢ ZeroOrOne
-        → Contains region.linked host.assoc
+    pub must_link : IsA (model_of basis) region.ty (host_end hosted.host.first_hosts hosted.assoc).ty
+        → (partner_end hosted.host.first_hosts hosted.assoc).mult ≢ ZeroOrOne → Contains region.linked hosted.host.assoc
     must_link under not_free =
         let end : TypeId = (host_end host.first_hosts assoc).ty in
         let may : Bool = basis.is_a by.ty end in
         let mult : Mult = (partner_end host.first_hosts assoc).mult in
         let is_may : may ≡ true = (is.types.tells by.ty end).1 (subst (λ t. IsA (model_of basis) t end) typed under) in
-        let found = flag_for (basis.hosts s) by.flags (choice_each (flags_at basis by.ty) (basis.hosts s) by.flags by.are_flags) hosts in
+        let found = flag_for (basis.hosts s) by.flags (choice_each (flags_at basis by.ty) (basis.hosts s) by.flags by.are_flags) hosted.hosts in
         let P : Option Assoc → Type 0 = λ one. Contains (option_map_or (λ one. map (flagged host.assoc)
         (flag_values (basis.is_a by.ty (host_end host.first_hosts one).ty) (partner_end host.first_hosts one).mult)) one ([] ∷ [])) found.0 in
-        let bit = map_contains (flagged host.assoc) (flag_values may mult) found.0 (subst P here found.1) in
+        let bit = map_contains (flagged host.assoc) (flag_values may mult) found.0 (subst P hosted.is_assoc found.1) in
         let told : bit.0 ≡ true = must may mult bit.0 is_may not_free bit.1 in
         let in_flag : Contains found.0 host.assoc = subst (λ xs. Contains xs host.assoc) bit.2 ((Decides-flagged host.assoc bit.0).0 told) in
         subst (λ (r : Region). Contains r.linked host.assoc) (sym by.is) (found.2 host.assoc in_flag)

@@ -24,7 +24,7 @@ use Rattle.regions.specs.Patterns.{cell_symbols, pattern_of}
 use Rattle.regions.specs.Regions.{regions_of}
 use Rattle.regions.specs.Symbols.{SymbolWriting, conds_symbols, end_symbols, link_fragment_writing, link_fragments_of, link_writings, region_writings}
 use Rattle.regions.specs.region_laws.pattern.Allowed.{end_at}
-use Rattle.regions.specs.region_laws.pattern.Listed.{HasCell, IsEndCell}
+use Rattle.regions.specs.region_laws.pattern.Listed.{HasCell, IsEndCell, PatternCell, IsKeyPair}
 use Rattle.regions.proofs.region_laws.pattern.Cells.{cell_apart, cell_of, listed_written, written_listed, writing_to}
 use Rattle.regions.proofs.region_laws.pattern.types.Groups.{no_key_asked}
 use Rattle.regions.proofs.region_laws.pattern.symbols.Hosting.{assoc_here, col_once, host_set, hosted_side, one_link, partner_no_key, side_among, side_alike, the_assoc}
@@ -97,12 +97,6 @@ module _ (basis : Basis) (is : IsBasis basis) where
         (hosted_side basis is fragment link.0 region.set host is_host link.1)
         (host_set basis is fragment link.0 region.set host is_host link.1 ∙ (parts_of basis s region has).of_set))
 
-    pub owned_here : (col : ColId) (cell : List Symbol) → HasCell (pattern_of basis (focus.Entity region)) t col cell → (pairing : List Pair) × IsOwned basis.schema t s pairing
-    owned_here col cell at =
-        let of = cell_of basis.schema.store (region_writings basis region) t col cell at in
-        let writing = writing_to basis.schema.store (region_writings basis region) t of.written in
-        owned_by writing.0 writing.2 (region_writer basis region writing.0 writing.1)
-
     module _ (pairing : List Pair) (own : IsOwned basis.schema t s pairing) (pair : Pair) (paired : Contains pairing pair) where
       key_col : Contains (key_columns basis.schema.store t) pair.col
       key_col = subst (λ cols. Contains cols pair.col) own.cols (contains_map (λ (one : Pair). one.col) pairing pair paired)
@@ -158,8 +152,8 @@ module _ (basis : Basis) (is : IsBasis basis) where
           let P : SymbolWriting → Type 0 = λ w. Contains w.cells (pair.col, found.0) in
           (found.0, subst P is_writing found.1)
 
-      pub key_cell : (cell : List Symbol) → HasCell (pattern_of basis (focus.Entity region)) t pair.col cell → cell ≡ symbol.Prop pair.prop ∷ []
-      key_cell cell at =
+      paired_cell : (cell : List Symbol) → HasCell (pattern_of basis (focus.Entity region)) t pair.col cell → cell ≡ symbol.Prop pair.prop ∷ []
+      paired_cell cell at =
           let writings : List SymbolWriting = region_writings basis region in
           let of = cell_of basis.schema.store writings t pair.col cell at in
           let writing = writing_to basis.schema.store writings t of.written in
@@ -168,6 +162,20 @@ module _ (basis : Basis) (is : IsBasis basis) where
           (λ one listed. only_key one (is_from basis (focus.Entity region) t pair.col one (listed_written writings t pair.col one listed)))
           found.0 (written_listed writings t pair.col found.0
           (record { writing = writing.0; is_writing = writing.1; to_table = writing.2; has_cell = found.1 }))
+
+  module _ (s : SetId) (region : Region) (has : Contains (regions_of basis s) region) (at : PatternCell basis (focus.Entity region)) where
+    -- the set owns the table of each cell
+    pub owned_here : (pairing : List Pair) × IsOwned basis.schema at.t s pairing
+    owned_here =
+        let of = cell_of basis.schema.store (region_writings basis region) at.t at.col at.cell at.has in
+        let writing = writing_to basis.schema.store (region_writings basis region) at.t of.written in
+        owned_by s region has at.t writing.0 writing.2 (region_writer basis region writing.0 writing.1)
+
+    -- and a cell of the primary key lists the paired property
+    pub key_cell : (pair : Pair) → IsKeyPair basis.schema s at.t at.col pair → at.cell ≡ symbol.Prop pair.prop ∷ []
+    key_cell pair key =
+        let C : ColId → Type 0 = λ col. HasCell (pattern_of basis (focus.Entity region)) at.t col at.cell in
+        paired_cell s region has at.t key.pairing key.owned pair key.paired at.cell (subst C (sym key.at_col) at.has)
 
   module _ (a : AssocId) (t : TableId) (col : ColId) (key : Contains (key_columns basis.schema.store t) col) where
     -- the end that a link's key cell lists
@@ -224,8 +232,8 @@ module _ (basis : Basis) (is : IsBasis basis) where
         is = is_cell ∙ end_listed first among;
       }
 
-    pub end_cell : (cell : List Symbol) → HasCell (pattern_of basis (focus.Link a)) t col cell → IsEndCell basis.schema a t col cell
-    end_cell cell at =
+    end_at_key : (cell : List Symbol) → HasCell (pattern_of basis (focus.Link a)) t col cell → IsEndCell basis.schema a t col cell
+    end_at_key cell at =
         let writings : List SymbolWriting = link_writings basis a in
         let of = cell_of basis.schema.store writings t col cell at in
         let writing = writing_to basis.schema.store writings t of.written in
@@ -241,3 +249,6 @@ module _ (basis : Basis) (is : IsBasis basis) where
         (λ (this : Contains fragment.first pair.0). told true this)
         (λ (that : Contains fragment.second pair.0). told false that)
         (Contains-append_cases fragment.first fragment.second pair.0 pair.1)
+
+  pub end_cell : (a : AssocId) (at : PatternCell basis (focus.Link a)) → Contains (key_columns basis.schema.store at.t) at.col → IsEndCell basis.schema a at.t at.col at.cell
+  end_cell a at key = end_at_key a at.t at.col key at.cell at.has

@@ -21,13 +21,13 @@ use Rattle.regions.specs.declared.pattern.Focus.{Focus}
 use Rattle.regions.specs.declared.pattern.Focus.TheVariants as focus
 use Rattle.regions.specs.Atoms.{atom_at}
 use Rattle.regions.specs.Basis.{Basis}
-use Rattle.regions.specs.Patterns.{Valuation, pattern_of, value_under, writings_of}
+use Rattle.regions.specs.Patterns.{pattern_of, value_under, writings_of}
 use Rattle.regions.specs.Settled.{Possible, free as free_cell, has_clash, is_nullable, known, multi, of_atom, possible, settle, single}
 use Rattle.regions.specs.Symbols.{SymbolWriting}
-use Rattle.regions.specs.region_laws.pattern.Allowed.{AreAllowed, CanBe, IsFocus, told_of}
-use Rattle.regions.specs.region_laws.pattern.Listed.{HasCell, IsTelling, Lists}
+use Rattle.regions.specs.region_laws.pattern.Allowed.{CanBe, IsFocus, told_of, AllowedFocus}
+use Rattle.regions.specs.region_laws.pattern.Listed.{HasCell, IsTelling, Lists, WhereListed, PatternCell}
 use Rattle.schema_laws.specs.sound_types.KeyParts.{IsPartOfKey}
-use Rattle.regions.specs.region_laws.pattern.Described.{HasNoClashes, IsRowFor, row_for, value_in}
+use Rattle.regions.specs.region_laws.pattern.Described.{IsRowFor, row_for, value_in, IsClearRow}
 use Rattle.regions.proofs.region_laws.pattern.Cells.{cell_apart, cell_of as made_cell, listed_written}
 use Rattle.regions.proofs.region_laws.pattern.types.Groups.{asked_by, asked_tested, implied_tested, is_tested, joined_tested, told_tested, written_once}
 use Rattle.regions.proofs.region_laws.pattern.symbols.Hosting.{one_link, side_among, side_once}
@@ -51,34 +51,45 @@ module _ (basis : Basis) (is : IsBasis basis) where
       let at = made_cell basis.schema.store writings t c cell has in
       is_from basis of t c one (listed_written writings t c one (subst (λ list. Contains list one) at.is listed))
 
-  pub symbol_possible : (of : Focus) → IsFocus basis of → (valuation : Valuation) → AreAllowed basis of valuation → (t : TableId) (c : ColId) (one : Symbol)
-      → Lists (pattern_of basis of) t c one → CanBe (possible basis.schema.model (told_of of) one) (value_under valuation one)
-  symbol_possible of here valuation allowed t c one lists = can_be basis is of here valuation allowed t c one (listed_from of t c one lists)
+  pub symbol_possible : (told : AllowedFocus basis) (t : TableId) (c : ColId) (one : Symbol) → Lists (pattern_of basis told.of) t c one
+      → CanBe (possible basis.schema.model (told_of told.of) one) (value_under told.values one)
+  symbol_possible told t c one lists = can_be basis is told.of told.is_focus told.values told.allowed t c one (listed_from told.of t c one lists)
 
-  stands : (of : Focus) → IsFocus basis of → (t : TableId) (c : ColId) (p : PropId) → Lists (pattern_of basis of) t c (symbol.Prop p) → Stands basis t c p
-  stands of here t c p lists = prop_stands basis is of here t c p (listed_from of t c (symbol.Prop p) lists)
+  module _ (p : PropId) (here : WhereListed basis (symbol.Prop p)) (is_focus : IsFocus basis here.of) where
+    stands : Stands basis here.t here.col p
+    stands = prop_stands basis is here.of is_focus here.t here.col p (listed_from here.of here.t here.col (symbol.Prop p) here.lists)
 
-  stands_free : (of : Focus) → IsFocus basis of → (t : TableId) (c : ColId) (p : PropId) → Lists (pattern_of basis of) t c (symbol.Prop p) → IsNoKey basis.schema (prop p)
-      → StandsFree basis t c p
-  stands_free of here t c p lists free = ⊎_elim
-      (λ (key : StandsInKey basis t c p). absurd (part_or_free basis p key.part free))
-      (λ (stands_so : StandsFree basis t c p). stands_so)
-      (stands of here t c p lists)
+    stands_free : IsNoKey basis.schema (prop p) → StandsFree basis here.t here.col p
+    stands_free free = ⊎_elim
+        (λ (key : StandsInKey basis here.t here.col p). absurd (part_or_free basis p key.part free))
+        (λ (stands_so : StandsFree basis here.t here.col p). stands_so)
+        stands
 
-  -- a part of a key stands in the primary key
-  pub part_in_key : (of : Focus) → IsFocus basis of → (t : TableId) (c : ColId) (p : PropId) → Lists (pattern_of basis of) t c (symbol.Prop p)
-      → IsPartOfKey basis.schema.model p → Contains (key_columns basis.schema.store t) c
-  part_in_key of here t c p lists part = ⊎_elim
-      (λ (key : StandsInKey basis t c p). key.key_col)
-      (λ (free : StandsFree basis t c p). absurd (part_or_free basis p part free.free_prop))
-      (stands of here t c p lists)
+    -- a part of a key stands in the primary key
+    pub part_in_key : IsPartOfKey basis.schema.model p → Contains (key_columns basis.schema.store here.t) here.col
+    part_in_key part = ⊎_elim
+        (λ (key : StandsInKey basis here.t here.col p). key.key_col)
+        (λ (free : StandsFree basis here.t here.col p). absurd (part_or_free basis p part free.free_prop))
+        stands
+
+    -- a property that is no part of a key is in one group with its columns
+    pub same_group : IsNoKey basis.schema (prop p) → basis.group (prop p) ≡ basis.group (col here.t here.col)
+    same_group free =
+        let stands_so = stands_free free in
+        (is.groups (prop p) (col here.t here.col) (free_member basis.schema (prop p) free) (free_member basis.schema (col here.t here.col) stands_so.free_col)).1
+        (inr (joined_by basis here.t here.col p stands_so))
+
+  -- and where it isn't tested, it stands in one column
+  pub untested_once : (p : PropId) (here there : WhereListed basis (symbol.Prop p)) → IsFocus basis here.of → IsFocus basis there.of → IsNoKey basis.schema (prop p)
+      → ¬ IsTrue (basis.tested (prop p)) → (here.t ≡ there.t) × (here.col ≡ there.col)
+  untested_once p here there is_focus is_other free untested =
+      written_once basis is p free untested here.t there.t here.col there.col (stands_free p here is_focus free).written (stands_free p there is_other free).written
 
   -- an end stands in one column
-  pub end_once : (of other : Focus) (t u : TableId) (c d : ColId) (a : AssocId) (first : Bool) (p : PropId) → Lists (pattern_of basis of) t c (symbol.End a first p)
-      → Lists (pattern_of basis other) u d (symbol.End a first p) → (t ≡ u) × (c ≡ d)
-  end_once of other t u c d a first p lists too =
-      let one = end_of basis of t c a first p (listed_from of t c (symbol.End a first p) lists) in
-      let two = end_of basis other u d a first p (listed_from other u d (symbol.End a first p) too) in
+  pub end_once : (a : AssocId) (first : Bool) (p : PropId) (here there : WhereListed basis (symbol.End a first p)) → (here.t ≡ there.t) × (here.col ≡ there.col)
+  end_once a first p here there =
+      let one = end_of basis here.of here.t here.col a first p (listed_from here.of here.t here.col (symbol.End a first p) here.lists) in
+      let two = end_of basis there.of there.t there.col a first p (listed_from there.of there.t there.col (symbol.End a first p) there.lists) in
       let fragments : one.fragment ≡ two.fragment = one_link basis is one.fragment two.fragment one.mapped two.mapped (one.of_assoc ∙ sym two.of_assoc) in
       let S : LinkFragment → Type 0 = λ fragment. Contains (side first fragment) one.pair in
       let pairs : one.pair ≡ two.pair = side_once basis is two.fragment two.mapped first one.pair two.pair
@@ -86,19 +97,6 @@ module _ (basis : Basis) (is : IsBasis basis) where
         sym one.to_table ∙ ap (λ (fragment : LinkFragment). fragment.table) fragments ∙ two.to_table,
         sym one.at_col ∙ ap (λ (pair : Pair). pair.col) pairs ∙ two.at_col,
       )
-
-  -- a property that is no part of a key is in one group with its columns
-  pub same_group : (of : Focus) → IsFocus basis of → (t : TableId) (c : ColId) (p : PropId) → Lists (pattern_of basis of) t c (symbol.Prop p) → IsNoKey basis.schema (prop p)
-      → basis.group (prop p) ≡ basis.group (col t c)
-  same_group of here t c p lists free =
-      let stands_so = stands_free of here t c p lists free in
-      (is.groups (prop p) (col t c) (free_member basis.schema (prop p) free) (free_member basis.schema (col t c) stands_so.free_col)).1 (inr (joined_by basis t c p stands_so))
-
-  -- and where it isn't tested, it stands in one column
-  pub untested_once : (of other : Focus) → IsFocus basis of → IsFocus basis other → (t u : TableId) (c d : ColId) (p : PropId) → Lists (pattern_of basis of) t c (symbol.Prop p)
-      → Lists (pattern_of basis other) u d (symbol.Prop p) → IsNoKey basis.schema (prop p) → ¬ IsTrue (basis.tested (prop p)) → (t ≡ u) × (c ≡ d)
-  untested_once of other here there t u c d p lists too free untested =
-      written_once basis is p free untested t u c d (stands_free of here t c p lists free).written (stands_free other there u d p too free).written
 
   -- a property with one value is tested
   single_tested : (of : Focus) → IsFocus basis of → (p : PropId) (value : Value) → possible basis.schema.model (told_of of) (symbol.Prop p) ≡ single value
@@ -145,55 +143,59 @@ module _ (basis : Basis) (is : IsBasis basis) where
     from_tested one (by_cond cond asked on_col gives) telling = asked_tested basis is t c free (asked_by basis is t c cond asked on_col)
 
   -- a cell outside the primary key that tells something is of a tested group
-  pub telling_tested : (of : Focus) → IsFocus basis of → (t : TableId) (c : ColId) (one : Symbol) → Lists (pattern_of basis of) t c one
-      → ¬ Contains (key_columns basis.schema.store t) c → IsTelling basis.schema.model (told_of of) one → IsTrue (basis.tested (col t c))
-  telling_tested of here t c one lists no_key telling =
-      let free = free_column of t c lists.0 lists.1 no_key in
-      told_tested basis is (col t c) free (from_tested of here t c free one (listed_from of t c one lists) telling)
+  pub telling_tested : (one : Symbol) (here : WhereListed basis one) → IsFocus basis here.of → ¬ Contains (key_columns basis.schema.store here.t) here.col
+      → IsTelling basis.schema.model (told_of here.of) one → IsTrue (basis.tested (col here.t here.col))
+  telling_tested one here is_focus no_key telling =
+      let free = free_column here.of here.t here.col here.lists.0 here.lists.1 no_key in
+      told_tested basis is (col here.t here.col) free
+      (from_tested here.of is_focus here.t here.col free one (listed_from here.of here.t here.col one here.lists) telling)
 
   -- cells without a clash
-  module _ (of : Focus) (here : IsFocus basis of) (valuation : Valuation) (allowed : AreAllowed basis of valuation) (t : TableId) (c : ColId) (cell : List Symbol)
-      (has : HasCell (pattern_of basis of) t c cell) (none : has_clash basis.schema.model (told_of of) cell ≡ false) where
-    each : (one : Symbol) → Contains cell one → CanBe (possible basis.schema.model (told_of of) one) (value_under valuation one)
-    each one listed = symbol_possible of here valuation allowed t c one (cell, has, listed)
+  module _ (told : AllowedFocus basis) (at : PatternCell basis told.of) (none : has_clash basis.schema.model (told_of told.of) at.cell ≡ false) where
+    each : (one : Symbol) → Contains at.cell one → CanBe (possible basis.schema.model (told_of told.of) one) (value_under told.values one)
+    each one listed = symbol_possible told at.t at.col one (at.cell, at.has, listed)
 
-    pub cell_one : (one two : Symbol) → Contains cell one → Contains cell two → value_under valuation one ≡ value_under valuation two
-    cell_one = one_value basis.schema.model (told_of of) cell none valuation each
+    pub cell_one : (one two : Symbol) → Contains at.cell one → Contains at.cell two → value_under told.values one ≡ value_under told.values two
+    cell_one = one_value basis.schema.model (told_of told.of) at.cell none told.values each
 
-    pub cell_known : (value : Value) → settle basis.schema.model (told_of of) cell ≡ known value
-        → All (λ symbol. value_under valuation symbol ≡ value) cell × (cell ≡ [] → value ≡ Null)
+    pub cell_known : (value : Value) → settle basis.schema.model (told_of told.of) at.cell ≡ known value
+        → All (λ symbol. value_under told.values symbol ≡ value) at.cell × (at.cell ≡ [] → value ≡ Null)
     cell_known value settled = (
-      all_from_members (λ symbol. value_under valuation symbol ≡ value) cell (known_is basis.schema.model (told_of of) cell none valuation each value settled),
-      λ empty. (let S : List Symbol → Type 0 = λ list. settle basis.schema.model (told_of of) list ≡ known value in
-          known_empty basis.schema.model (told_of of) value (subst S empty settled)),
+      all_from_members (λ symbol. value_under told.values symbol ≡ value) at.cell (known_is basis.schema.model (told_of told.of) at.cell none told.values each value settled),
+      λ empty. (let S : List Symbol → Type 0 = λ list. settle basis.schema.model (told_of told.of) list ≡ known value in
+          known_empty basis.schema.model (told_of told.of) value (subst S empty settled)),
     )
 
-    pub cell_free : (one : Symbol) (n : Bool) → settle basis.schema.model (told_of of) cell ≡ free_cell one n → (cell ≡ one ∷ []) × (value_under valuation one ≡ Null → IsTrue n)
+    pub cell_free : (one : Symbol) (n : Bool) → settle basis.schema.model (told_of told.of) at.cell ≡ free_cell one n
+        → (at.cell ≡ one ∷ []) × (value_under told.values one ≡ Null → IsTrue n)
     cell_free one n settled =
-        let at = made_cell basis.schema.store (writings_of basis of) t c cell has in
+        let made = made_cell basis.schema.store (writings_of basis told.of) at.t at.col at.cell at.has in
         let A : List Symbol → Type 0 = AllPairs (λ x y. x ≢ y) in
-        let found = free_is basis.schema.model (told_of of) cell (subst A (sym at.is) (cell_apart (writings_of basis of) t c)) none one n settled in
-        let listed : Contains cell one = subst (λ list. Contains list one) (sym found.0) (head_stands one []) in
-        let P : Possible → Type 0 = λ can. CanBe can (value_under valuation one) in
+        let found = free_is basis.schema.model (told_of told.of) at.cell (subst A (sym made.is) (cell_apart (writings_of basis told.of) at.t at.col)) none one n settled in
+        let listed : Contains at.cell one = subst (λ list. Contains list one) (sym found.0) (head_stands one []) in
+        let P : Possible → Type 0 = λ can. CanBe can (value_under told.values one) in
         (found.0, subst P found.1 (each one listed))
 
   -- a row of cells without clashes describes one
-  pub described : (of : Focus) → IsFocus basis of → (valuation : Valuation) → AreAllowed basis of valuation → (pattern : PatternRow) → Contains (pattern_of basis of).rows pattern
-      → HasNoClashes basis.schema.model (told_of of) pattern → IsRowFor valuation pattern (row_for valuation pattern)
-  described of here valuation allowed pattern is_row clear = record {
-    listed = λ c cell at. all_from_members (λ symbol. cell_of (row_for valuation pattern) c ≡ value_under valuation symbol) cell (λ one has.
-        let none : has_clash basis.schema.model (told_of of) cell ≡ false =
-        All-contains (λ list. has_clash basis.schema.model (told_of of) list ≡ false) pattern.cells cell clear (contains_at pattern.cells c.index cell at) in
+  pub described : (told : AllowedFocus basis) (pattern : PatternRow) → IsClearRow basis told.of pattern → IsRowFor told.values pattern (row_for told.values pattern)
+  described told pattern clear = record {
+    listed = λ c cell at. all_from_members (λ symbol. cell_of (row_for told.values pattern) c ≡ value_under told.values symbol) cell (λ one has.
+        let none : has_clash basis.schema.model (told_of told.of) cell ≡ false =
+        All-contains (λ list. has_clash basis.schema.model (told_of told.of) list ≡ false) pattern.cells cell clear.clear (contains_at pattern.cells c.index cell at) in
         value_at c cell at ∙ value_is c cell at none one has);
     empty = λ c at. value_at c [] at;
   }
     where
-      value_at : (c : ColId) (cell : List Symbol) → At pattern.cells c.index cell → cell_of (row_for valuation pattern) c ≡ value_in valuation cell
-      value_at c cell at = ap (λ found. unwrap_or found Null) (slice_get-map (value_in valuation) pattern.cells c.index ∙ ap (option_map (value_in valuation)) at)
+      value_at : (c : ColId) (cell : List Symbol) → At pattern.cells c.index cell → cell_of (row_for told.values pattern) c ≡ value_in told.values cell
+      value_at c cell at = ap (λ found. unwrap_or found Null) (slice_get-map (value_in told.values) pattern.cells c.index ∙ ap (option_map (value_in told.values)) at)
 
-      value_is : (c : ColId) (cell : List Symbol) → At pattern.cells c.index cell → has_clash basis.schema.model (told_of of) cell ≡ false
-          → (one : Symbol) → Contains cell one → value_in valuation cell ≡ value_under valuation one
+      value_is : (c : ColId) (cell : List Symbol) → At pattern.cells c.index cell → has_clash basis.schema.model (told_of told.of) cell ≡ false
+          → (one : Symbol) → Contains cell one → value_in told.values cell ≡ value_under told.values one
       value_is c [] at none one has = absurd (none_in_nil one has)
       value_is c (first ∷ rest) at none one has =
-          cell_one of here valuation allowed pattern.table c (first ∷ rest) (record { row = pattern; is_row = is_row; of_table = refl; is_cell = at }) none first one
-          (head_stands first rest) has
+          cell_one told (record {
+            t = pattern.table;
+            col = c;
+            cell = first ∷ rest;
+            has = record { row = pattern; is_row = clear.is_row; of_table = refl; is_cell = at };
+          }) none first one (head_stands first rest) has

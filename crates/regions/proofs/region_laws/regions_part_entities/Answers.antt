@@ -1,13 +1,12 @@
 use Rattle.regions.proofs.region_laws.entities.Hosting.{hosted_are}
-use Rattle.regions.proofs.region_laws.entities.Regions.{flag_none, flag_one, region_among, region_holds, region_only}
+use Rattle.regions.proofs.region_laws.entities.Regions.{flag_none, flag_one, region_held, region_only}
 use Rattle.regions.proofs.region_laws.regions_part_entities.Goals as goal
 
 pub returns-clause-hosted : goal.returns-clause-hosted
 returns-clause-hosted c = hosted_are
 
 pub returns-clause-held : goal.returns-clause-held
-returns-clause-held c basis is state legal s set is_set entity stands links hosted =
-    (region_among basis is state legal s set is_set entity stands links hosted, region_holds basis is state legal s set is_set entity stands links hosted)
+returns-clause-held c = region_held
 
 pub returns-clause-only : goal.returns-clause-only
 returns-clause-only c = region_only

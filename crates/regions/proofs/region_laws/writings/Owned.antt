@@ -8,12 +8,12 @@ use Rattle.emc_base.proofs.Mapped.{contains_at, contains_map}
 use Rattle.emc_base.proofs.Numbered.{map_contains}
 use Rattle.emc_base.proofs.facts.Standing.{some_item}
 use Rattle.emc_base.proofs.facts.Pairs.{apart_between}
-use Rattle.round_trip.specs.Words.{SetId, TableId, ColId, AssocId, PropId, Value, Assoc, Table, LinkFragment, Pair, Entity, Hosted, Link, State, Writing, WritesRow, DemandsRow, DemandsCell, At, IsLegal, key_columns, key_of, links_in, written_key}
+use Rattle.round_trip.specs.Words.{SetId, TableId, ColId, AssocId, Value, Assoc, Table, LinkFragment, Pair, Entity, Link, State, Writing, WritesRow, DemandsRow, DemandsCell, At, IsLegal, key_columns, key_of, written_key}
 use Rattle.round_trip.specs.FailsAt.{IsHostedAt}
 use Rattle.round_trip.specs.soundness.mappings.Owners.{IsPlaced}
 use Rattle.round_trip.specs.soundness.Stores.{IsSoundTable}
 use Rattle.round_trip.proofs.Lookups.{key_columns_at}
-use Rattle.schema_laws.specs.state_demand.Owners.{IsHostAt, IsHosted, IsJoinedTo, IsLinkOf, IsOwned, IsWritingOf, StandsAt}
+use Rattle.schema_laws.specs.state_demand.Owners.{IsHostAt, IsHosted, IsLinkOf, IsOwned, IsWritingOf}
 use Rattle.schema_laws.specs.state_demand.WellWritten.{cols_of}
 use Rattle.schema_laws.specs.state_demand.Writings.{link_writing}
 use Rattle.schema_laws.proofs.state_demand.writings.Given.{given_cell, gives_cell}
@@ -24,16 +24,15 @@ use Rattle.schema_laws.proofs.sound_demand.Fitting.{link_ids, sound_link}
 use Rattle.schema_laws.proofs.sound_demand.Local.{is_local, is_local_to_links}
 use Rattle.schema_laws.proofs.sound_demand.owners.OneOwner.{owned_or_joined}
 use Rattle.schema_laws.proofs.sound_demand.owners.Owned.{joined_to}
-use Rattle.regions.specs.declared.region.Region.{Region}
 use Rattle.regions.specs.Basis.{Basis, Host, host_end, host_key}
-use Rattle.regions.specs.Regions.{Holds, model_of, regions_of}
-use Rattle.regions.specs.Symbols.{link_writings, region_writings}
-use Rattle.regions.specs.Patterns.{by_entity, by_link, is_written}
+use Rattle.regions.specs.Regions.{model_of}
+use Rattle.regions.specs.Symbols.{link_writings, region_writings, SymbolWriting}
+use Rattle.regions.specs.Patterns.{by_entity, by_link, is_written, Valuation}
 use Rattle.regions.specs.region_laws.Concrete.{AreConcrete, HasSymbol, IsWritingAt, IsWritingOfLink, WritesHosted}
 use Rattle.regions.specs.region_laws.IsBasis.{IsBasis, IsHostOf}
-use Rattle.regions.specs.region_laws.Partners.{HasPartners}
 use Rattle.regions.proofs.region_laws.writings.Cells.{cells_concrete, rows_concrete}
 use Rattle.regions.proofs.region_laws.writings.Patterns.{link_pattern, pairs_at, pairs_beyond, region_pattern}
+use Rattle.regions.specs.region_laws.Held.{Standing, LinkedEntity, LinkRow, IsAtRow}
 
 -- the columns of the two ends of a link are different
 ends_apart : (fragment : LinkFragment) → AreApart (cols_of (fragment.first ++ fragment.second)) → (b : Bool) (one two : Pair) → Contains (pairs_at b fragment) one
@@ -168,81 +167,97 @@ module _ (basis : Basis) (is : IsBasis basis) (t : TableId) (s : SetId) (pairing
           by.is,
         )
 
-    module _ (key : List Value) (at : StandsAt basis.schema state s pairing key entity) where
-      -- the writings to the entity's row are its own
-      pub row_writings : (writing : Writing) → WritesRow basis.schema state t key writing ↔ ((writing.table ≡ t) × IsWritingAt basis state s entity writing)
-      row_writings writing =
-          let local = (is_local basis.schema is.sound state legal t s pairing owned).whole key entity at writing in
-          ((λ writes. let by = local.0 writes in (by.0, writing_at writing by.0 by.1)), λ by. local.1 (by.0, writing_of writing by.0 by.1))
+module _ (basis : Basis) (is : IsBasis basis) where
+  -- the writings to the row of an entity are its own
+  pub row_writings : (standing : Standing basis) (t : TableId) (key : List Value) → IsAtRow basis standing.state standing.s standing.entity t key → (writing : Writing)
+      → WritesRow basis.schema standing.state t key writing ↔ ((writing.table ≡ t) × IsWritingAt basis standing.state standing.s standing.entity writing)
+  row_writings standing t key at writing =
+      let local = (is_local basis.schema is.sound standing.state standing.legal t standing.s at.pairing at.owned).whole key standing.entity at.at writing in (
+        (λ writes. let by = local.0 writes in
+            (by.0, writing_at basis is t standing.s at.pairing at.owned standing.state standing.legal standing.entity writing by.0 by.1)),
+        (λ by. local.1 (by.0, writing_of basis is t standing.s at.pairing at.owned standing.state standing.legal standing.entity writing by.0 by.1)),
+      )
 
-      module _ (region : Region) (among : Contains (regions_of basis s) region) (links : List Hosted) (holds : Holds basis region entity links)
-          (part : AssocId → Bool → PropId → Value) (partners : HasPartners basis state s entity region part) where
-        are : AreConcrete (by_entity (model_of basis) entity part) (region_writings basis region) (IsWritingAt basis state s entity)
-        are = region_pattern basis is state s entity at.stands region among links holds part partners
+  module _ (linked : LinkedEntity basis) (t : TableId) (key : List Value) (at : IsAtRow basis linked.state linked.s linked.entity t key) where
+    abbrev valuation : Valuation
+    valuation = by_entity (model_of basis) linked.entity linked.part
 
-        pub row_demanded : DemandsRow basis.schema state t key ↔ IsTrue (is_written (region_writings basis region) t)
-        row_demanded =
-            let told = rows_concrete (by_entity (model_of basis) entity part) (region_writings basis region) (IsWritingAt basis state s entity) are t in (
-              (λ demanded. let by = (row_writings demanded.0).0 demanded.1 in told.0 (demanded.0, by.0, by.1)),
-              (λ written. let by = told.1 written in (by.0, (row_writings by.0).1 (by.1, by.2))),
-            )
+    abbrev symbols : List SymbolWriting
+    symbols = region_writings basis linked.region
 
-        pub cell_demanded : (col : ColId) (value : Value) → DemandsCell basis.schema state t key col value
-            ↔ HasSymbol (by_entity (model_of basis) entity part) (region_writings basis region) t col value
-        cell_demanded col value =
-            let told = cells_concrete (by_entity (model_of basis) entity part) (region_writings basis region) (IsWritingAt basis state s entity) are t col value in (
-              (λ demanded. told.0 (demanded.0, (row_writings demanded.0).0 demanded.1, gives_cell demanded.0 col value demanded.2)),
-              (λ has. let by = told.1 has in (by.0, (row_writings by.0).1 by.1, given_cell by.0 col value by.2)),
-            )
+    abbrev IsOwn : Writing → Type 0
+    IsOwn = IsWritingAt basis linked.state linked.s linked.entity
+
+    are : AreConcrete valuation symbols IsOwn
+    are = region_pattern basis is linked.state linked.s linked.entity linked.region linked.part linked.held
+
+    own : (writing : Writing) → WritesRow basis.schema linked.state t key writing ↔ ((writing.table ≡ t) × IsOwn writing)
+    own = row_writings (record { state = linked.state; legal = linked.legal; s = linked.s; entity = linked.entity; stands = linked.held.stands }) t key at
+
+    pub row_demanded : DemandsRow basis.schema linked.state t key ↔ IsTrue (is_written (region_writings basis linked.region) t)
+    row_demanded =
+        let told = rows_concrete valuation symbols IsOwn are t in (
+          (λ demanded. let by = (own demanded.0).0 demanded.1 in told.0 (demanded.0, by.0, by.1)),
+          (λ written. let by = told.1 written in (by.0, (own by.0).1 (by.1, by.2))),
+        )
+
+    pub cell_demanded : (col : ColId) (value : Value) → DemandsCell basis.schema linked.state t key col value
+        ↔ HasSymbol (by_entity (model_of basis) linked.entity linked.part) (region_writings basis linked.region) t col value
+    cell_demanded col value =
+        let told = cells_concrete valuation symbols IsOwn are t col value in (
+          (λ demanded. told.0 (demanded.0, (own demanded.0).0 demanded.1, gives_cell demanded.0 col value demanded.2)),
+          (λ has. let by = told.1 has in (by.0, (own by.0).1 by.1, given_cell by.0 col value by.2)),
+        )
 
 -- the table of a joined association
-module _ (basis : Basis) (is : IsBasis basis) (state : State) (legal : IsLegal (model_of basis) state) (t : TableId) (fragment : LinkFragment) (assoc : Assoc)
-    (joined : IsJoinedTo basis.schema t fragment assoc) (link : Link) (stands : Contains (links_in state fragment.assoc) link) where
-  abbrev link_key : List Value
-  link_key = written_key basis.schema.store (link_writing (model_of basis) fragment assoc link)
+module _ (basis : Basis) (is : IsBasis basis) (row : LinkRow basis) where
+  abbrev written : Link → Writing
+  written link = link_writing (model_of basis) row.fragment row.assoc link
 
-  local : IsLocalToLinks basis.schema state t fragment assoc
-  local = is_local_to_links basis.schema is.sound state legal t fragment assoc joined
+  abbrev IsOfLink : Writing → Type 0
+  IsOfLink = IsWritingOfLink basis row.state row.fragment.assoc row.assoc row.link
+
+  local : IsLocalToLinks basis.schema row.state row.t row.fragment row.assoc
+  local = is_local_to_links basis.schema is.sound row.state row.legal row.t row.fragment row.assoc row.at.joined
 
   -- the writings to the link's row are its own
-  link_row_writings : (writing : Writing) → WritesRow basis.schema state t link_key writing ↔
-      ((writing.table ≡ t) × IsWritingOfLink basis state fragment.assoc assoc link writing)
+  link_row_writings : (writing : Writing) → WritesRow basis.schema row.state row.t row.key writing ↔ ((writing.table ≡ row.t) × IsOfLink writing)
   link_row_writings writing = (
     (λ writes.
-        let by = local.local link_key writing writes in
+        let by = local.local row.key writing writes in
         let key_of_it : Writing → List Value = written_key basis.schema.store in
-        let same : by.0 ≡ link = local.one by.0 link by.1 stands (sym (ap key_of_it by.2) ∙ writes.to_key) in
-        let P : Link → Type 0 = λ one. writing ≡ link_writing (model_of basis) fragment assoc one in (
+        let same : by.0 ≡ row.link = local.one by.0 row.link by.1 row.at.stands (sym (ap key_of_it by.2) ∙ writes.to_key ∙ row.at.at_key) in
+        let P : Link → Type 0 = λ one. writing ≡ written one in (
           writes.to_table,
           record {
-            fragment = fragment;
+            fragment = row.fragment;
             of_assoc = refl;
-            writes = record { mapped = joined.is_fragment; is_assoc = joined.is_assoc; stands = stands };
+            writes = record { mapped = row.at.joined.is_fragment; is_assoc = row.at.joined.is_assoc; stands = row.at.stands };
             is = subst P same by.2;
           },
         )),
     (λ by.
-        let same : by.1.fragment ≡ fragment = one_fragment basis is by.1.fragment fragment by.1.writes.mapped joined.is_fragment by.1.of_assoc in
-        let alike : writing ≡ link_writing (model_of basis) fragment assoc link = by.1.is ∙ ap (λ f. link_writing (model_of basis) f assoc link) same in
-        subst (WritesRow basis.schema state t link_key) (sym alike) (local.writes link stands)),
+        let same : by.1.fragment ≡ row.fragment = one_fragment basis is by.1.fragment row.fragment by.1.writes.mapped row.at.joined.is_fragment by.1.of_assoc in
+        let alike : writing ≡ written row.link = by.1.is ∙ ap (λ f. link_writing (model_of basis) f row.assoc row.link) same in
+        let At_key : List Value → Type 0 = λ key. WritesRow basis.schema row.state row.t key writing in
+        subst At_key (sym row.at.at_key)
+        (subst (WritesRow basis.schema row.state row.t (written_key basis.schema.store (written row.link))) (sym alike) (local.writes row.link row.at.stands))),
   )
 
-  are_of_link : AreConcrete (by_link (model_of basis) assoc link) (link_writings basis fragment.assoc) (IsWritingOfLink basis state fragment.assoc assoc link)
-  are_of_link = link_pattern basis state fragment.assoc assoc joined.is_assoc link stands
+  are_of_link : AreConcrete (by_link (model_of basis) row.assoc row.link) (link_writings basis row.fragment.assoc) IsOfLink
+  are_of_link = link_pattern basis row.state row.fragment.assoc row.assoc row.at.joined.is_assoc row.link row.at.stands
 
-  pub link_row_demanded : DemandsRow basis.schema state t link_key ↔ IsTrue (is_written (link_writings basis fragment.assoc) t)
+  pub link_row_demanded : DemandsRow basis.schema row.state row.t row.key ↔ IsTrue (is_written (link_writings basis row.fragment.assoc) row.t)
   link_row_demanded =
-      let told = rows_concrete (by_link (model_of basis) assoc link) (link_writings basis fragment.assoc)
-      (IsWritingOfLink basis state fragment.assoc assoc link) are_of_link t in (
+      let told = rows_concrete (by_link (model_of basis) row.assoc row.link) (link_writings basis row.fragment.assoc) IsOfLink are_of_link row.t in (
         (λ demanded. let by = (link_row_writings demanded.0).0 demanded.1 in told.0 (demanded.0, by.0, by.1)),
-        (λ written. let by = told.1 written in (by.0, (link_row_writings by.0).1 (by.1, by.2))),
+        (λ writes. let by = told.1 writes in (by.0, (link_row_writings by.0).1 (by.1, by.2))),
       )
 
-  pub link_cell_demanded : (col : ColId) (value : Value) → DemandsCell basis.schema state t link_key col value
-      ↔ HasSymbol (by_link (model_of basis) assoc link) (link_writings basis fragment.assoc) t col value
+  pub link_cell_demanded : (col : ColId) (value : Value) → DemandsCell basis.schema row.state row.t row.key col value
+      ↔ HasSymbol (by_link (model_of basis) row.assoc row.link) (link_writings basis row.fragment.assoc) row.t col value
   link_cell_demanded col value =
-      let told = cells_concrete (by_link (model_of basis) assoc link) (link_writings basis fragment.assoc)
-      (IsWritingOfLink basis state fragment.assoc assoc link) are_of_link t col value in (
+      let told = cells_concrete (by_link (model_of basis) row.assoc row.link) (link_writings basis row.fragment.assoc) IsOfLink are_of_link row.t col value in (
         (λ demanded. told.0 (demanded.0, (link_row_writings demanded.0).0 demanded.1, gives_cell demanded.0 col value demanded.2)),
         (λ has. let by = told.1 has in (by.0, (link_row_writings by.0).1 by.1, given_cell by.0 col value by.2)),
       )

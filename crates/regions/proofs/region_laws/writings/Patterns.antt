@@ -8,7 +8,7 @@ use Rattle.std.proofs.lemmas.List.Elements.{Contains-append_cases, Contains-appe
 use Rattle.emc_base.proofs.Lists.{all_from_members, only_member, only_stands}
 use Rattle.emc_base.proofs.Mapped.{contains_filter, contains_map}
 use Rattle.emc_base.proofs.Numbered.{filter_contains, map_contains}
-use Rattle.round_trip.specs.Words.{SetId, TypeId, PropId, AssocId, Value, Assoc, Fragment, LinkFragment, Pair, Entity, Hosted, Link, Mult, State, Writing, Selects, At, IsA, entities_in, key_of, key_props, links_in, value_beside, value_of}
+use Rattle.round_trip.specs.Words.{SetId, TypeId, PropId, AssocId, Value, Assoc, Fragment, LinkFragment, Pair, Entity, Link, Mult, State, Writing, Selects, At, IsA, entities_in, key_of, key_props, links_in, value_beside, value_of}
 use Rattle.round_trip.specs.soundness.mappings.Fragments.{WritesEndKey}
 use Rattle.round_trip.proofs.Lookups.{assoc_of}
 use Rattle.schema_laws.specs.state_demand.MadeTables.{given_cells}
@@ -22,18 +22,19 @@ use Rattle.schema_laws.proofs.sound_demand.Keys.{inherits_keys}
 use Rattle.schema_laws.proofs.sound_demand.owners.Pairing.{written_part}
 use Rattle.regions.specs.declared.region.Region.{Region}
 use Rattle.regions.specs.Basis.{Basis, Host, host_end, host_key, partner_end, partner_key}
-use Rattle.regions.specs.Regions.{Holds, flag_values, flagged, flags_at, model_of, regions_of}
+use Rattle.regions.specs.Regions.{flag_values, flagged, flags_at, model_of, regions_of}
 use Rattle.regions.specs.Symbols.{SymbolWriting, fragment_writing, fragments_of, host_writings, is_linked, link_fragment_writing, link_fragments_of, link_writings, region_writings, selects_region}
 use Rattle.regions.specs.Patterns.{Valuation, by_entity, by_link}
 use Rattle.regions.specs.region_laws.Concrete.{AreConcrete, IsConcrete, IsWritingAt, IsWritingOfLink, TellsEnd, WritesEntity, WritesHosted, concrete}
 use Rattle.regions.specs.region_laws.IsBasis.{IsBasis}
-use Rattle.regions.specs.region_laws.Partners.{HasPartners, TellsPartner}
+use Rattle.regions.specs.region_laws.Partners.{TellsPartner}
 use Rattle.regions.specs.region_laws.RegionAt.{links_at}
 use Rattle.regions.proofs.region_laws.lists.Choices.{choice_each}
 use Rattle.regions.proofs.region_laws.writings.Concrete.{entity_concrete, link_concrete}
 use Rattle.regions.proofs.region_laws.entities.Flags.{Decides-flagged, IsFlag, flag_member, one_host}
 use Rattle.regions.proofs.region_laws.listing.Listed.{IsListed, is_listed, set_is}
 use Rattle.regions.proofs.region_laws.entities.Selected.{Decides-selected}
+use Rattle.regions.specs.region_laws.Held.{IsHeldAt}
 use Rattle.schema_laws.proofs.state_demand.lists.Ids.{Decides-assoc}
 
 -- the pairs at the end that hosts, where it is the first, and at the other
@@ -118,8 +119,7 @@ module _ (basis : Basis) (is : IsBasis basis) where
     keyed_beyond true first second = second
     keyed_beyond false first second = first
 
-  module _ (state : State) (s : SetId) (entity : Entity) (stands : Contains (entities_in state s) entity) (region : Region) (among : Contains (regions_of basis s) region)
-      (links : List Hosted) (holds : Holds basis region entity links) (part : AssocId → Bool → PropId → Value) (partners : HasPartners basis state s entity region part) where
+  module _ (state : State) (s : SetId) (entity : Entity) (region : Region) (part : AssocId → Bool → PropId → Value) (held : IsHeldAt basis state s entity region part) where
     abbrev told_by : Valuation
     told_by = by_entity (model_of basis) entity part
 
@@ -127,11 +127,12 @@ module _ (basis : Basis) (is : IsBasis basis) where
     key = key_of (model_of basis) entity
 
     of_set : region.set ≡ s
-    of_set = set_is basis s region among
+    of_set = set_is basis s region held.listed
 
     selected : (fragment : Fragment) → Contains basis.schema.mapping.fragments fragment → Decides (selects_region basis region fragment) (Selects
         (model_of basis) fragment entity)
-    selected fragment mapped = Decides-selected basis is fragment mapped s region among entity links holds
+    selected fragment mapped = Decides-selected basis is fragment mapped
+        (record { s = s; region = region; entity = entity; links = held.links; listed = held.listed; holds = held.holds })
 
     abbrev own_writings : List SymbolWriting
     own_writings = map fragment_writing (fragments_of basis region)
@@ -176,7 +177,7 @@ module _ (basis : Basis) (is : IsBasis basis) where
             of_set = same_set;
             writes = record {
               mapped = kept.0;
-              stands = subst (λ u. Contains (entities_in state u) entity) (sym same_set) stands;
+              stands = subst (λ u. Contains (entities_in state u) entity) (sym same_set) held.stands;
               selected = (selected fragment kept.0).0 parts.1;
             };
             is = refl;
@@ -198,7 +199,7 @@ module _ (basis : Basis) (is : IsBasis basis) where
           let sound = sound_link basis.schema is.sound fragment mapped assoc here in
           let writes : WritesEndKey (model_of basis) end (pairs_at host.first_hosts fragment) = keyed fragment assoc link told_by host.first_hosts sound.first sound.second in
           let under : IsA (model_of basis) entity.ty end =
-          (is.types.tells entity.ty end).0 (subst (λ t. IsTrue (basis.is_a t end)) (sym holds.typed) (may_host s region among host hosts linked assoc at_host)) in
+          (is.types.tells entity.ty end).0 (subst (λ t. IsTrue (basis.is_a t end)) (sym held.holds.typed) (may_host s region held.listed host hosts linked assoc at_host)) in
           let keys : key_props (model_of basis) entity.ty ≡ key_props (model_of basis) end = (inherits_keys (model_of basis) is.sound.model).same entity.ty end under in
           let in_key : Contains (key_props (model_of basis) end) pair.prop =
           written_part basis.schema is.sound end (pairs_at host.first_hosts fragment) writes pair has in
@@ -244,10 +245,10 @@ module _ (basis : Basis) (is : IsBasis basis) where
             → (one : SymbolWriting) × Contains (region_writings basis region) one × IsConcrete told_by one writing
         go false not_linked =
             let none = not_from_Decides (is_linked basis region.linked by.host.assoc) (Decides-linked region.linked by.host.assoc) not_linked in
-            absurd (none_in_nil by.link (subst (λ xs. Contains xs by.link) (partners.none by.host by.hosts none) here))
+            absurd (none_in_nil by.link (subst (λ xs. Contains xs by.link) (held.partners.none by.host by.hosts none) here))
         go true linked =
             let has : Contains region.linked by.host.assoc = (Decides-linked region.linked by.host.assoc).0 linked in
-            let found = partners.one by.host by.hosts has in
+            let found = held.partners.one by.host by.hosts has in
             let same : by.link ≡ found.0 = only_member (links_at state by.host key) found.0 by.link found.1 here in
             let told : TellsPartner basis by.host by.link part = subst (λ link. TellsPartner basis by.host link part) (sym same) found.2 in
             let fragment : LinkFragment = by.fragment in
@@ -279,7 +280,7 @@ module _ (basis : Basis) (is : IsBasis basis) where
         let mapped = filter_contains (λ (one : LinkFragment). one.assoc.index == host.assoc.index) basis.schema.mapping.links fragment by_fragment.1 in
         let of_assoc : fragment.assoc ≡ host.assoc = (Decides-assoc fragment.assoc host.assoc).0 mapped.1 in
         let assoc = assoc_of basis.schema is.sound fragment mapped.0 in
-        let found = partners.one host hosts linked in
+        let found = held.partners.one host hosts linked in
         let link : Link = found.0 in
         let there = filter_contains (at_entity host) (links_in state host.assoc) link (only_stands (links_at state host key) link found.1) in
         let at_key : host_key host.first_hosts link ≡ key = (Decides-key (host_key host.first_hosts link) key).0 there.1 in

@@ -52,6 +52,20 @@ abbrev pub AreAllowed : Basis → Focus → Valuation → Type 0
 AreAllowed basis (focus.Entity region) valuation = IsAllowed basis region valuation
 AreAllowed basis (focus.Link a) valuation = IsAllowedLink basis a valuation
 
+-- a focus with values that are allowed of it
+pub record AllowedFocus (basis : Basis) : Type 0 where
+  pub of : Focus
+  pub is_focus : IsFocus basis of
+  pub values : Valuation
+  pub allowed : AreAllowed basis of values
+
+-- a region of a set, with values of its properties and of the parts of its partners' keys
+pub record RegionValues (basis : Basis) : Type 0 where
+  pub s : SetId
+  pub region : Region
+  pub listed : Contains (regions_of basis s) region
+  pub values : Valuation
+
 -- of each association of the region of which a link is there, these are the parts of the key of a partner, by one of the entity's links
 pub record ArePartners (basis : Basis) (region : Region) (links : List Hosted) (part : AssocId → Bool → PropId → Value) : Type 0 where
   pub tells : (host : Host) (assoc : Assoc) → Contains (basis.hosts region.set) host → Contains region.linked host.assoc → At basis.schema.model.assocs host.assoc.index assoc

@@ -23,12 +23,12 @@ use Rattle.regions.specs.declared.pattern.Symbol.{Symbol}
 use Rattle.regions.specs.declared.pattern.PatternRow.{PatternRow}
 use Rattle.regions.specs.declared.pattern.Focus.{Focus}
 use Rattle.regions.specs.Basis.{Basis}
-use Rattle.regions.specs.Patterns.{Valuation, cell_symbols, pattern_of, value_under, writings_of}
+use Rattle.regions.specs.Patterns.{Valuation, cell_symbols, value_under, writings_of}
 use Rattle.regions.specs.Settled.{Settled, free, has_clash, known, multi, possible, settle}
 use Rattle.regions.specs.Shown.{cell_in, met_by_row, settled_passes, shows_link_row, shows_row}
 use Rattle.regions.specs.Symbols.{SymbolWriting}
-use Rattle.regions.specs.region_laws.pattern.Allowed.{AreAllowed, IsFocus, told_of}
-use Rattle.regions.specs.region_laws.pattern.Described.{HasNoClashes, IsRowFor}
+use Rattle.regions.specs.region_laws.pattern.Allowed.{told_of, AllowedFocus}
+use Rattle.regions.specs.region_laws.pattern.Described.{DescribedRow}
 use Rattle.regions.proofs.region_laws.pattern.Cells.{RowOf, cell_apart, cell_at, listed_written, row_of}
 use Rattle.regions.proofs.region_laws.pattern.rows.Decided.{IsUntold, not_null, untold}
 use Rattle.regions.proofs.region_laws.pattern.symbols.Origins.{From, is_from}
@@ -50,14 +50,24 @@ free_passes basis is cond value one n untold_value (IsNull true) same = (λ told
 free_passes basis is cond value one n untold_value (IsNull false) same = (λ told. untold_value.not_null, λ other. refl)
 free_passes basis is cond value one n untold_value (Equals constant) same = (λ told. cc, λ both. absurd (untold_value.not_equal constant same both.0))
 
-module _ (basis : Basis) (is : IsBasis basis) (of : Focus) (here : IsFocus basis of) (valuation : Valuation) (allowed : AreAllowed basis of valuation)
-    (pattern : PatternRow) (is_row : Contains (pattern_of basis of).rows pattern) (clear : HasNoClashes basis.schema.model (told_of of) pattern)
-    (row : Row) (is_for : IsRowFor valuation pattern row) where
+module _ (basis : Basis) (is : IsBasis basis) (focus_told : AllowedFocus basis) (at : DescribedRow basis focus_told) where
+  abbrev of : Focus
+  of = focus_told.of
+
+  abbrev valuation : Valuation
+  valuation = focus_told.values
+
+  abbrev pattern : PatternRow
+  pattern = at.pattern
+
+  abbrev row : Row
+  row = at.row
+
   abbrev writings : List SymbolWriting
   writings = writings_of basis of
 
   abbrev told : RowOf basis.schema.store writings pattern
-  told = row_of basis.schema.store writings pattern is_row
+  told = row_of basis.schema.store writings pattern at.clear.is_row
 
   abbrev t : TableId
   t = told.t
@@ -78,14 +88,14 @@ module _ (basis : Basis) (is : IsBasis basis) (of : Focus) (here : IsFocus basis
     cell_is = ap (λ found. unwrap_or found []) at_column
 
     no_clash : has_clash basis.schema.model (told_of of) (symbols c) ≡ false
-    no_clash = All-contains (λ cell. has_clash basis.schema.model (told_of of) cell ≡ false) pattern.cells (symbols c) clear
+    no_clash = All-contains (λ cell. has_clash basis.schema.model (told_of of) cell ≡ false) pattern.cells (symbols c) at.clear.clear
         (contains_at pattern.cells c.index (symbols c) at_column)
 
     from : (one : Symbol) → Contains (symbols c) one → From basis of t c one
     from one has = is_from basis of t c one (listed_written writings t c one has)
 
     holds : (one : Symbol) → Contains (symbols c) one → cell_of row c ≡ value_under valuation one
-    holds one has = All-contains (λ symbol. cell_of row c ≡ value_under valuation symbol) (symbols c) one (is_for.listed c (symbols c) at_column) has
+    holds one has = All-contains (λ symbol. cell_of row c ≡ value_under valuation symbol) (symbols c) one (at.is_row.listed c (symbols c) at_column) has
 
     known_value : (value : Value) → settle basis.schema.model (told_of of) (symbols c) ≡ known value → cell_of row c ≡ value
     known_value value settled = by (symbols c) refl
@@ -94,12 +104,12 @@ module _ (basis : Basis) (is : IsBasis basis) (of : Focus) (here : IsFocus basis
         by [] none =
             let S : List Symbol → Type 0 = λ list. settle basis.schema.model (told_of of) list ≡ known value in
             let A : List Symbol → Type 0 = λ list. At pattern.cells c.index list in
-            is_for.empty c (subst A none at_column) ∙ sym (known_empty basis.schema.model (told_of of) value (subst S none settled))
+            at.is_row.empty c (subst A none at_column) ∙ sym (known_empty basis.schema.model (told_of of) value (subst S none settled))
         by (first ∷ rest) some =
             let has : Contains (symbols c) first = subst (λ list. Contains list first) (sym some) (head_stands first rest) in
             holds first has
             ∙ known_is basis.schema.model (told_of of) (symbols c) no_clash valuation
-            (λ one there. can_be basis is of here valuation allowed t c one (from one there)) value settled first has
+            (λ one there. can_be basis is of focus_told.is_focus valuation focus_told.allowed t c one (from one there)) value settled first has
 
     -- a free cell's one symbol
     free_symbol : (one : Symbol) (n : Bool) → settle basis.schema.model (told_of of) (symbols c) ≡ free one n
@@ -122,7 +132,7 @@ module _ (basis : Basis) (is : IsBasis basis) (of : Focus) (here : IsFocus basis
             let found = free_symbol one n settled in
             let P : Value → Type 0 = λ v. Decides (settled_passes test (free one n)) (Passes test v) in
             subst P (sym (holds one found.0)) (free_passes basis is cond (value_under valuation one) one n
-            (untold basis is of here valuation allowed t c one n found.1 (from one found.0) cond asked on_col) test is_test)
+            (untold basis is of focus_told.is_focus valuation focus_told.allowed t c one n found.1 (from one found.0) cond asked on_col) test is_test)
 
     -- what a link fragment implies
     implied_met : IsImplied basis.schema (col t c)
@@ -136,7 +146,7 @@ module _ (basis : Basis) (is : IsBasis basis) (of : Focus) (here : IsFocus basis
             subst P (sym (known_value value settled)) (Decides-passes (IsNull false) value)
         by (free one n) settled =
             let found = free_symbol one n settled in
-            (λ yes_. λ null. not_null basis is of here valuation allowed t c one n found.1 (from one found.0) implied (sym (holds one found.0) ∙ null), λ other. refl)
+            (λ yes_. λ null. not_null basis is of focus_told.is_focus valuation focus_told.allowed t c one n found.1 (from one found.0) implied (sym (holds one found.0) ∙ null), λ other. refl)
 
   -- a condition of a fragment to the table
   cond_met : (cond : Cond) → HasCondition basis.schema t cond → IsCondId basis.schema t cond.on
@@ -151,8 +161,8 @@ module _ (basis : Basis) (is : IsBasis basis) (of : Focus) (here : IsFocus basis
   table_is : pattern.table ≡ t
   table_is = ap (λ (one : PatternRow). one.table) told.is
 
-  pub shown : (fragment : Fragment) → Contains basis.schema.mapping.fragments fragment → fragment.table ≡ pattern.table
-      → Decides (shows_row basis.schema.model (told_of of) fragment pattern) (Shows fragment row)
+  pub shown : (fragment : Fragment) → Contains basis.schema.mapping.fragments fragment → fragment.table ≡ at.pattern.table
+      → Decides (shows_row basis.schema.model (told_of focus_told.of) fragment at.pattern) (Shows fragment at.row)
   shown fragment mapped to =
       let to_t : fragment.table ≡ t = to ∙ table_is in
       Decides-members (λ (cond : Cond). met_by_row basis.schema.model (told_of of) pattern cond.on cond.test) (λ (cond : Cond). MetByRow row cond.on cond.test) fragment.conds
@@ -162,8 +172,8 @@ module _ (basis : Basis) (is : IsBasis basis) (of : Focus) (here : IsFocus basis
       (sound_fragment basis.schema is.sound fragment mapped).ids.conds among in
       cond_met cond (inl (fragment, mapped, to_t, among)) (subst I to_t ids))
 
-  pub link_shown : (fragment : LinkFragment) → Contains basis.schema.mapping.links fragment → fragment.table ≡ pattern.table
-      → Decides (shows_link_row basis.schema.model (told_of of) fragment pattern) (ShowsLink fragment row)
+  pub link_shown : (fragment : LinkFragment) → Contains basis.schema.mapping.links fragment → fragment.table ≡ at.pattern.table
+      → Decides (shows_link_row basis.schema.model (told_of focus_told.of) fragment at.pattern) (ShowsLink fragment at.row)
   link_shown fragment mapped to =
       let to_t : fragment.table ≡ t = to ∙ table_is in
       let both : List Pair = fragment.first ++ fragment.second in

@@ -12,18 +12,19 @@ use Rattle.round_trip.specs.soundness.models.Inheritance.{IsKeyProp}
 use Rattle.schema_laws.proofs.state_demand.lists.Lists.{of_any}
 use Rattle.schema_laws.proofs.state_demand.owners.Owners.{beside_map}
 use Rattle.schema_laws.proofs.sound_demand.Keys.{inherits_keys}
-use Rattle.regions.specs.region_laws.IsBasis.{AreHostedLinks, IsBasis}
+use Rattle.regions.specs.region_laws.IsBasis.{IsBasis}
 use Rattle.regions.specs.declared.region.Region.{Region}
 use Rattle.regions.specs.Atoms.{Allows}
 use Rattle.regions.specs.Basis.{Basis, Host, IsHostedLink, partner_end, partner_key}
 use Rattle.regions.specs.Patterns.{by_entity, by_link}
-use Rattle.regions.specs.Regions.{Holds, TellsLinks, regions_of}
+use Rattle.regions.specs.Regions.{Holds, TellsLinks}
 use Rattle.regions.specs.region_laws.pattern.Allowed.{ArePartners, HasAllowedParts, HasFewPartners, IsAllowed, IsAllowedLink, end_at, partner_parts}
 use Rattle.regions.proofs.region_laws.pattern.Choices.{found_passes, none_passes}
 use Rattle.regions.proofs.region_laws.pattern.symbols.Hosting.{one_host}
 use Rattle.regions.proofs.region_laws.pattern.types.Regions.{PartsOf, parts_of}
 use Rattle.schema_laws.proofs.sound_types.Inherited.{key_among, key_prop}
 use Rattle.regions.proofs.region_laws.pattern.Ends.{other_end}
+use Rattle.regions.specs.region_laws.Held.{StandingLink, PartneredEntity, HeldEntity, IsOfRegion}
 
 -- null is in no domain
 pub no_null : (k : Kind) → InDomain Null k → ⊥
@@ -93,17 +94,10 @@ module _ (basis : Basis) (is : IsBasis basis) (state : State) (legal : IsLegal b
       let Ends : Link → Type 0 = λ one. HasEntityAt basis.schema.model state assoc.first one.first × HasEntityAt basis.schema.model state assoc.second one.second in
       All-contains Ends (links_in state a) link (legal.links a assoc here is_link.independent).ends stands
 
-  pub link_allowed : (a : AssocId) (assoc : Assoc) → At basis.schema.model.assocs a.index assoc → (link : Link) → Contains (links_in state a) link
-      → IsAllowedLink basis a (by_link basis.schema.model assoc link)
-  link_allowed a assoc here link stands = record {
-    parts = λ other at first. (let same : assoc ≡ other = at_once basis.schema.model.assocs a.index assoc other here at in
-        let P : Assoc → Type 0 = λ one. HasAllowedParts basis.schema.model (end_at first one) ((by_link basis.schema.model assoc link).part a first) in
-        subst P same (by first));
-  }
-    where
-      by : (first : Bool) → HasAllowedParts basis.schema.model (end_at first assoc) ((by_link basis.schema.model assoc link).part a first)
-      by true = part_domain assoc.first (assoc_sound a assoc here).first link.first (ends_there a assoc here link stands).0
-      by false = part_domain assoc.second (assoc_sound a assoc here).second link.second (ends_there a assoc here link stands).1
+  the_link_allowed : (a : AssocId) (assoc : Assoc) → At basis.schema.model.assocs a.index assoc → (link : Link) → Contains (links_in state a) link → (first : Bool)
+      → HasAllowedParts basis.schema.model (end_at first assoc) ((by_link basis.schema.model assoc link).part a first)
+  the_link_allowed a assoc here link stands true = part_domain assoc.first (assoc_sound a assoc here).first link.first (ends_there a assoc here link stands).0
+  the_link_allowed a assoc here link stands false = part_domain assoc.second (assoc_sound a assoc here).second link.second (ends_there a assoc here link stands).1
 
   -- a partner's key
   partner_allowed : (first_hosts : Bool) (a : AssocId) (assoc : Assoc) → At basis.schema.model.assocs a.index assoc → (link : Link) → Contains (links_in state a) link
@@ -112,33 +106,46 @@ module _ (basis : Basis) (is : IsBasis basis) (state : State) (legal : IsLegal b
   partner_allowed true a assoc here link stands = part_domain assoc.second (assoc_sound a assoc here).second link.second (ends_there a assoc here link stands).1
   partner_allowed false a assoc here link stands = part_domain assoc.first (assoc_sound a assoc here).first link.first (ends_there a assoc here link stands).0
 
-  module _ (s : SetId) (region : Region) (has : Contains (regions_of basis s) region) (entity : Entity) (stands : Contains (entities_in state s) entity) (links : List Hosted)
-      (hosted : AreHostedLinks basis state s entity links) (holds : Holds basis region entity links) (part : AssocId → Bool → PropId → Value)
-      (partners : ArePartners basis region links part) where
-    abbrev parts : PartsOf basis s region
-    parts = parts_of basis s region has
+-- the keys of a link, and the values of an entity with the keys of its partners
+module _ (basis : Basis) (is : IsBasis basis) where
+  pub link_allowed : (one : StandingLink basis) → IsAllowedLink basis one.a (by_link basis.schema.model one.assoc one.link)
+  link_allowed one = record {
+    parts = λ other at first. (let same : one.assoc ≡ other = at_once basis.schema.model.assocs one.a.index one.assoc other one.is_assoc at in
+        let P : Assoc → Type 0 = λ assoc. HasAllowedParts basis.schema.model (end_at first assoc) ((by_link basis.schema.model one.assoc one.link).part one.a first) in
+        subst P same (the_link_allowed basis is one.state one.legal one.a one.assoc one.is_assoc one.link one.stands first));
+  }
 
-    host_parts : (host : Host) (assoc : Assoc) → Contains (basis.hosts region.set) host → Contains region.linked host.assoc → At basis.schema.model.assocs host.assoc.index assoc
-        → HasAllowedParts basis.schema.model (partner_end host.first_hosts assoc) (part host.assoc (not host.first_hosts))
+  module _ (one : PartneredEntity basis) where
+    abbrev held : HeldEntity basis
+    held = one.held
+
+    abbrev of : IsOfRegion basis held.state held.s held.entity held.region
+    of = held.of_region
+
+    abbrev parts : PartsOf basis held.s held.region
+    parts = parts_of basis held.s held.region of.listed
+
+    host_parts : (host : Host) (assoc : Assoc) → Contains (basis.hosts held.region.set) host → Contains held.region.linked host.assoc → At basis.schema.model.assocs host.assoc.index assoc
+        → HasAllowedParts basis.schema.model (partner_end host.first_hosts assoc) (one.part host.assoc (not host.first_hosts))
     host_parts host assoc is_host linked here p declared among is_declared =
-        let told = partners.tells host assoc is_host linked here in
-        let seen : IsHostedLink state (basis.hosts s) (key_of basis.schema.model entity) told.0 = (hosted.tells told.0).0 told.1 in
-        let same_set : Contains (basis.hosts s) host = subst (λ u. Contains (basis.hosts u) host) parts.of_set is_host in
+        let told = one.partners.tells host assoc is_host linked here in
+        let seen : IsHostedLink held.state (basis.hosts held.s) (key_of basis.schema.model held.entity) told.0 = (of.hosted.tells told.0).0 told.1 in
+        let same_set : Contains (basis.hosts held.s) host = subst (λ u. Contains (basis.hosts u) host) parts.of_set is_host in
         let of_assoc : seen.host.assoc ≡ host.assoc = sym (ap (λ (h : Hosted). h.assoc) seen.seen) ∙ told.2 in
-        let same : seen.host ≡ host = one_host basis is s seen.host host seen.is_host same_set of_assoc in
-        let Stands : Host → Type 0 = λ h. Contains (links_in state h.assoc) seen.link in
+        let same : seen.host ≡ host = one_host basis is held.s seen.host host seen.is_host same_set of_assoc in
+        let Stands : Host → Type 0 = λ h. Contains (links_in held.state h.assoc) seen.link in
         let key : told.0.partner ≡ partner_key host.first_hosts seen.link =
         ap (λ (h : Hosted). h.partner) seen.seen ∙ ap (λ (h : Host). partner_key h.first_hosts seen.link) same in
-        let allowed = partner_allowed host.first_hosts host.assoc assoc here seen.link (subst Stands same seen.stands) p declared among is_declared in
+        let allowed = partner_allowed basis is held.state held.legal host.first_hosts host.assoc assoc here seen.link (subst Stands same seen.stands) p declared among is_declared in
         let P : Value → Type 0 = λ value. InDomain value declared.kind in
         let Q : List Value → Type 0 = λ one. P (value_beside p (key_props basis.schema.model (partner_end host.first_hosts assoc).ty) one) in
         subst P (sym (told.3 p among)) (subst Q (sym key) allowed)
 
-    pub region_allowed : IsAllowed basis region (by_entity basis.schema.model entity part)
+    pub region_allowed : IsAllowed basis held.region (by_entity basis.schema.model held.entity one.part)
     region_allowed = record {
-      atoms = holds.atoms;
-      props = λ p declared among is_declared. entity_allows s parts.set parts.is_set entity stands p declared
-          (subst (λ t. Contains (props_of basis.schema.model t) p) (sym holds.typed) among) is_declared;
+      atoms = of.holds.atoms;
+      props = λ p declared among is_declared. entity_allows basis is held.state held.legal held.s parts.set parts.is_set held.entity of.stands p declared
+          (subst (λ t. Contains (props_of basis.schema.model t) p) (sym of.holds.typed) among) is_declared;
       parts = host_parts;
     }
 
