@@ -23,7 +23,7 @@ use Rattle.regions.proofs.region_laws.listing.Listed.{set_is}
 use Rattle.regions.proofs.region_laws.listing.Possible.{must_link}
 use Rattle.regions.proofs.region_laws.pattern.symbols.Origins.{linked_decided}
 use Rattle.region_states.specs.Entities.{focus_entity}
-use Rattle.region_states.specs.focus.Held.{IsOfRegion}
+use Rattle.regions.specs.region_laws.Held.{IsOfRegion}
 use Rattle.region_states.proofs.Entities.{atoms_lie}
 use Rattle.population.specs.Given.{HasNumbers}
 use Rattle.population.specs.Numbered.{end_number, end_of, numbered_key}
@@ -104,7 +104,7 @@ module _ (basis : Basis) (outer : ℕ) (s : SetId) (region : Region) (values : V
   one_linked : (host : Host) → Contains (basis.hosts s) host → (assoc : Assoc) → At basis.schema.model.assocs host.assoc.index assoc
       → (end_of (not host.first_hosts) assoc).mult ≡ One → IsA basis.schema.model region.ty (end_of host.first_hosts assoc).ty → Contains region.linked host.assoc
   one_linked host hosted assoc here far_one under =
-      must_link basis made.of.is s region made.of.listed host hosted assoc here
+      must_link basis made.of.is s region made.of.listed (record { host = host; hosts = hosted; assoc = assoc; is_assoc = here })
       (subst (λ (end : End). IsA basis.schema.model region.ty end.ty) (sym (host_side host.first_hosts assoc)) under)
       (λ free_one. one_not_free (sym far_one ∙ ap (λ (end : End). end.mult) (sym (partner_side host.first_hosts assoc)) ∙ free_one))
 
@@ -148,7 +148,7 @@ module _ (basis : Basis) (outer : ℕ) (s : SetId) (region : Region) (values : V
     hosted = are_hosted;
     holds = record {
       typed = refl;
-      atoms = atoms_lie basis made.of.is s region made.of.listed values made.admissible.allowed;
+      atoms = atoms_lie basis made.of.is (record { s = s; region = region; listed = made.of.listed; values = values }) made.admissible.allowed;
       flags = all_from_members (TellsLinks basis region hosted_here) (basis.hosts region.set) (λ host there assoc here few. (
         flag_there host (subst (λ u. Contains (basis.hosts u) host) (set_is basis s region made.of.listed) there) assoc here few,
         flag_back host,

@@ -131,7 +131,8 @@ module _ (basis : Basis) (is : IsBasis basis) (limits : IsWithinLimits basis.sch
           at_key = host_key_is host.first_hosts link ∙ at_key ∙ sym (stands.one.keys host.first_hosts);
           is = refl;
         } in
-        (row_writings basis is by.fragment.table s the_owner.0 the_owner.1 state stands.one.legal entity row_key stands_at writing).1 (refl, inr hosted)
+        (row_writings basis is (record { state = state; legal = stands.one.legal; s = s; entity = entity; stands = stands_at.stands }) by.fragment.table row_key
+        (record { pairing = the_owner.0; owned = the_owner.1; at = stands_at }) writing).1 (refl, inr hosted)
 
     own_key : (first : Bool) → end_key first (plain_link model 0 the_assoc) ≡ key_at model 0 (at_end model 0 first the_assoc)
     own_key true = refl

@@ -139,7 +139,7 @@ module _ (basis : Basis) (outer : ℕ) (s : SetId) (region : Region) (values : V
           filter_none (λ (one : Link). same_key (host_key host.first_hosts one) focus_key) (AtEntity host hosted by.assoc by.is_assoc) (λ one. Decides-key (host_key host.first_hosts one) focus_key)
           (links_in state host.assoc) (λ link has at.
           let told = none_but_asked host hosted by.assoc by.is_assoc (λ there. not_linked (made.each host there).1) link has at in
-          not_linked (must_link basis made.of.is s region made.of.listed host hosted by.assoc by.is_assoc
+          not_linked (must_link basis made.of.is s region made.of.listed (record { host = host; hosts = hosted; assoc = by.assoc; is_assoc = by.is_assoc })
           (subst (λ (end : End). IsA basis.schema.model region.ty end.ty) (sym (host_side host.first_hosts by.assoc)) told.1)
           (λ free. one_not_free (sym told.0 ∙ ap (λ (end : End). end.mult) (sym (partner_side host.first_hosts by.assoc)) ∙ free)))));
     }

@@ -118,7 +118,7 @@ module _ (basis : Basis) (is : IsBasis basis) (s : SetId) (region : Region) (has
     near_set = ap (λ (end : End). end.set) (sym (host_side host.first_hosts assoc)) ∙ at_set basis is s host by.hosts assoc by.is_assoc
 
     pub near_covers : IsA basis.schema.model region.ty (end_of host.first_hosts assoc).ty
-    near_covers = subst (λ (end : End). IsA basis.schema.model region.ty end.ty) (host_side host.first_hosts assoc) (may_link basis is s region has host by.hosts assoc by.is_assoc by.linked)
+    near_covers = subst (λ (end : End). IsA basis.schema.model region.ty end.ty) (host_side host.first_hosts assoc) (may_link basis is s region has (record { host = host; hosts = by.hosts; assoc = assoc; is_assoc = by.is_assoc }) by.linked)
 
     pub no_constraint : IsIndependent assoc
     no_constraint = independent basis is s host by.hosts assoc by.is_assoc

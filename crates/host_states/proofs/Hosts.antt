@@ -16,25 +16,25 @@ use Rattle.host_states.proofs.Rivals.{focus_made, focus_wants_short, rivals_hold
 module _ (basis : Basis) (is : IsBasis basis) (limits : IsWithinLimits basis.schema) (outer : ℕ) (row : outer ≤ 4) where
   pub states_host : HostsFocuses basis outer (focus_state basis outer)
   states_host = record {
-    holds = λ s region listed values admissible. (
-        let of : HasRegion basis outer s region = record { is = is; limits = limits; row = row; listed = listed } in
-        let wanted : List PlacedKey = wanted_by basis outer (given_by basis outer (linked_hosts basis region) region values) in
-        holds_focus basis outer s region values (linked_hosts basis region) wanted
-        (focus_made basis outer s region of values admissible wanted (focus_wants_short basis outer s region of values admissible) (λ to has. has))
-        (is_linked_host basis is s region listed));
+    holds = λ at admissible. (
+        let of : HasRegion basis outer at.s at.region = record { is = is; limits = limits; row = row; listed = at.listed } in
+        let wanted : List PlacedKey = wanted_by basis outer (given_by basis outer (linked_hosts basis at.region) at.region at.values) in
+        holds_focus basis outer at.s at.region at.values (linked_hosts basis at.region) wanted
+        (focus_made basis outer at.s at.region of at.values admissible wanted (focus_wants_short basis outer at.s at.region of at.values admissible) (λ to has. has))
+        (is_linked_host basis is at.s at.region at.listed));
   }
 
   pub states_rival : HostsRivals basis outer (rival_states basis outer)
   states_rival = record {
-    hold = λ few s one two listed also_listed linked values others admissible also parts keys. (
-        let of : HasRegion basis outer s one = record { is = is; limits = limits; row = row; listed = listed } in
-        let of_two : HasRegion basis outer s two = record { is = is; limits = limits; row = row; listed = also_listed } in
-        rivals_hold basis outer s one two of of_two linked values others admissible also parts keys few);
+    hold = λ few pair. (
+        let of : HasRegion basis outer pair.s pair.one = record { is = is; limits = limits; row = row; listed = pair.is_one } in
+        let of_two : HasRegion basis outer pair.s pair.two = record { is = is; limits = limits; row = row; listed = pair.is_two } in
+        rivals_hold basis outer pair.s pair.one pair.two of of_two pair.linked pair.values pair.others pair.admissible pair.others_admissible pair.partners pair.keys few);
   }
 
   pub states_leave : LeavesOut basis outer (leaving_states basis outer)
   states_leave = record {
-    leave = λ few s region listed single values admissible. (
-        let of : HasRegion basis outer s region = record { is = is; limits = limits; row = row; listed = listed } in
-        focus_leaves basis outer s region of values admissible single few);
+    leave = λ few at single admissible. (
+        let of : HasRegion basis outer at.s at.region = record { is = is; limits = limits; row = row; listed = at.listed } in
+        focus_leaves basis outer at.s at.region of at.values admissible single few);
   }

@@ -127,53 +127,56 @@ module _ (basis : Basis) (is : IsBasis basis) (limits : IsWithinLimits basis.sch
 
   pub small_host : HostsFocuses basis outer (small_focus basis outer)
   small_host = record {
-    holds = λ s region listed values admissible. (
-        let state : State = focus_state basis outer region values in
-        let holds : HoldsFocus basis region values state = (states_host basis is limits outer row).holds s region listed values admissible in
-        focus_left basis is (state ∷ []) (legal_one basis.schema.model state holds.legal) (roots_of basis outer region values) state (contains_head state []) region values
-        (focus_rooted s region listed values admissible) holds);
+    holds = λ at admissible. (
+        let state : State = focus_state basis outer at.region at.values in
+        let holds : HoldsFocus basis at.region at.values state = (states_host basis is limits outer row).holds at admissible in
+        focus_left basis is (state ∷ []) (legal_one basis.schema.model state holds.legal) (roots_of basis outer at.region at.values) state (contains_head state []) at.region at.values
+        (focus_rooted at.s at.region at.listed at.values admissible) holds);
   }
 
   pub small_rival : HostsRivals basis outer (small_rivals basis outer)
   small_rival = record {
-    hold = λ few s one two listed also_listed linked values others admissible also parts keys. (
-        let both = rival_states basis outer one values two others in
+    hold = λ few pair. (
+        let both = rival_states basis outer pair.one pair.values pair.two pair.others in
         let c : State = both.0 in
         let d : State = both.1 in
-        let hold : HoldRivals basis one two values others c d =
-        (states_rival basis is limits outer row).hold few s one two listed also_listed linked values others admissible also parts keys in
-        let ones : List PlacedKey = roots_of basis outer one values in
-        let twos : List PlacedKey = roots_of basis outer two others in
-        let of : HasRegion basis outer s one = of_region s one listed in
-        let of_two : HasRegion basis outer s two = of_region s two also_listed in
-        let wanted : List PlacedKey = wanted_by_both basis outer one values two others in
+        let hold : HoldRivals basis pair.one pair.two pair.values pair.others c d = (states_rival basis is limits outer row).hold few pair in
+        let ones : List PlacedKey = roots_of basis outer pair.one pair.values in
+        let twos : List PlacedKey = roots_of basis outer pair.two pair.others in
+        let of : HasRegion basis outer pair.s pair.one = of_region pair.s pair.one pair.is_one in
+        let of_two : HasRegion basis outer pair.s pair.two = of_region pair.s pair.two pair.is_two in
+        let wanted : List PlacedKey = wanted_by_both basis outer pair.one pair.values pair.two pair.others in
         let legal = legal_both basis.schema.model c d hold.first.legal hold.second.legal in
         record {
-          first = focus_left basis is (c ∷ (d ∷ [])) legal (ones ++ twos) c (contains_head c (d ∷ [])) one values
-              (rooted basis outer s one values wanted (one_made basis outer s one two of of_two linked values others admissible also parts keys) (ones ++ twos)
+          first = focus_left basis is (c ∷ (d ∷ [])) legal (ones ++ twos) c (contains_head c (d ∷ [])) pair.one pair.values
+              (rooted basis outer pair.s pair.one pair.values wanted
+              (one_made basis outer pair.s pair.one pair.two of of_two pair.linked pair.values pair.others pair.admissible pair.others_admissible pair.partners pair.keys) (ones ++ twos)
               (λ root has. Contains-append_left ones twos root has)) hold.first;
-          second = focus_left basis is (c ∷ (d ∷ [])) legal (ones ++ twos) d (contains_tail c (d ∷ []) d (contains_head d [])) two others
-              (rooted basis outer s two others wanted (two_made basis outer s one two of of_two linked values others admissible also parts keys) (ones ++ twos)
+          second = focus_left basis is (c ∷ (d ∷ [])) legal (ones ++ twos) d (contains_tail c (d ∷ []) d (contains_head d [])) pair.two pair.others
+              (rooted basis outer pair.s pair.two pair.others wanted
+              (two_made basis outer pair.s pair.one pair.two of of_two pair.linked pair.values pair.others pair.admissible pair.others_admissible pair.partners pair.keys) (ones ++ twos)
               (λ root has. Contains-append_right ones twos root has)) hold.second;
-          alike = differ_left basis is (c ∷ (d ∷ [])) legal (ones ++ twos) c d (contains_head c (d ∷ [])) (contains_tail c (d ∷ []) d (contains_head d [])) one.set
-              (key_of basis.schema.model (focus_entity basis one values)) hold.alike;
+          alike = differ_left basis is (c ∷ (d ∷ [])) legal (ones ++ twos) c d (contains_head c (d ∷ [])) (contains_tail c (d ∷ []) d (contains_head d [])) pair.one.set
+              (key_of basis.schema.model (focus_entity basis pair.one pair.values)) hold.alike;
         });
   }
 
   pub small_leave : LeavesOut basis outer (small_leaving basis outer)
   small_leave = record {
-    leave = λ few s region listed single values admissible. (
-        let both = leaving_states basis outer region values in
+    leave = λ few at single admissible. (
+        let both = leaving_states basis outer at.region at.values in
         let c : State = both.0 in
         let d : State = both.1 in
-        let leaves : LeavesFocusOut basis region values c d = (states_leave basis is limits outer row).leave few s region listed single values admissible in
-        let roots : List PlacedKey = roots_of basis outer region values in
+        let leaves : LeavesFocusOut basis at.region at.values c d = (states_leave basis is limits outer row).leave few at single admissible in
+        let roots : List PlacedKey = roots_of basis outer at.region at.values in
         let legal = legal_both basis.schema.model c d leaves.first.legal leaves.second in
         let there : Contains (c ∷ (d ∷ [])) d = contains_tail c (d ∷ []) d (contains_head d []) in
         record {
-          first = focus_left basis is (c ∷ (d ∷ [])) legal roots c (contains_head c (d ∷ [])) region values (focus_rooted s region listed values admissible) leaves.first;
+          first = focus_left basis is (c ∷ (d ∷ [])) legal roots c (contains_head c (d ∷ [])) at.region at.values
+              (focus_rooted at.s at.region at.listed at.values admissible) leaves.first;
           second = part_legal basis is (c ∷ (d ∷ [])) legal roots d there;
-          left_out = λ x has. leaves.left_out x (left_of basis is (c ∷ (d ∷ [])) legal roots d there region.set x has);
-          alike = differ_left basis is (c ∷ (d ∷ [])) legal roots c d (contains_head c (d ∷ [])) there region.set (key_of basis.schema.model (focus_entity basis region values)) leaves.alike;
+          left_out = λ x has. leaves.left_out x (left_of basis is (c ∷ (d ∷ [])) legal roots d there at.region.set x has);
+          alike = differ_left basis is (c ∷ (d ∷ [])) legal roots c d (contains_head c (d ∷ [])) there at.region.set
+              (key_of basis.schema.model (focus_entity basis at.region at.values)) leaves.alike;
         });
   }

@@ -13,7 +13,7 @@ use Rattle.regions.specs.declared.region.Region.{Region}
 use Rattle.regions.specs.Basis.{Basis, Host, partner_end}
 use Rattle.regions.specs.Patterns.{Valuation}
 use Rattle.region_states.specs.defaults.Defaults.{default_valuation}
-use Rattle.region_states.specs.focus.Held.{IsOfRegion}
+use Rattle.regions.specs.region_laws.Held.{IsOfRegion}
 use Rattle.population.specs.Numbered.{end_of}
 use Rattle.population.specs.Principals.{PlacedKey, principal_by}
 use Rattle.population.specs.Supported.{end_key}
