@@ -14,7 +14,7 @@ use Rattle.host_states.specs.FocusStates.{focus_state, leaving_states, rival_sta
 use Rattle.host_states.specs.SmallStates.{small_focus, small_leaving, small_rivals}
 use Rattle.host_states.proofs.FewPartners.{few_by_clear}
 use Rattle.host_states.proofs.Hosts.{states_host, states_leave, states_rival}
-use Rattle.host_states.proofs.SmallHosts.{small_host, small_leave, small_rival}
+use Rattle.host_states.proofs.small.SmallHosts.{small_host, small_leave, small_rival}
 use Rattle.conflict_laws.proofs.clash.Fails.{fails_there}
 use Rattle.conflict_laws.proofs.clash.Told.{clash_told}
 use Rattle.conflict_laws.proofs.null.Failing.{null_there}

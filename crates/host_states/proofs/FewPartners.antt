@@ -30,10 +30,10 @@ use Rattle.population.specs.Given.{HasNumbers}
 use Rattle.population.specs.LinkStates.{HoldsTwoLinks, at_end, entity_at, key_at, other_link, plain_link, two_links_state}
 use Rattle.population.specs.Numbered.{end_of}
 use Rattle.population.specs.Supported.{end_key}
-use Rattle.population.proofs.Links.{near_key}
-use Rattle.population.proofs.LinkStates.{two_hold}
-use Rattle.population.proofs.Numbered.{some_part, sound_end}
-use Rattle.host_states.proofs.HostEnds.{host_key_is, host_side, partner_side}
+use Rattle.population.proofs.supporting.Links.{near_key}
+use Rattle.population.proofs.supporting.LinkStates.{two_hold}
+use Rattle.population.proofs.plain.Numbered.{some_part, sound_end}
+use Rattle.host_states.proofs.focus.HostEnds.{host_key_is, host_side, partner_side}
 
 -- the pairs at an end
 abbrev pub pairs_of : Bool → LinkFragment → List Pair

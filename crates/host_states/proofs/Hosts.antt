@@ -7,11 +7,11 @@ use Rattle.regions.specs.region_laws.IsBasis.{IsBasis}
 use Rattle.region_states.specs.Hosting.{HostsFocuses, HostsRivals, LeavesOut}
 use Rattle.population.specs.Principals.{PlacedKey}
 use Rattle.host_states.specs.FocusStates.{focus_state, given_by, leaving_states, linked_hosts, rival_states, wanted_by}
-use Rattle.host_states.proofs.Focus.{HasRegion}
-use Rattle.host_states.proofs.FocusHeld.{holds_focus}
-use Rattle.host_states.proofs.HostEnds.{is_linked_host}
-use Rattle.host_states.proofs.Leaves.{focus_leaves}
-use Rattle.host_states.proofs.Rivals.{focus_made, focus_wants_short, rivals_hold}
+use Rattle.host_states.proofs.focus.Focus.{HasRegion}
+use Rattle.host_states.proofs.focus.FocusHeld.{holds_focus}
+use Rattle.host_states.proofs.focus.HostEnds.{is_linked_host}
+use Rattle.host_states.proofs.pairs.Leaves.{focus_leaves}
+use Rattle.host_states.proofs.pairs.Rivals.{focus_made, focus_wants_short, rivals_hold}
 
 module _ (basis : Basis) (is : IsBasis basis) (limits : IsWithinLimits basis.schema) (outer : ℕ) (row : outer ≤ 4) where
   pub states_host : HostsFocuses basis outer (focus_state basis outer)

@@ -1,4 +1,4 @@
-use Rattle.population.proofs.Asked.{principals_are}
+use Rattle.population.proofs.principals.Asked.{principals_are}
 use Rattle.population.proofs.principals_are_asked_for.Goals as goal
 
 pub returns : goal.returns

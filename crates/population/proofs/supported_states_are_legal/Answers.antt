@@ -1,4 +1,4 @@
-use Rattle.population.proofs.Legal.{supported_legal}
+use Rattle.population.proofs.supporting.Legal.{supported_legal}
 use Rattle.population.proofs.supported_states_are_legal.Goals as goal
 
 pub returns : goal.returns

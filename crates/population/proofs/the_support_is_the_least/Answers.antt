@@ -1,4 +1,4 @@
-use Rattle.population.proofs.Support.{support_fits, support_least}
+use Rattle.population.proofs.supporting.Support.{support_fits, support_least}
 use Rattle.population.proofs.the_support_is_the_least.Goals as goal
 
 pub returns-clause-least : goal.returns-clause-least

@@ -15,11 +15,11 @@ use Rattle.population.specs.Numbered.{end_of}
 use Rattle.population.specs.Principals.{PlacedKey, principals}
 use Rattle.population.specs.Support.{is_taken, same_placed}
 use Rattle.population.specs.Supported.{Placed, PlacedLink, end_key, links_of, stands_in}
-use Rattle.population.proofs.Ends.{from_given, given_from, given_pairs, link_from, link_pairs}
-use Rattle.population.proofs.Entities.{given_stands}
-use Rattle.population.proofs.Legal.{supported_legal}
-use Rattle.population.proofs.Placed.{Decides-placed}
-use Rattle.population.proofs.Support.{Decides-taken, support_fits}
+use Rattle.population.proofs.supporting.Ends.{from_given, given_from, given_pairs, link_from, link_pairs}
+use Rattle.population.proofs.supporting.Entities.{given_stands}
+use Rattle.population.proofs.supporting.Legal.{supported_legal}
+use Rattle.population.proofs.plain.Placed.{Decides-placed}
+use Rattle.population.proofs.supporting.Support.{Decides-taken, support_fits}
 use Rattle.worked_examples.specs.supported.Supports.{asked_by, first_asked, state_of}
 use Rattle.worked_examples.proofs.facts.Entities.{MayStand, domains_fit, nulls_fit}
 use Rattle.worked_examples.proofs.facts.Small.{PairsByRecursion, all_pairs, each_of}

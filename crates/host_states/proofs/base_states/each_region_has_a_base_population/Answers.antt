@@ -4,8 +4,8 @@ use Rattle.std.proofs.lemmas.Slice.Zip.{AllZip-long}
 use Rattle.round_trip.specs.Words.{key_props}
 use Rattle.schema_laws.proofs.sound_demand.Keys.{keys_few}
 use Rattle.host_states.specs.BaseStates.{FitsProp}
-use Rattle.host_states.proofs.BaseFor.{base_for}
-use Rattle.host_states.proofs.OuterRow.{outer_row}
+use Rattle.host_states.proofs.bases.BaseFor.{base_for}
+use Rattle.host_states.proofs.bases.OuterRow.{outer_row}
 use Rattle.host_states.proofs.base_states.each_region_has_a_base_population.Goals as goal
 
 pub returns : goal.returns

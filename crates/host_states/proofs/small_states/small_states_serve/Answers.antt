@@ -1,4 +1,4 @@
-use Rattle.host_states.proofs.SmallHosts.{small_host, small_leave, small_rival}
+use Rattle.host_states.proofs.small.SmallHosts.{small_host, small_leave, small_rival}
 use Rattle.host_states.proofs.small_states.small_states_serve.Goals as goal
 
 pub returns-clause-hosts : goal.returns-clause-hosts

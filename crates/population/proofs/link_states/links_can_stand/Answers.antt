@@ -1,4 +1,4 @@
-use Rattle.population.proofs.LinkStates.{link_holds, links_differ, two_hold}
+use Rattle.population.proofs.supporting.LinkStates.{link_holds, links_differ, two_hold}
 use Rattle.population.proofs.link_states.links_can_stand.Goals as goal
 
 pub returns-clause-one : goal.returns-clause-one

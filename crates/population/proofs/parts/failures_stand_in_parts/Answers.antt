@@ -1,4 +1,4 @@
-use Rattle.population.proofs.PartHolds.{fails_in_rows}
+use Rattle.population.proofs.pruning.PartHolds.{fails_in_rows}
 use Rattle.population.proofs.parts.failures_stand_in_parts.Goals as goal
 
 pub returns : goal.returns

@@ -1,4 +1,4 @@
-use Rattle.population.proofs.Needed.{needed_keys_least}
+use Rattle.population.proofs.pruning.Needed.{needed_keys_least}
 use Rattle.population.proofs.parts.needed_keys_are_least.Goals as goal
 
 pub returns : goal.returns

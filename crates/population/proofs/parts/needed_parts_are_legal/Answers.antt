@@ -1,4 +1,4 @@
-use Rattle.population.proofs.NeededParts.{needed_parts}
+use Rattle.population.proofs.pruning.NeededParts.{needed_parts}
 use Rattle.population.proofs.parts.needed_parts_are_legal.Goals as goal
 
 pub returns : goal.returns

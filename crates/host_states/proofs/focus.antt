@@ -1,0 +1,4 @@
+pub mod HostEnds
+pub mod Focus
+pub mod FocusLinks
+pub mod FocusHeld

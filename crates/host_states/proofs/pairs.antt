@@ -1,0 +1,4 @@
+pub mod Alike
+pub mod Agreeing
+pub mod Rivals
+pub mod Leaves

@@ -1,0 +1,5 @@
+pub mod Lists
+pub mod Numbered
+pub mod Placed
+pub mod Plain
+pub mod Shortness

@@ -1,0 +1,4 @@
+pub mod Asked
+pub mod Matched
+pub mod PrincipalKeys
+pub mod Principals

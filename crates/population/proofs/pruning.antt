@@ -1,0 +1,6 @@
+pub mod Kept
+pub mod KeptLegal
+pub mod Needed
+pub mod NeededParts
+pub mod PartHolds
+pub mod RowStates
