@@ -2,5 +2,6 @@ pub mod focus
 pub mod pairs
 pub mod bases
 pub mod small
+pub mod lone
 pub mod FewPartners
 pub mod Hosts

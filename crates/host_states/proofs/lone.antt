@@ -1,0 +1,2 @@
+pub mod LoneParts
+pub mod LoneHosts
