@@ -26,20 +26,20 @@ use Rattle.conflict_laws.proofs.same.ToldThere.{same_told}
 
 module _ (basis : Basis) (is : IsBasis basis) (limits : IsWithinLimits basis.schema) (none : HasNoAssociationSets basis.schema.model) where
   -- nothing is hosted, so partners are few
-  few : (s : SetId) → HasFewPartners basis s
+  pub few : (s : SetId) → HasFewPartners basis s
   few s = λ host has assoc here. absurd (no_host basis is none s host has)
 
   -- the states of one entity
-  focuses : FocusStates basis
-  focuses = record { is_basis = is; limits = limits; state = lone_focus basis; hosts = lone_hosts basis is none 0 }
+  abbrev pub lone_focuses : FocusStates basis
+  lone_focuses = record { is_basis = is; limits = limits; state = lone_focus basis; hosts = lone_hosts basis is none 0 }
 
   -- where no legal state clashes, they are the states that the laws ask for
-  clear_states : NoneFailsBy basis.schema variant.Clash → ClearStates basis
-  clear_states clear = record { given = focuses; no_clash = clear }
+  abbrev pub lone_clear : NoneFailsBy basis.schema variant.Clash → ClearStates basis
+  lone_clear clear = record { given = lone_focuses; no_clash = clear }
 
-  states : NoneFailsBy basis.schema variant.Clash → RivalStates basis
-  states clear = record {
-    clear = clear_states clear;
+  abbrev pub lone_states : NoneFailsBy basis.schema variant.Clash → RivalStates basis
+  lone_states clear = record {
+    clear = lone_clear clear;
     rivals = λ one values two others. (lone_focus basis one values, lone_focus basis two others);
     hold = lone_rivals basis is none 0;
     leaving = λ region values. (lone_focus basis region values, empty_state basis.schema.model);
@@ -59,14 +59,14 @@ module _ (basis : Basis) (is : IsBasis basis) (limits : IsWithinLimits basis.sch
   -- each kind by its laws
   pub exact : (kind : FailKind) → NoneFailsBefore basis.schema kind → (s : SetId)
       → ((found : Conflict) × IsConflictAt basis s kind found) ↔ FailsThere basis s kind
-  exact variant.Clash before s = (λ found. fails_there basis focuses s found.0 found.1, clash_told basis is limits s)
+  exact variant.Clash before s = (λ found. fails_there basis lone_focuses s found.0 found.1, clash_told basis is limits s)
   exact variant.Null before s =
-      let clear = clear_states (before variant.Clash (omega (arith))) in
+      let clear = lone_clear (before variant.Clash (omega (arith))) in
       (λ found. null_there basis clear s found.0 found.1, null_told basis is s (few s))
   exact variant.Disagrees before s =
-      let clear = clear_states (before variant.Clash (omega (arith))) in
+      let clear = lone_clear (before variant.Clash (omega (arith))) in
       (λ found. there basis clear s found.0 found.1, told basis clear s (few s))
   exact variant.Dangling before s = (λ found. absurd (never_dangling found.0 s found.1), λ fails. absurd fails.fails)
   exact variant.Same before s =
-      let all = states (before variant.Clash (omega (arith))) in
+      let all = lone_states (before variant.Clash (omega (arith))) in
       (λ found. same_there basis all s found.0 found.1, same_told basis all (before variant.Disagrees (omega (arith))) s)

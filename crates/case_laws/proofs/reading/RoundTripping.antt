@@ -15,11 +15,10 @@ use Rattle.region_states.specs.conflicts.SameFacts.{are_rivals, is_absent, is_lo
 use Rattle.region_states.specs.conflicts.There.{FailsThere}
 use Rattle.region_states.specs.declared.conflicts.conflict.Conflict.{Conflict}
 use Rattle.region_states.specs.declared.conflicts.conflict.Conflict.TheVariants as conflict
-use Rattle.region_states.specs.LoneStates.{HasNoAssociationSets, lone_focus}
-use Rattle.region_states.proofs.lone.Alike.{lone_hosts}
+use Rattle.region_states.specs.LoneStates.{HasNoAssociationSets}
 use Rattle.region_states.proofs.lone.Legal.{no_host}
-use Rattle.conflict_laws.proofs.clash.Clear.{row_clear}
-use Rattle.conflict_laws.proofs.Exact.{exact}
+use Rattle.conflict_laws.proofs.clash.Clear.{region_clear}
+use Rattle.conflict_laws.proofs.Exact.{exact, lone_clear}
 use Rattle.case_laws.specs.Told.{IsReadable}
 
 module _ (basis : Basis) (is : IsBasis basis) (limits : IsWithinLimits basis.schema) (none : HasNoAssociationSets basis.schema.model) (round : RoundTrips basis.schema)
@@ -41,7 +40,7 @@ module _ (basis : Basis) (is : IsBasis basis) (limits : IsWithinLimits basis.sch
   pub readable : (region : Region) → Contains (regions_of basis s) region → IsReadable basis s region
   readable region listed = record {
     listed = listed;
-    clear = λ row has. row_clear basis is limits (lone_focus basis) (lone_hosts basis is none 0) (λ place c d. round kind.Clash place c d) s region listed row has;
+    clear = region_clear basis (lone_clear basis is limits none (λ place c d. round kind.Clash place c d)) s region listed;
     present = false_if (is_absent basis region) (λ absent. never_same (conflict.Absent region) (record { of_kind = refl; of_set = listed; holds = absent }));
     kept = λ p. false_if (is_lost basis region p) (λ lost. never_same (conflict.Lost region p) (record { of_kind = refl; of_set = listed; holds = lost }));
   }
