@@ -20,13 +20,13 @@ use Rattle.region_states.specs.conflicts.Facts.{has_row, is_required}
 use Rattle.region_states.specs.declared.conflicts.conflict.Conflict.TheVariants as conflict
 use Rattle.region_states.specs.Entities.{focus_entity}
 use Rattle.region_states.specs.LoneStates.{lone_focus, lone_state}
-use Rattle.region_states.proofs.lone.Alike.{lone_hosts}
 use Rattle.conflict_laws.specs.clash.ClashValues.{clash_values}
 use Rattle.conflict_laws.proofs.clash.Clashing.{Decides-clash, IsClash}
 use Rattle.conflict_laws.proofs.clash.Fails.{fails_at}
 use Rattle.conflict_laws.proofs.null.Failing.{null_fails}
 use Rattle.conflict_laws.proofs.null.Listed.{Decides-row}
 use Rattle.conflict_laws.proofs.null.Required.{required_there}
+use Rattle.conflict_laws.proofs.Exact.{lone_clear, lone_focuses}
 use Rattle.witness_state.specs.Failures.{IsFailureOf}
 use Rattle.witness_state.specs.CellPlaces.{IsCellPlace}
 use Rattle.witness_state.specs.FirstConflict.{IsFirstConflict}
@@ -73,8 +73,9 @@ module _ (parts : Parts) (region : Region) (t : TableId) (c : ColId) where
         → IsFailureOf (schema_in parts) (shown_alone kind.Clash place (lone_focus basis region values))
     clash_fails place at =
         let shown : State = lone_focus basis region values in
-        let fails = fails_at basis first.is_basis first.are.limits (lone_focus basis) (lone_hosts basis first.is_basis first.alone 0) first.of_set region has t c one two
-        first.is_conflict.holds at.table at.column at.has_column at.pairing at.owned shown in
+        let fails = fails_at basis (lone_focuses basis first.is_basis first.are.limits first.alone)
+        (record { s = first.of_set; region = region; listed = has; t = t; col = c; one = one; two = two; clash = first.is_conflict.holds })
+        (record { table = at.table; column = at.column; has_column = at.has_column; pairing = at.pairing; owned = at.owned }) shown in
         let P : Place → Type 0 = λ p. FailsAt (schema_in parts) kind.Clash p shown shown in
         alone_is (schema_in parts) kind.Clash first.earlier (λ same. cc) place shown (subst P (sym at.place_is) fails)
 
@@ -108,9 +109,9 @@ module _ (parts : Parts) (region : Region) (t : TableId) (c : ColId) where
         → IsFailureOf (schema_in parts) (shown_alone kind.Null place (lone_focus basis region usual))
     null_fails_there place at =
         let shown : State = lone_focus basis region usual in
-        let fails = null_fails basis first.is_basis first.are.limits (lone_focus basis) (lone_hosts basis first.is_basis first.alone 0)
-        (first.earlier kind.Clash (omega (arith))) first.of_set region listed t c one
-        first.is_conflict.holds at.table at.column at.has_column at.pairing at.owned shown in
+        let fails = null_fails basis (lone_clear basis first.is_basis first.are.limits first.alone (first.earlier kind.Clash (omega (arith))))
+        (record { s = first.of_set; region = region; listed = listed; t = t; col = c; one = one; null = first.is_conflict.holds })
+        (record { table = at.table; column = at.column; has_column = at.has_column; pairing = at.pairing; owned = at.owned }) shown in
         let P : Place → Type 0 = λ p. FailsAt (schema_in parts) kind.Null p shown shown in
         alone_is (schema_in parts) kind.Null first.earlier (λ same. cc) place shown (subst P (sym at.place_is) fails)
 

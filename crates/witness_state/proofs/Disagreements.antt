@@ -16,10 +16,10 @@ use Rattle.region_states.specs.conflicts.Facts.{differ, is_hosted, shows_link_pa
 use Rattle.region_states.specs.declared.conflicts.conflict.Conflict.TheVariants as conflict
 use Rattle.region_states.specs.Entities.{focus_entity}
 use Rattle.region_states.specs.LoneStates.{lone_focus, lone_state}
-use Rattle.region_states.proofs.lone.Alike.{lone_hosts}
 use Rattle.region_states.proofs.lone.Legal.{no_host}
 use Rattle.conflict_laws.proofs.disagreement.Deciding.{Decides-disagrees, Decides-hosted, SomeDiffers, SomeLinksDiffer}
 use Rattle.conflict_laws.proofs.disagreement.Failing.{fails}
+use Rattle.conflict_laws.proofs.Exact.{lone_clear}
 use Rattle.witness_state.specs.Failures.{IsFailureOf}
 use Rattle.witness_state.specs.FirstConflict.{IsFirstConflict}
 use Rattle.witness_state.specs.Shown.{shown_alone}
@@ -43,8 +43,14 @@ module _ (parts : Parts) (region : Region) (fragment : List ℕ) (first : IsFirs
   by_fragment : SomeDiffers basis region fragment → FailsWith fragment
   by_fragment (found, mapped, differs) =
       subst FailsWith differs.0
-      (fails basis first.is_basis first.are.limits (lone_focus basis) (lone_hosts basis first.is_basis first.alone 0) (first.earlier kind.Clash (omega (arith)))
-      first.of_set region first.is_conflict.of_set found mapped differs.1 shown)
+      (fails basis (lone_clear basis first.is_basis first.are.limits first.alone (first.earlier kind.Clash (omega (arith)))) (record {
+        s = first.of_set;
+        region = region;
+        listed = first.is_conflict.of_set;
+        fragment = found;
+        mapped = mapped;
+        differs = differs.1;
+      }) shown)
 
   -- none of links does, since nothing is hosted
   by_links : SomeLinksDiffer basis region fragment → FailsWith fragment

@@ -3,7 +3,6 @@ use Rattle.std.proofs.Common.{◌≡◌, inl, List, Contains, sym, ap, subst, �
 use Rattle.std.specs.List.{AllZip}
 use Rattle.std.proofs.lemmas.List.Elements.{All-contains}
 use mathlib.Core.List.{map-map}
-use Rattle.emc_base.specs.Lists.{AreApart}
 use Rattle.round_trip.specs.Words.{SetId, TableId, PropId, Entity, Fragment, Pair, Schema, value_of, values_of}
 use Rattle.round_trip.specs.soundness.mappings.Owners.{SetWrites}
 use Rattle.schema_laws.specs.state_demand.Owners.{IsOfOwner, IsOwned, paired_key, props_in}

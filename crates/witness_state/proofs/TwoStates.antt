@@ -17,15 +17,15 @@ use Rattle.region_states.specs.declared.conflicts.conflict.Conflict.TheVariants 
 use Rattle.region_states.specs.conflicts.There.{NoneFailsBefore, NoneFailsBy}
 use Rattle.region_states.specs.Entities.{focus_entity}
 use Rattle.region_states.specs.LoneStates.{empty_state, lone_focus, lone_state}
-use Rattle.region_states.proofs.lone.Alike.{lone_hosts, lone_leaves, lone_rivals}
-use Rattle.region_states.proofs.lone.Legal.{no_host}
 use Rattle.conflict_laws.specs.rival.RivalValues.{first_values, second_values}
 use Rattle.conflict_laws.specs.same.SameValues.{first_several, with_one, with_other}
-use Rattle.conflict_laws.specs.same.States.{HasStates}
 use Rattle.conflict_laws.proofs.same.lost.Absent.{several_lost}
 use Rattle.conflict_laws.proofs.same.lost.LeftOut.{absent_fails}
-use Rattle.conflict_laws.proofs.same.lost.Lost.{lost_fails, lost_told}
+use Rattle.conflict_laws.proofs.same.lost.Lost.{lost_fails}
 use Rattle.conflict_laws.proofs.same.rivals.RivalsFail.{rivals_fail}
+use Rattle.conflict_laws.proofs.Exact.{lone_states}
+use Rattle.conflict_laws.specs.States.{RivalStates}
+use Rattle.conflict_laws.specs.Told.{AbsentRegion}
 use Rattle.witness_state.specs.declared.failure.Failure.{Failure}
 use Rattle.witness_state.specs.Failures.{IsFailureOf}
 use Rattle.witness_state.specs.FirstConflict.{IsFirstConflict}
@@ -35,13 +35,6 @@ use Rattle.witness_state.proofs.Shown.{beside_is}
 module _ (parts : Parts) where
   abbrev basis : Basis
   basis = basis_of parts
-
-  -- the states of one entity, two for two regions, and one with the empty one
-  abbrev two_of : Region → Valuation → Region → Valuation → State × State
-  two_of one values two others = (lone_focus basis one values, lone_focus basis two others)
-
-  abbrev with_empty : Region → Valuation → State × State
-  with_empty region values = (lone_focus basis region values, empty_state basis.schema.model)
 
   -- the set of a region of the model's s-th set stands at both
   pub set_of : (s : SetId) (region : Region) → Contains (regions_of basis s) region
@@ -53,17 +46,9 @@ module _ (parts : Parts) where
   pub set_within : (s : SetId) (region : Region) → Contains (regions_of basis s) region → region.set.index < length (schema_in parts).model.sets
   set_within s region has = let of = set_of s region has in slice_get_within (schema_in parts).model.sets region.set.index of.0 of.1
 
-  -- these are the states that the laws on same tables ask for
-  states : (told : Conflict) → IsFirstConflict parts told → NoneFailsBy (schema_in parts) kind.Clash → HasStates basis (lone_focus basis) two_of with_empty
-  states told first clear = record {
-    is_basis = first.is_basis;
-    limits = first.are.limits;
-    hosts = lone_hosts basis first.is_basis first.alone 0;
-    rival = lone_rivals basis first.is_basis first.alone 0;
-    leaves = lone_leaves basis first.is_basis first.alone 0;
-    few = λ s host has assoc at. absurd (no_host basis first.is_basis first.alone s host has);
-    no_clash = clear;
-  }
+  -- the states of one entity, and the empty one, are those that the laws on same tables ask for
+  abbrev states : (told : Conflict) → IsFirstConflict parts told → NoneFailsBy (schema_in parts) kind.Clash → RivalStates basis
+  states told first clear = lone_states basis first.is_basis first.are.limits first.alone clear
 
   -- the failure of the entity of a region beside another state with the same tables, at the entity's key
   abbrev shown_of : EntitySet → Region → Entity → State → Failure
@@ -83,8 +68,14 @@ module _ (parts : Parts) where
   rivals_are one two first =
       let set = set_of first.of_set one first.is_conflict.of_set.0 in
       shown_by (conflict.Rival one two) first first.earlier set.0 one (first_values basis one two) (lone_focus basis two (second_values basis one two))
-      (rivals_fail basis (lone_focus basis) two_of with_empty (states (conflict.Rival one two) first (first.earlier kind.Clash (omega (arith)))) first.of_set set.0
-      set.2 one two first.is_conflict.of_set.0 first.is_conflict.of_set.1 first.is_conflict.holds)
+      (rivals_fail basis (states (conflict.Rival one two) first (first.earlier kind.Clash (omega (arith)))) (record {
+        s = first.of_set;
+        one = one;
+        two = two;
+        is_one = first.is_conflict.of_set.0;
+        is_two = first.is_conflict.of_set.1;
+        rivals = first.is_conflict.holds;
+      }) set.0 set.2)
 
   -- entities that differ in a lost property do
   pub lost_are : (region : Region) (p : PropId) (first : IsFirstConflict parts (conflict.Lost region p)) (entity : Entity) → entity ≡ focus_entity basis region (with_one basis region p)
@@ -93,10 +84,13 @@ module _ (parts : Parts) where
   lost_are region p first =
       let set = set_of first.of_set region first.is_conflict.of_set in
       shown_by (conflict.Lost region p) first first.earlier set.0 region (with_one basis region p) (lone_focus basis region (with_other basis region p))
-      (lost_fails basis (lone_focus basis) two_of with_empty (states (conflict.Lost region p) first (first.earlier kind.Clash (omega (arith)))) first.of_set set.0
-      set.2 region first.is_conflict.of_set p (lost_told basis region p first.is_conflict.holds))
+      (lost_fails basis (states (conflict.Lost region p) first (first.earlier kind.Clash (omega (arith))))
+      (record { s = first.of_set; region = region; listed = first.is_conflict.of_set; p = p; lost = first.is_conflict.holds }) set.0 set.2)
 
   module _ (region : Region) (first : IsFirstConflict parts (conflict.Absent region)) where
+    abbrev absent : AbsentRegion basis
+    absent = record { s = first.of_set; region = region; listed = first.is_conflict.of_set; absent = first.is_conflict.holds }
+
     -- of a region without rows the first property with several values is lost
     pub lost_first : (p : PropId) → first_several basis region ≡ Some p → IsFirstConflict parts (conflict.Lost region p)
     lost_first p found = record {
@@ -104,7 +98,7 @@ module _ (parts : Parts) where
       is_basis = first.is_basis;
       alone = first.alone;
       of_set = first.of_set;
-      is_conflict = record { of_kind = refl; of_set = first.is_conflict.of_set; holds = several_lost basis region first.is_conflict.holds p found };
+      is_conflict = record { of_kind = refl; of_set = first.is_conflict.of_set; holds = several_lost basis absent p found };
       earlier = first.earlier;
     }
 
@@ -115,5 +109,4 @@ module _ (parts : Parts) where
     absent_are none =
         let set = set_of first.of_set region first.is_conflict.of_set in
         shown_by (conflict.Absent region) first first.earlier set.0 region (default_valuation basis 0 region) (empty_state (schema_in parts).model)
-        (absent_fails basis (lone_focus basis) two_of with_empty (states (conflict.Absent region) first (first.earlier kind.Clash (omega (arith)))) first.of_set set.0
-        set.2 region first.is_conflict.of_set first.is_conflict.holds none)
+        (absent_fails basis (states (conflict.Absent region) first (first.earlier kind.Clash (omega (arith)))) absent none set.0 set.2)

@@ -46,7 +46,7 @@ module _ (basis : Basis) (is : IsBasis basis) (limits : IsWithinLimits basis.sch
 
     -- and a region holds it
     region_found : (region : Region) × IsOfRegion basis state s entity region
-    region_found = some_region basis is state legal s set_found.0 set_found.1 entity stands
+    region_found = some_region basis is (record { state = state; legal = legal; s = s; entity = entity; stands = stands })
 
     held : IsHeldWith basis state s entity region_found.1.links region_found.0
     held = let of_region = region_found.1 in record { stands = stands; hosted = of_region.hosted; listed = of_region.listed; holds = of_region.holds }

@@ -25,7 +25,7 @@ use Rattle.regions.specs.region_laws.IsBasis.{IsBasis}
 use Rattle.regions.specs.region_laws.Partners.{HasFewPartners}
 use Rattle.regions.specs.region_laws.pattern.Allowed.{partner_parts}
 use Rattle.regions.specs.region_laws.pattern.Described.{row_for, value_in}
-use Rattle.regions.specs.region_laws.Held.{IsAtRow, IsHeldAt}
+use Rattle.regions.specs.region_laws.Held.{IsAtRow, IsHeldAt, LinkedEntity}
 use Rattle.regions.proofs.region_laws.pattern.Keys.{key_cell}
 use Rattle.region_states.proofs.focus.Demanded.{cells, rows}
 use Rattle.region_states.proofs.focus.Listed.{row_owned}
@@ -51,6 +51,17 @@ module _ (basis : Basis) (is : IsBasis basis) (state : State) (legal : IsLegal b
   abbrev held_at : IsHeldAt basis state s entity region (parts basis is state s entity links region held)
   held_at = held_with_partners basis is state s entity links region held legal few
 
+  abbrev linked : LinkedEntity basis
+  linked = record {
+    state = state;
+    legal = legal;
+    s = s;
+    entity = entity;
+    region = region;
+    part = parts basis is state s entity links region held;
+    held = held_at;
+  }
+
   -- a row of the pattern, of a table that the set owns
   module _ (pattern : PatternRow) (has : Contains (pattern_of basis (focus.Entity region)).rows pattern) (table : Table)
       (is_table : At basis.schema.store.tables pattern.table.index table) (pairing : List Pair) (owned : IsOwned basis.schema pattern.table s pairing) where
@@ -75,8 +86,12 @@ module _ (basis : Basis) (is : IsBasis basis) (state : State) (legal : IsLegal b
         let of_key : Contains table.key pair.col = subst (λ cols. Contains cols pair.col) cols_are (contains_map (λ (one : Pair). one.col) pairing pair paired) in
         let column = key_column pair.col of_key in
         let cell : List Symbol = cell_symbols (writings_of basis (focus.Entity region)) pattern.table pair.col in
-        let alone : cell ≡ symbol.Prop pair.prop ∷ [] = key_cell basis is s region held.listed pattern.table pairing owned pair paired cell
-        (has_cell basis (focus.Entity region) pattern has table is_table pair.col column.column column.is_column) in
+        let alone : cell ≡ symbol.Prop pair.prop ∷ [] = key_cell basis is s region held.listed (record {
+          t = pattern.table;
+          col = pair.col;
+          cell = cell;
+          has = has_cell basis (focus.Entity region) pattern has table is_table pair.col column.column column.is_column;
+        }) pair (record { pairing = pairing; owned = owned; paired = paired; at_col = refl }) in
         cell_is basis (focus.Entity region) pattern has table is_table valuation pair.col cell
         (cell_there basis (focus.Entity region) pattern has table is_table pair.col column.column column.is_column)
         ∙ ap (value_in valuation) alone
@@ -89,9 +104,7 @@ module _ (basis : Basis) (is : IsBasis basis) (state : State) (legal : IsLegal b
 
     pub entity_row : HasNoClash basis.schema state → IsEntityRow basis state s entity (table_row valuation pattern)
     entity_row no_clash =
-        let of_parts = parts basis is state s entity links region held in
-        let demanded : DemandsRow basis.schema state pattern.table key =
-        (rows basis is state legal s entity region of_parts held_at pattern.table key at).1 (pattern, has, refl) in
+        let demanded : DemandsRow basis.schema state pattern.table key = (rows basis is linked pattern.table key at).1 (pattern, has, refl) in
         record {
           table = table;
           pairing = pairing;
@@ -99,7 +112,7 @@ module _ (basis : Basis) (is : IsBasis basis) (state : State) (legal : IsLegal b
           owned = owned;
           of_entity = record { stands = held.stands; at_key = sym key_kept };
           is_filled = filled basis (focus.Entity region) pattern has table is_table valuation is state key
-              (cells basis is state legal s entity region of_parts held_at pattern.table key at) no_clash demanded key_kept;
+              (cells basis is linked pattern.table key at) no_clash demanded key_kept;
         }
 
   -- each row is one of the entity
@@ -126,7 +139,7 @@ module _ (basis : Basis) (is : IsBasis basis) (state : State) (legal : IsLegal b
   pub whole : AreAllDemanded basis state s entity (entity_rows basis region entity links)
   whole t table key is_table at_row demand =
       let Here : TableRow → Type 0 = λ placed. (placed.table ≡ t) × (row_key table placed.row ≡ key) in
-      let there = (rows basis is state legal s entity region (parts basis is state s entity links region held) held_at t key at_row).0 demand in
+      let there = (rows basis is linked t key at_row).0 demand in
       let pattern : PatternRow = there.0 in
       let same : pattern.table ≡ t = there.2 in
       let At_table : TableId → Type 0 = λ u. At basis.schema.store.tables u.index table in

@@ -20,7 +20,7 @@ use Rattle.regions.specs.Basis.{Basis}
 use Rattle.regions.specs.Patterns.{Valuation, by_link, pattern_of}
 use Rattle.regions.specs.region_laws.IsBasis.{IsBasis}
 use Rattle.regions.specs.region_laws.pattern.Described.{row_for}
-use Rattle.regions.specs.region_laws.Held.{IsAtLinkRow}
+use Rattle.regions.specs.region_laws.Held.{IsAtLinkRow, LinkRow}
 use Rattle.regions.proofs.region_laws.pattern.symbols.Hosting.{one_link}
 use Rattle.region_states.proofs.focus.Demanded.{link_cells, link_rows as link_row_there}
 use Rattle.region_states.proofs.focus.Listed.{row_joined}
@@ -54,8 +54,18 @@ module _ (basis : Basis) (is : IsBasis basis) (state : State) (legal : IsLegal b
       let InStore : TableId → Type 0 = λ u. (table : Table) × At basis.schema.store.tables u.index table in
       let table = subst InStore here.to_table (item_at basis.schema.store.tables fragment.table.index (link_ids basis.schema is.sound fragment here.is_fragment).table) in
       let at : IsAtLinkRow basis state fragment assoc link pattern.table key = record { joined = here; stands = stands; at_key = refl } in
-      let demanded : DemandsRow basis.schema state pattern.table key = (link_row_there basis is state legal fragment assoc link pattern.table key at).1 (pattern, has, refl) in
-      let cells = link_cells basis is state legal fragment assoc link pattern.table key at in
+      let row : LinkRow basis = record {
+        state = state;
+        legal = legal;
+        fragment = fragment;
+        assoc = assoc;
+        link = link;
+        t = pattern.table;
+        key = key;
+        at = at;
+      } in
+      let demanded : DemandsRow basis.schema state pattern.table key = (link_row_there basis is row).1 (pattern, has, refl) in
+      let cells = link_cells basis is row in
       let kept : row_key table.0 (row_for valuation pattern) ≡ key =
       key_held basis (focus.Link fragment.assoc) pattern has table.0 table.1 valuation is state key cells no_clash demanded in
       record {

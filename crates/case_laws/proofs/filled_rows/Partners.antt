@@ -15,7 +15,7 @@ use Rattle.regions.specs.region_laws.IsBasis.{IsBasis}
 use Rattle.regions.specs.region_laws.Partners.{HasFewPartners, TellsPartner}
 use Rattle.regions.specs.region_laws.RegionAt.{links_at}
 use Rattle.regions.specs.region_laws.pattern.Allowed.{end_at, partner_parts}
-use Rattle.regions.specs.region_laws.Held.{IsHeldAt, IsOfRegion}
+use Rattle.regions.specs.region_laws.Held.{IsHeldAt, HeldEntity}
 use Rattle.regions.proofs.region_laws.pattern.Choices.{found_passes, none_passes}
 use Rattle.regions.proofs.region_laws.pattern.symbols.Hosting.{one_host}
 use Rattle.region_states.proofs.focus.Flags.{flagged_one, unflagged}
@@ -91,7 +91,14 @@ module _ (basis : Basis) (is : IsBasis basis) (state : State) (s : SetId) (entit
   -- so the entity is held with its partners
   pub held_with_partners : IsLegal basis.schema.model state → HasFewPartners basis s → IsHeldAt basis state s entity region parts
   held_with_partners legal few =
-      let of : IsOfRegion basis state s entity region = record { stands = held.stands; listed = held.listed; links = links; hosted = held.hosted; holds = held.holds } in
+      let of : HeldEntity basis = record {
+        state = state;
+        legal = legal;
+        s = s;
+        entity = entity;
+        region = region;
+        of_region = record { stands = held.stands; listed = held.listed; links = links; hosted = held.hosted; holds = held.holds };
+      } in
       record {
         stands = held.stands;
         listed = held.listed;
@@ -100,8 +107,9 @@ module _ (basis : Basis) (is : IsBasis basis) (state : State) (s : SetId) (entit
         partners = record {
           one = λ host hosts linked. (
               let by = (is.hosts s host).0 hosts in
-              let found = flagged_one basis is state legal s entity region of host hosts linked by.assoc by.is_assoc (few host hosts by.assoc by.is_assoc) in
+              let found = flagged_one basis is of (record { host = host; hosts = hosts; assoc = by.assoc; is_assoc = by.is_assoc }) linked
+              (few host hosts by.assoc by.is_assoc) in
               (found.0, found.1, parts_told host hosts found.0 found.1));
-          none = λ host hosts not_linked. unflagged basis is state legal s entity region of host hosts not_linked;
+          none = λ host hosts not_linked. unflagged basis is of host hosts not_linked;
         };
       }

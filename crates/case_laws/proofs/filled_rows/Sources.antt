@@ -18,7 +18,7 @@ use Rattle.regions.specs.region_laws.IsBasis.{AreHostedLinks, IsBasis}
 use Rattle.regions.specs.region_laws.Partners.{HasFewPartners}
 use Rattle.regions.specs.region_laws.RegionAt.{region_at}
 use Rattle.regions.specs.region_laws.Held.{IsAtLinkRow, IsAtRow}
-use Rattle.regions.proofs.region_laws.entities.Regions.{region_among, region_holds}
+use Rattle.regions.proofs.region_laws.entities.Regions.{region_held}
 use Rattle.region_states.proofs.focus.Demanded.{row_of_one}
 use Rattle.case_laws.specs.filled_rows.Demanded.{IsHeldWith}
 use Rattle.case_laws.specs.filled_rows.Filled.{FillsRows, entity_rows, link_rows}
@@ -59,12 +59,9 @@ module _ (basis : Basis) (local : SetId → Entity → List Hosted → List Tabl
     region = region_at basis s entity links
 
     pub held : IsHeldWith basis state s entity links region
-    held = record {
-      stands = stands;
-      hosted = told.are_hosted s entity;
-      listed = region_among basis told.is state told.legal s set is_set entity stands links (told.are_hosted s entity);
-      holds = region_holds basis told.is state told.legal s set is_set entity stands links (told.are_hosted s entity);
-    }
+    held =
+        let by = region_held basis told.is (record { state = state; legal = told.legal; s = s; entity = entity; stands = stands }) links (told.are_hosted s entity) in
+        record { stands = stands; hosted = told.are_hosted s entity; listed = by.0; holds = by.1 }
 
     pub list_is : entity_list s entity ≡ entity_rows basis region entity links
     list_is = told.fills.entities s region held.listed entity links held.holds

@@ -98,9 +98,12 @@ module _ (is_free : TableId → ColId → Bool) (basis : Basis) (is : IsBasis ba
     matching linked =
         let comparable : AreComparable basis s one two =
         record { is_one = of_one.can.listed; is_two = of_two.can.listed; linked = linked; clear_one = of_one.can.clear; clear_two = of_two.can.clear } in
-        alike_match basis is s one two comparable (values_of one of_one) (values_of two of_two)
-        (are_allowed is_free basis is decides s one of_one.can tables key of_one.met of_one.entity of_one.links of_one.told)
-        (are_allowed is_free basis is decides s two of_two.can tables key of_two.met of_two.entity of_two.links of_two.told) alike
+        alike_match basis is s one two (values_of one of_one) (values_of two of_two) (record {
+          comparable = comparable;
+          allowed = are_allowed is_free basis is decides s one of_one.can tables key of_one.met of_one.entity of_one.links of_one.told;
+          others_allowed = are_allowed is_free basis is decides s two of_two.can tables key of_two.met of_two.entity of_two.links of_two.told;
+          alike = alike;
+        })
 
     rivals : one.linked ≡ two.linked → same_region one two ≡ false → IsTrue (are_rivals basis one two)
     rivals linked apart =

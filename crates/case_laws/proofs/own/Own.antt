@@ -22,17 +22,18 @@ use Rattle.regions.specs.region_laws.Partners.{HasFewPartners}
 use Rattle.regions.proofs.region_laws.listing.Listed.{set_is}
 use Rattle.regions.specs.region_laws.pattern.Allowed.{IsAllowed}
 use Rattle.regions.specs.region_laws.pattern.Described.{value_in}
-use Rattle.regions.specs.region_laws.Held.{IsAtRow, IsHeldAt}
+use Rattle.regions.specs.region_laws.Held.{IsAtRow, IsHeldAt, LinkedEntity}
 use Rattle.regions.proofs.region_laws.pattern.Laws.{listed_from}
 use Rattle.regions.proofs.region_laws.pattern.types.Regions.{lies_in}
 use Rattle.regions.proofs.region_laws.pattern.symbols.Standing.{listed_prop}
 use Rattle.region_states.specs.focus.Held.{HasRow}
+use Rattle.region_states.proofs.focus.Partners.{linked_allowed}
 use Rattle.case_laws.specs.filled_rows.Demanded.{IsHeldWith}
 use Rattle.case_laws.proofs.filled_rows.Partners.{held_with_partners, parts}
 use Rattle.conflict_laws.specs.rival.Alike.{IsClear}
 use Rattle.conflict_laws.proofs.rival.Atoms.{open_atom}
 use Rattle.conflict_laws.proofs.rival.Clear.{known_value}
-use Rattle.conflict_laws.proofs.same.rows.Cells.{cell_holds, held_allowed}
+use Rattle.conflict_laws.proofs.same.rows.Cells.{cell_holds}
 use Rattle.conflict_laws.proofs.same.rows.Rows.{HasRowAt, pattern_of_row, row_of_pattern}
 use Rattle.case_laws.specs.declared.region_cases.case.Case.{Case}
 use Rattle.case_laws.specs.declared.region_cases.case.CaseCell.TheVariants as cell
@@ -79,11 +80,14 @@ module _ (is_free : TableId → ColId → Bool) (basis : Basis) (is : IsBasis ba
   pub held_at : IsHeldAt basis state s entity region part
   held_at = held_with_partners basis is state s entity links region held legal few
 
+  abbrev linked : LinkedEntity basis
+  linked = record { state = state; legal = legal; s = s; entity = entity; region = region; part = part; held = held_at }
+
   abbrev pub values : Valuation
   values = by_entity basis.schema.model entity part
 
   pub allowed : IsAllowed basis region values
-  allowed = held_allowed basis is state legal s entity region part held_at
+  allowed = linked_allowed basis is linked
 
   abbrev StandsHere : TableId → Row → Type 0
   StandsHere = Stands is_free basis region tables key
@@ -151,7 +155,7 @@ module _ (is_free : TableId → ColId → Bool) (basis : Basis) (is : IsBasis ba
   cell_value t row stands col symbols has_cell bound =
       let at = row_here t row stands in
       sym (at.erases.rest col (not_free basis is is_free decides t col bound))
-      ∙ cell_holds basis is state legal s entity region part held_at clear t at.table at.is_table at.erased at.at_row
+      ∙ cell_holds basis is linked clear t at.table at.is_table at.erased at.at_row
       (cells_demanded basis.schema state has.erased has.are t at.table at.is_table at.erased at.among) col symbols has_cell
 
   -- and so what is shown is the symbol's value
@@ -173,12 +177,12 @@ module _ (is_free : TableId → ColId → Bool) (basis : Basis) (is : IsBasis ba
       let made = map_contains row_of rows row among in
       let P : CaseRow → Type 0 = λ one. (found : Row) × StandsHere one.table found in
       subst P made.2 (stands_here made.0.table
-      (row_of_pattern basis is state legal has.erased has.are s entity region part held_at made.0.table (made.0, made.1, refl)))
+      (row_of_pattern basis is linked has.erased has.are made.0.table (made.0, made.1, refl)))
 
   absent_row : (t : TableId) (row : Row) → StandsHere t row → Any (λ one. one.table ≡ t) case.rows
   absent_row t row stands =
       let at = row_here t row stands in
-      let there : HasRow (pattern_of basis (focus.Entity region)) t = pattern_of_row basis is state legal has.erased has.are s entity region part held_at t (record {
+      let there : HasRow (pattern_of basis (focus.Entity region)) t = pattern_of_row basis is linked has.erased has.are t (record {
         table = at.table;
         is_table = at.is_table;
         row = at.erased;

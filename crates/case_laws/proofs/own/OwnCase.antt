@@ -14,7 +14,6 @@ use Rattle.regions.specs.region_laws.IsBasis.{IsBasis}
 use Rattle.regions.proofs.region_laws.listing.Listed.{set_is}
 use Rattle.region_states.proofs.focus.Flags.{some_region}
 use Rattle.regions.proofs.region_laws.pattern.types.Regions.{parts_of}
-use Rattle.regions.proofs.region_laws.entities.Held.{set_of_entity}
 use Rattle.case_laws.specs.filled_rows.Demanded.{IsHeldWith}
 use Rattle.region_states.specs.LoneStates.{HasNoAssociationSets}
 use Rattle.case_laws.specs.region_cases.Cases.{case_of}
@@ -87,7 +86,6 @@ module _ (basis : Basis) (is : IsBasis basis) (limits : IsWithinLimits basis.sch
   pub row_there : (entity : Entity) → Contains (entities_in state s) entity
       → (t : TableId) × (held_row : Row) × StandsAtKey basis.schema tables s (key_of basis.schema.model entity) t held_row
   row_there entity stands =
-      let set = set_of_entity basis state legal s entity stands in
-      let found = some_region basis is state legal s set.0 set.1 entity stands in
+      let found = some_region basis is (record { state = state; legal = legal; s = s; entity = entity; stands = stands }) in
       row_stands entity found.1.links found.0
       (record { stands = stands; hosted = found.1.hosted; listed = found.1.listed; holds = found.1.holds })

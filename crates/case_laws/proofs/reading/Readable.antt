@@ -80,7 +80,8 @@ module _ (is_free : TableId → ColId → Bool) (basis : Basis) (is : IsBasis ba
       let column = key_column at.table t at.is_table col of_key in
       let symbols : List Symbol = cell_symbols (writings_of basis (focus.Entity region)) t col in
       let cell : IsCell basis region t col symbols = has_cell basis (focus.Entity region) row.0 row.1 at.table at.is_table col column.column column.is_column in
-      let alone : symbols ≡ symbol.Prop pair.0.prop ∷ [] = key_cell basis is s region readable.listed t at.pairing at.owned pair.0 pair.1 symbols cell in
+      let alone : symbols ≡ symbol.Prop pair.0.prop ∷ [] = key_cell basis is s region readable.listed
+      (record { t = t; col = col; cell = symbols; has = cell }) pair.0 (record { pairing = at.pairing; owned = at.owned; paired = pair.1; at_col = refl }) in
       let P : PropId → Type 0 = λ q. IsCell basis region t col (symbol.Prop q ∷ []) in
       record {
         t = t;

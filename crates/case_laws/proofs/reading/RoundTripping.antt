@@ -1,5 +1,5 @@
 -- Where no legal state fails, each region can be read, no two are rivals, and partners are few.
-use Rattle.std.proofs.Common.{◌≡◌, List, [], ◌∷◌, Bool, true, false, Contains, IsTrue, refl, sym, subst, arith}
+use Rattle.std.proofs.Common.{◌≡◌, List, [], ◌∷◌, Bool, true, false, Contains, IsTrue, refl, sym, subst}
 use Rattle.round_trip.specs.Words.{SetId, AssocId, RoundTrips}
 use Rattle.round_trip.specs.declared.FailKind.TheVariants as kind
 use Rattle.cells.specs.Limits.{IsWithinLimits}
@@ -17,11 +17,9 @@ use Rattle.region_states.specs.declared.conflicts.conflict.Conflict.{Conflict}
 use Rattle.region_states.specs.declared.conflicts.conflict.Conflict.TheVariants as conflict
 use Rattle.region_states.specs.LoneStates.{HasNoAssociationSets}
 use Rattle.region_states.proofs.lone.Legal.{no_host}
-use Rattle.host_states.specs.FocusStates.{focus_state}
 use Rattle.host_states.proofs.FewPartners.{few_by_clear}
-use Rattle.host_states.proofs.Hosts.{states_host}
-use Rattle.conflict_laws.proofs.clash.Clear.{row_clear}
-use Rattle.conflict_laws.proofs.Exact.{exact}
+use Rattle.conflict_laws.proofs.clash.Clear.{region_clear}
+use Rattle.conflict_laws.proofs.Exact.{clear_states, exact}
 use Rattle.case_laws.specs.Told.{IsReadable}
 
 module _ (basis : Basis) (is : IsBasis basis) (limits : IsWithinLimits basis.schema) (round : RoundTrips basis.schema) (s : SetId) where
@@ -42,7 +40,7 @@ module _ (basis : Basis) (is : IsBasis basis) (limits : IsWithinLimits basis.sch
   pub readable : (region : Region) → Contains (regions_of basis s) region → IsReadable basis s region
   readable region listed = record {
     listed = listed;
-    clear = λ row has. row_clear basis is limits (focus_state basis 0) (states_host basis is limits 0 (omega (arith))) (round kind.Clash) s region listed row has;
+    clear = region_clear basis (clear_states basis is limits (round kind.Clash)) s region listed;
     present = false_if (is_absent basis region) (λ absent. never_same (conflict.Absent region) (record { of_kind = refl; of_set = listed; holds = absent }));
     kept = λ p. false_if (is_lost basis region p) (λ lost. never_same (conflict.Lost region p) (record { of_kind = refl; of_set = listed; holds = lost }));
   }

@@ -1,14 +1,11 @@
 -- The keys at which rows of a set stand are those of its entities, and what rows tell by a case that they meet is the entity with its links.
-use Rattle.std.proofs.Common.{◌≡◌, ◌↔◌, inl, inr, ◌<◌, List, [], map, length, slice_get, unwrap_or, Bool, Contains, Option, Some, None, refl, sym, ap, subst, ◌∙◌}
+use Rattle.std.proofs.Common.{◌≡◌, ◌↔◌, inl, inr, List, map, length, Bool, Contains, sym, ap, subst, ◌∙◌}
 use Rattle.std.proofs.lemmas.List.Elements.{All-contains}
-use Rattle.std.proofs.lemmas.Option.{slice_get_within}
-use Rattle.emc_base.proofs.Lists.{item_at}
 use Rattle.emc_base.proofs.Numbered.{map_contains}
 use Rattle.emc_base.specs.Lists.{AreApart}
-use Rattle.round_trip.specs.Words.{SetId, TableId, ColId, PropId, TypeId, Entity, EntitySet, Hosted, IsLegal, Pair, Row, State, Tables, Value, At, entities_in, key_of, key_props, props_of, row_key, value_beside, value_of}
+use Rattle.round_trip.specs.Words.{SetId, TableId, ColId, PropId, TypeId, Entity, Hosted, IsLegal, Pair, Row, State, Tables, Value, entities_in, key_of, key_props, props_of, row_key, value_beside, value_of}
 use Rattle.round_trip.specs.soundness.Lookups.{set_key}
 use Rattle.schema_laws.specs.state_demand.Owners.{StandsAt, props_in}
-use Rattle.schema_laws.proofs.state_demand.lists.Lists.{none_in_nil}
 use Rattle.schema_laws.proofs.state_demand.lists.Places.{agree_by_map, map_agree}
 use Rattle.schema_laws.proofs.sound_demand.Keys.{keys_apart}
 use Rattle.schema_laws.proofs.sound_demand.ReadBack.{rows_of}
@@ -25,15 +22,6 @@ use Rattle.case_laws.proofs.Keys.{set_key_is}
 use Rattle.case_laws.proofs.reading.Readable.{IsValue, some_value}
 use Rattle.case_laws.proofs.StateRows.{erased_row, key_kept}
 use Rattle.case_laws.proofs.reading.Values.{shown_value, single_value}
-
--- an entity stands in a set of the model
-pub set_of_entity : (basis : Basis) (state : State) → IsLegal basis.schema.model state → (s : SetId) (entity : Entity) → Contains (entities_in state s) entity
-    → (set : EntitySet) × At basis.schema.model.sets s.index set
-set_of_entity basis state legal s entity stands = by (slice_get state.entities s.index) refl
-  where
-    by : (found : Option (List Entity)) → slice_get state.entities s.index ≡ found → (set : EntitySet) × At basis.schema.model.sets s.index set
-    by None none = absurd (none_in_nil entity (subst (λ list. Contains list entity) (ap (λ found. unwrap_or found []) none) stands))
-    by (Some list) at = item_at basis.schema.model.sets s.index (subst (λ n. s.index < n) legal.shape.sets (slice_get_within state.entities s.index list at))
 
 -- the key of a row is that of an entity of the state
 module _ (basis : Basis) (is : IsBasis basis) (state : State) (legal : IsLegal basis.schema.model state) (tables : Tables) (has : HasStateTables basis.schema state tables)

@@ -109,8 +109,9 @@ module _ (is_free : TableId → ColId → Bool) (basis : Basis) (is : IsBasis ba
         → value ≡ other
     one_end a first p value other by too =
         let one : Symbol = symbol.End a first p in
-        let place = end_once basis is (focus.Entity region) (focus.Entity region) by.t too.t by.col too.col a first p
-        (one ∷ [], by.has, head_stands one []) (one ∷ [], too.has, head_stands one []) in
+        let place = end_once basis is a first p
+        (record { of = focus.Entity region; t = by.t; col = by.col; lists = (one ∷ [], by.has, head_stands one []) })
+        (record { of = focus.Entity region; t = too.t; col = too.col; lists = (one ∷ [], too.has, head_stands one []) }) in
         let P : TableId → Type 0 = λ u. Stands is_free basis region tables key u by.held in
         let same : by.held ≡ too.held = are_alone too.t by.held too.held (subst P place.0 by.stands) too.stands in
         by.is_value ∙ (λ k. cell_of (same k) (place.1 k)) ∙ sym too.is_value

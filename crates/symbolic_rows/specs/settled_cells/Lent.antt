@@ -1,6 +1,5 @@
 -- What is lent of a symbol: what it can be.
 -- Source: this project's.
-use Rattle.std.specs.Prelude.{Bool}
 use Rattle.round_trip.specs.Words.{Null}
 use Rattle.regions.specs.Settled.{Possible, single, multi}
 use Rattle.symbolic_rows.specs.declared.settled_cells.settled.CanBe.{CanBe}
