@@ -8,7 +8,7 @@ use Rattle.regions.specs.Basis.{Basis}
 use Rattle.regions.specs.Patterns.{Valuation}
 use Rattle.regions.specs.region_laws.IsBasis.{IsBasis}
 use Rattle.region_states.specs.conflicts.There.{NoneFailsBy}
-use Rattle.region_states.specs.Hosting.{HaveFewPartners, HostsFocuses, HostsRivals, LeavesOut}
+use Rattle.host_states.specs.Hosting.{HaveFewPartners, HostsFocuses, HostsRivals, LeavesOut}
 
 -- a basis of a schema within the limits, with a state for each region and admissible values of it
 pub record FocusStates (basis : Basis) : Type 0 where

@@ -21,7 +21,7 @@ ghost use Rattle.region_states.specs.conflicts.Facts.{is_clash};
 ghost use Rattle.region_states.specs.conflicts.There.{FailsThere, NoneFailsBy};
 ghost use Rattle.region_states.specs.declared.conflicts.conflict.Conflict.{Conflict};
 ghost use Rattle.region_states.specs.Entities.{focus_entity};
-ghost use Rattle.region_states.specs.Hosting.{HostsFocuses};
+ghost use Rattle.host_states.specs.Hosting.{HostsFocuses};
 ghost use Rattle.conflict_laws.specs.clash.ClashValues.{clash_values};
 ghost use Rattle.conflict_laws.specs.States.{FocusStates, ClearStates};
 ghost use Rattle.conflict_laws.specs.Told.{ClashingCell, OwnedColumn};

@@ -18,7 +18,7 @@ ghost use Rattle.region_states.specs.conflicts.Facts.{differs_at};
 ghost use Rattle.region_states.specs.conflicts.There.{FailsThere, NoneFailsBy};
 ghost use Rattle.region_states.specs.declared.conflicts.conflict.Conflict.{Conflict};
 ghost use Rattle.region_states.specs.Entities.{focus_entity};
-ghost use Rattle.region_states.specs.Hosting.{HostsFocuses};
+ghost use Rattle.host_states.specs.Hosting.{HostsFocuses};
 ghost use Rattle.conflict_laws.specs.States.{ClearStates};
 ghost use Rattle.conflict_laws.specs.Told.{DifferingFragment};
 

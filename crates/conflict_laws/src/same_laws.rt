@@ -16,7 +16,7 @@ ghost use Rattle.region_states.specs.conflicts.SameFacts.{are_rivals, is_absent,
 ghost use Rattle.region_states.specs.conflicts.There.{FailsThere, NoneFailsBy};
 ghost use Rattle.region_states.specs.declared.conflicts.conflict.Conflict.{Conflict};
 ghost use Rattle.region_states.specs.Entities.{focus_entity};
-ghost use Rattle.region_states.specs.Hosting.{HaveFewPartners, HostsFocuses, HostsRivals, LeavesOut};
+ghost use Rattle.host_states.specs.Hosting.{HaveFewPartners, HostsFocuses, HostsRivals, LeavesOut};
 ghost use Rattle.conflict_laws.specs.rival.RivalValues.{first_values, second_values};
 ghost use Rattle.conflict_laws.specs.same.SameValues.{first_several, with_one, with_other};
 ghost use Rattle.conflict_laws.specs.Told.{AbsentRegion, LostProp, RivalRegions};

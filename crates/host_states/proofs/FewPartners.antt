@@ -25,7 +25,7 @@ use Rattle.regions.specs.region_laws.IsBasis.{IsBasis, IsHostOf}
 use Rattle.regions.proofs.region_laws.entities.Hosting.{independent}
 use Rattle.regions.proofs.region_laws.writings.Owned.{row_writings}
 use Rattle.region_states.specs.conflicts.There.{NoneFailsBy}
-use Rattle.region_states.specs.Hosting.{HaveFewPartners}
+use Rattle.host_states.specs.Hosting.{HaveFewPartners}
 use Rattle.population.specs.Given.{HasNumbers}
 use Rattle.population.specs.LinkStates.{HoldsTwoLinks, at_end, entity_at, key_at, other_link, plain_link, two_links_state}
 use Rattle.population.specs.Numbered.{end_of}

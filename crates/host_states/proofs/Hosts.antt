@@ -4,7 +4,7 @@ use Rattle.cells.specs.Limits.{IsWithinLimits}
 use Rattle.regions.specs.declared.region.Region.{Region}
 use Rattle.regions.specs.Basis.{Basis}
 use Rattle.regions.specs.region_laws.IsBasis.{IsBasis}
-use Rattle.region_states.specs.Hosting.{HostsFocuses, HostsRivals, LeavesOut}
+use Rattle.host_states.specs.Hosting.{HostsFocuses, HostsRivals, LeavesOut}
 use Rattle.population.specs.Principals.{PlacedKey}
 use Rattle.host_states.specs.FocusStates.{focus_state, given_by, leaving_states, linked_hosts, rival_states, wanted_by}
 use Rattle.host_states.proofs.focus.Focus.{HasRegion}

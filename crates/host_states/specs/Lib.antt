@@ -1,3 +1,4 @@
+pub mod Hosting
 pub mod BaseStates
 pub mod FocusStates
 pub mod SmallStates

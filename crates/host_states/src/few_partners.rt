@@ -8,7 +8,7 @@ ghost use Rattle.cells.specs.Limits.{IsWithinLimits};
 ghost use Rattle.regions.specs.Basis.{Basis, Host, partner_end};
 ghost use Rattle.regions.specs.region_laws.IsBasis.{IsBasis};
 ghost use Rattle.region_states.specs.conflicts.There.{NoneFailsBy};
-ghost use Rattle.region_states.specs.Hosting.{HaveFewPartners};
+ghost use Rattle.host_states.specs.Hosting.{HaveFewPartners};
 ghost use Rattle.population.specs.LinkStates.{two_links_state};
 
 /// Where an association is hosted and its other end is `*`, the state in which an entity has two partners clashes in the entity's row. So a mapping of

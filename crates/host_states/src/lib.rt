@@ -10,7 +10,7 @@ ghost use Rattle.std.specs.Prelude.{◌≤◌, ℕ};
 ghost use Rattle.cells.specs.Limits.{IsWithinLimits};
 ghost use Rattle.regions.specs.Basis.{Basis};
 ghost use Rattle.regions.specs.region_laws.IsBasis.{IsBasis};
-ghost use Rattle.region_states.specs.Hosting.{HostsFocuses, HostsRivals, LeavesOut};
+ghost use Rattle.host_states.specs.Hosting.{HostsFocuses, HostsRivals, LeavesOut};
 ghost use Rattle.host_states.specs.FocusStates.{focus_state, leaving_states, rival_states};
 
 pub use few_partners::round_tripping_mappings_have_few_partners;

@@ -7,7 +7,7 @@ ghost use Rattle.regions.specs.Basis.{Basis};
 ghost use Rattle.regions.specs.region_laws.IsBasis.{IsBasis};
 ghost use Rattle.regions.specs.region_laws.pattern.Allowed.{RegionValues};
 ghost use Rattle.region_states.specs.defaults.Admissible.{IsAdmissible};
-ghost use Rattle.region_states.specs.Hosting.{HasOneEntityPerKey, HostsFocuses, HostsRivals, LeavesOut, RivalPair};
+ghost use Rattle.host_states.specs.Hosting.{HasOneEntityPerKey, HostsFocuses, HostsRivals, LeavesOut, RivalPair};
 ghost use Rattle.region_states.specs.NoAssociations.{HasNoAssociationSets};
 ghost use Rattle.host_states.specs.LoneStates.{HasOneAtMost, empty_state, lone_focus, lone_state};
 ghost use Rattle.host_states.specs.SmallStates.{small_focus, small_leaving, small_rivals};

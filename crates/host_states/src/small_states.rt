@@ -4,7 +4,7 @@ ghost use Rattle.std.specs.Prelude.{◌≤◌, ℕ};
 ghost use Rattle.cells.specs.Limits.{IsWithinLimits};
 ghost use Rattle.regions.specs.Basis.{Basis};
 ghost use Rattle.regions.specs.region_laws.IsBasis.{IsBasis};
-ghost use Rattle.region_states.specs.Hosting.{HostsFocuses, HostsRivals, LeavesOut};
+ghost use Rattle.host_states.specs.Hosting.{HostsFocuses, HostsRivals, LeavesOut};
 ghost use Rattle.host_states.specs.SmallStates.{small_focus, small_leaving, small_rivals};
 
 /// What the entity of a region and its partners need holds the entity as the whole state does; of two states one part is taken, so they differ where the

@@ -19,7 +19,7 @@ use Rattle.regions.specs.region_laws.Held.{IsHeldAt}
 use Rattle.regions.proofs.region_laws.pattern.symbols.Origins.{linked_decided}
 use Rattle.region_states.specs.conflicts.There.{HasFewLinks}
 use Rattle.region_states.specs.Entities.{focus_entity}
-use Rattle.region_states.specs.Hosting.{HoldsFocus}
+use Rattle.region_states.specs.HoldsFocus.{HoldsFocus}
 use Rattle.region_states.proofs.Entities.{atoms_lie}
 
 -- a link of each association of the region of which one is there

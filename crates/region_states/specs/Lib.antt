@@ -1,6 +1,6 @@
 pub mod Entities
 pub mod NoAssociations
-pub mod Hosting
+pub mod HoldsFocus
 pub mod focus
 pub mod defaults
 pub mod conflicts

@@ -22,7 +22,7 @@ ghost use Rattle.regions.specs.region_laws.pattern.Listed.{Lists};
 ghost use Rattle.region_states.specs.defaults.Admissible.{IsAdmissible};
 ghost use Rattle.region_states.specs.conflicts.There.{HasFewLinks};
 ghost use Rattle.region_states.specs.Entities.{focus_entity};
-ghost use Rattle.region_states.specs.Hosting.{HoldsFocus};
+ghost use Rattle.region_states.specs.HoldsFocus.{HoldsFocus};
 
 pub use conflicts::Conflict;
 pub use default_values::{

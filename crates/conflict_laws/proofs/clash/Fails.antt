@@ -22,7 +22,7 @@ use Rattle.region_states.specs.conflicts.There.{FailsThere}
 use Rattle.region_states.specs.declared.conflicts.conflict.Conflict.{Conflict}
 use Rattle.region_states.specs.declared.conflicts.conflict.Conflict.TheVariants as conflict
 use Rattle.region_states.specs.Entities.{focus_entity}
-use Rattle.region_states.specs.Hosting.{HoldsFocus}
+use Rattle.region_states.specs.HoldsFocus.{HoldsFocus}
 use Rattle.region_states.proofs.Entities.{symbol_value}
 use Rattle.region_states.proofs.Held.{few_links, focus_held}
 use Rattle.conflict_laws.specs.clash.ClashValues.{clash_values}

@@ -34,7 +34,7 @@ use Rattle.region_states.specs.declared.conflicts.conflict.Conflict.{Conflict}
 use Rattle.region_states.specs.declared.conflicts.conflict.Conflict.TheVariants as conflict
 use Rattle.conflict_laws.proofs.clash.Clear.{region_clear}
 use Rattle.region_states.specs.Entities.{focus_entity}
-use Rattle.region_states.specs.Hosting.{HoldsFocus}
+use Rattle.region_states.specs.HoldsFocus.{HoldsFocus}
 use Rattle.region_states.proofs.Held.{focus_held}
 use Rattle.conflict_laws.proofs.disagreement.Differing.{entity_only, host_only, row_there}
 use Rattle.conflict_laws.proofs.disagreement.OneOnly.{one_is_so}

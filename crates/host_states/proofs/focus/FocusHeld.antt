@@ -20,7 +20,7 @@ use Rattle.regions.proofs.region_laws.entities.Hosting.{independent}
 use Rattle.regions.proofs.region_laws.listing.Possible.{must_link}
 use Rattle.regions.proofs.region_laws.lists.Found.{filter_none, filter_one}
 use Rattle.region_states.specs.Entities.{focus_entity}
-use Rattle.region_states.specs.Hosting.{HoldsFocus}
+use Rattle.region_states.specs.HoldsFocus.{HoldsFocus}
 use Rattle.population.specs.Numbered.{end_of}
 use Rattle.population.specs.Principals.{PlacedKey}
 use Rattle.population.specs.Supported.{end_key, links_of}

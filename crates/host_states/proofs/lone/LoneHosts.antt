@@ -15,7 +15,8 @@ use Rattle.regions.specs.region_laws.pattern.Allowed.{RegionValues}
 use Rattle.regions.proofs.region_laws.listing.Listed.{set_is}
 use Rattle.region_states.specs.defaults.Admissible.{IsAdmissible}
 use Rattle.region_states.specs.Entities.{focus_entity}
-use Rattle.region_states.specs.Hosting.{HasOneEntityPerKey, HaveFewPartners, HoldRivals, HoldsFocus, HostsFocuses, HostsRivals, LeavesFocusOut, LeavesOut, RivalPair}
+use Rattle.host_states.specs.Hosting.{HasOneEntityPerKey, HaveFewPartners, HoldRivals, HostsFocuses, HostsRivals, LeavesFocusOut, LeavesOut, RivalPair}
+use Rattle.region_states.specs.HoldsFocus.{HoldsFocus}
 use Rattle.region_states.specs.NoAssociations.{HasNoAssociationSets}
 use Rattle.host_states.specs.LoneStates.{empty_state, lone_focus}
 use Rattle.region_states.proofs.NoAssociations.{no_host}

@@ -22,7 +22,7 @@ use Rattle.regions.specs.region_laws.IsBasis.{IsBasis}
 use Rattle.regions.specs.region_laws.RegionAt.{links_at}
 use Rattle.regions.proofs.region_laws.entities.Hosting.{at_set, independent}
 use Rattle.regions.proofs.region_laws.pattern.symbols.Origins.{side}
-use Rattle.region_states.specs.Hosting.{HaveFewPartners}
+use Rattle.host_states.specs.Hosting.{HaveFewPartners}
 use Rattle.population.specs.Numbered.{end_number, end_of, numbered, numbered_key}
 use Rattle.population.specs.Plain.{plain}
 use Rattle.population.specs.Principals.{PlacedKey}

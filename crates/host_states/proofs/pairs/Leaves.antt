@@ -32,7 +32,7 @@ use Rattle.regions.specs.Settled.{Possible, is_nullable, multi, of_atom, possibl
 use Rattle.regions.proofs.region_laws.pattern.types.Regions.{lies_in}
 use Rattle.region_states.specs.defaults.Admissible.{IsAdmissible}
 use Rattle.region_states.specs.Entities.{focus_entity}
-use Rattle.region_states.specs.Hosting.{DifferAtMostAt, HasOneEntityPerKey, HaveFewPartners, LeavesFocusOut}
+use Rattle.host_states.specs.Hosting.{DifferAtMostAt, HasOneEntityPerKey, HaveFewPartners, LeavesFocusOut}
 use Rattle.region_states.proofs.Entities.{has_value}
 use Rattle.region_states.proofs.defaults.Candidates.{plain_key}
 use Rattle.region_states.proofs.defaults.Listed.{IsTold, found_told}

@@ -10,7 +10,7 @@ use Rattle.regions.specs.Symbols.{is_linked}
 use Rattle.regions.specs.region_laws.IsBasis.{IsBasis}
 use Rattle.region_states.specs.defaults.Admissible.{IsAdmissible}
 use Rattle.region_states.specs.Entities.{focus_entity}
-use Rattle.region_states.specs.Hosting.{DifferAtMostAt, HaveFewPartners, HoldRivals}
+use Rattle.host_states.specs.Hosting.{DifferAtMostAt, HaveFewPartners, HoldRivals}
 use Rattle.population.specs.Given.{HasShortParts}
 use Rattle.population.specs.Plain.{plain}
 use Rattle.population.specs.Principals.{PlacedKey}

@@ -13,7 +13,8 @@ use Rattle.regions.specs.region_laws.IsBasis.{IsBasis, IsHostOf}
 use Rattle.regions.specs.region_laws.Partners.{HasPartners}
 use Rattle.regions.specs.region_laws.RegionAt.{links_at}
 use Rattle.region_states.specs.Entities.{focus_entity}
-use Rattle.region_states.specs.Hosting.{DifferAtMostAt, HoldRivals, HoldsFocus, LeavesFocusOut}
+use Rattle.host_states.specs.Hosting.{DifferAtMostAt, HoldRivals, LeavesFocusOut}
+use Rattle.region_states.specs.HoldsFocus.{HoldsFocus}
 use Rattle.population.specs.Kept.{HoldsNeeded, has_ends, is_needed, key_at_end, needed_keys, part_of}
 use Rattle.population.specs.Principals.{PlacedKey}
 use Rattle.population.proofs.pruning.Kept.{links_kept_of}

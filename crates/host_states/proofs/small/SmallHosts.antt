@@ -15,7 +15,8 @@ use Rattle.regions.specs.region_laws.IsBasis.{IsBasis}
 use Rattle.regions.specs.region_laws.RegionAt.{links_at}
 use Rattle.region_states.specs.defaults.Admissible.{IsAdmissible}
 use Rattle.region_states.specs.Entities.{focus_entity}
-use Rattle.region_states.specs.Hosting.{HostsFocuses, HostsRivals, HoldRivals, HoldsFocus, LeavesFocusOut, LeavesOut}
+use Rattle.host_states.specs.Hosting.{HostsFocuses, HostsRivals, HoldRivals, LeavesFocusOut, LeavesOut}
+use Rattle.region_states.specs.HoldsFocus.{HoldsFocus}
 use Rattle.population.specs.Kept.{key_at_end}
 use Rattle.population.specs.Numbered.{end_of}
 use Rattle.population.specs.Principals.{PlacedKey}

@@ -28,7 +28,7 @@ use Rattle.region_states.proofs.focus.Listed.{has_row}
 use Rattle.schema_laws.proofs.short_values.Places.{Decides-among}
 use Rattle.region_states.specs.conflicts.Facts.{lists}
 use Rattle.region_states.specs.conflicts.SameFacts.{is_absent, is_lost, is_multi, is_one_of, lists_anywhere}
-use Rattle.region_states.specs.Hosting.{HasOneEntityPerKey}
+use Rattle.host_states.specs.Hosting.{HasOneEntityPerKey}
 use Rattle.conflict_laws.specs.same.SameValues.{first_several, may_differ}
 use Rattle.conflict_laws.specs.Told.{AbsentRegion}
 

@@ -16,7 +16,7 @@ use Rattle.region_states.proofs.focus.Demanded.{rows}
 use Rattle.region_states.proofs.defaults.Defaults.{default_admissible}
 use Rattle.region_states.specs.defaults.Defaults.{default_valuation}
 use Rattle.region_states.specs.Entities.{focus_entity}
-use Rattle.region_states.specs.Hosting.{DifferAtMostAt, LeavesFocusOut}
+use Rattle.host_states.specs.Hosting.{DifferAtMostAt, LeavesFocusOut}
 use Rattle.region_states.proofs.Held.{focus_held}
 use Rattle.conflict_laws.specs.same.SameValues.{first_several}
 use Rattle.conflict_laws.proofs.same.states.Different.{same_fails}

@@ -23,7 +23,7 @@ use Rattle.region_states.proofs.defaults.Defaults.{default_admissible}
 use Rattle.schema_laws.proofs.short_values.Places.{Decides-among}
 use Rattle.region_states.specs.conflicts.SameFacts.{is_lost, is_multi, is_one_of, lists_anywhere}
 use Rattle.region_states.specs.Entities.{focus_entity}
-use Rattle.region_states.specs.Hosting.{HoldRivals}
+use Rattle.host_states.specs.Hosting.{HoldRivals}
 use Rattle.region_states.proofs.Entities.{has_value}
 use Rattle.conflict_laws.proofs.rival.Reading.{anywhere}
 use Rattle.conflict_laws.specs.same.SameValues.{with_one, with_other}

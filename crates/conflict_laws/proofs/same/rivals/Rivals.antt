@@ -19,7 +19,7 @@ use Rattle.regions.specs.region_laws.pattern.Listed.{HasCell}
 use Rattle.regions.specs.region_laws.Held.{IsAtRow, IsHeldAt}
 use Rattle.region_states.specs.conflicts.There.{NoneFailsBy}
 use Rattle.region_states.specs.Entities.{focus_entity}
-use Rattle.region_states.specs.Hosting.{DifferAtMostAt, HoldRivals}
+use Rattle.host_states.specs.Hosting.{DifferAtMostAt, HoldRivals}
 use Rattle.region_states.proofs.Entities.{symbol_value}
 use Rattle.region_states.proofs.Held.{focus_held}
 use Rattle.conflict_laws.specs.rival.Alike.{AreWrittenAlike, HaveOneKey, AreTwins}

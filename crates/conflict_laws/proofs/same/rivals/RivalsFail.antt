@@ -16,7 +16,7 @@ use Rattle.schema_laws.proofs.state_demand.lists.Ids.{Decides-assoc}
 use Rattle.region_states.specs.defaults.Admissible.{IsAdmissible}
 use Rattle.region_states.specs.conflicts.SameFacts.{match_all, same_region}
 use Rattle.region_states.specs.Entities.{focus_entity}
-use Rattle.region_states.specs.Hosting.{HoldRivals}
+use Rattle.host_states.specs.Hosting.{HoldRivals}
 use Rattle.region_states.proofs.Held.{focus_held}
 use Rattle.conflict_laws.specs.rival.Alike.{AreComparable, patterns_match, HaveOneKey, AreTwins}
 use Rattle.conflict_laws.specs.rival.RivalValues.{first_values, second_values}

@@ -14,7 +14,7 @@ use Rattle.regions.specs.region_laws.Held.{IsAtRow}
 use Rattle.regions.proofs.region_laws.writings.Owned.{row_writings}
 use Rattle.region_states.specs.focus.Held.{IsRowOfOne}
 use Rattle.region_states.proofs.focus.Demanded.{row_of_one}
-use Rattle.region_states.specs.Hosting.{DifferAtMostAt}
+use Rattle.host_states.specs.Hosting.{DifferAtMostAt}
 use Rattle.conflict_laws.proofs.same.states.HostedAt.{at_host, host_at}
 
 -- sets are one or not

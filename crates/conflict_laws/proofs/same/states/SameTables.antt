@@ -5,7 +5,7 @@ use Rattle.round_trip.specs.Words.{SetId, TableId, ColId, Column, DemandsCell, D
 use Rattle.schema_laws.proofs.state_demand.tables.ReadBack.{cells_demanded, row_demanded, rows_demanded}
 use Rattle.regions.specs.Basis.{Basis}
 use Rattle.regions.specs.region_laws.IsBasis.{IsBasis}
-use Rattle.region_states.specs.Hosting.{DifferAtMostAt}
+use Rattle.host_states.specs.Hosting.{DifferAtMostAt}
 use Rattle.conflict_laws.proofs.same.states.Moved.{IsAtFocus, mirrored, moved}
 
 -- both states demand the row of this key, or neither does, and a row that holds what the one demands holds what the other does

@@ -10,17 +10,12 @@ use Rattle.regions.specs.Basis.{Basis, Host}
 use Rattle.regions.specs.Patterns.{Valuation}
 use Rattle.regions.specs.Regions.{regions_of}
 use Rattle.regions.specs.Settled.{possible, single}
-use Rattle.regions.specs.region_laws.Partners.{HasFewPartners, HasPartners}
+use Rattle.regions.specs.region_laws.Partners.{HasFewPartners}
 use Rattle.regions.specs.region_laws.RegionAt.{links_at}
 use Rattle.regions.specs.region_laws.pattern.Allowed.{RegionValues}
 use Rattle.region_states.specs.defaults.Admissible.{IsAdmissible}
 use Rattle.region_states.specs.Entities.{focus_entity}
-
--- the state is legal and holds an entity of the region that has these values; it hosts just one link for each flag of the region, to the key that is told
-pub record HoldsFocus (basis : Basis) (region : Region) (values : Valuation) (state : State) : Type 0 where
-  pub legal : IsLegal basis.schema.model state
-  pub stands : Contains (entities_in state region.set) (focus_entity basis region values)
-  pub partners : HasPartners basis state region.set (focus_entity basis region values) region values.part
+use Rattle.region_states.specs.HoldsFocus.{HoldsFocus}
 
 -- at each other set and key the two states have the same entity or none, and the same hosted links; and joined associations have the same links
 pub record DifferAtMostAt (basis : Basis) (s : SetId) (key : List Value) (c d : State) : Type 0 where
