@@ -19,7 +19,7 @@ use Rattle.schema_laws.proofs.sound_demand.Fitting.{columns_are, link_ids, sound
 use Rattle.schema_laws.proofs.sound_demand.owners.Owned.{owned}
 use Rattle.schema_laws.proofs.sound_demand.owners.Pairing as pairing_of
 use Rattle.cells.specs.Limits.{IsWithinLimits}
-use Rattle.regions.specs.Basis.{Basis, Host, host_key, partner_end}
+use Rattle.regions.specs.Basis.{Basis, Host, HostedAssoc, host_key, partner_end}
 use Rattle.regions.specs.region_laws.Concrete.{WritesHosted}
 use Rattle.regions.specs.region_laws.IsBasis.{IsBasis, IsHostOf}
 use Rattle.regions.proofs.region_laws.entities.Hosting.{independent}
@@ -33,6 +33,7 @@ use Rattle.population.specs.Supported.{end_key}
 use Rattle.population.proofs.supporting.Links.{near_key}
 use Rattle.population.proofs.supporting.LinkStates.{two_hold}
 use Rattle.population.proofs.plain.Numbered.{some_part, sound_end}
+use Rattle.host_states.specs.ManyPartners.{ClashesInRow, shared_state}
 use Rattle.host_states.proofs.focus.HostEnds.{host_key_is, host_side, partner_side}
 
 -- the pairs at an end
@@ -210,19 +211,26 @@ module _ (basis : Basis) (is : IsBasis basis) (limits : IsWithinLimits basis.sch
     }
 
 module _ (basis : Basis) (is : IsBasis basis) (limits : IsWithinLimits basis.schema) where
-  pub many_clash : (s : SetId) (host : Host) → Contains (basis.hosts s) host → (assoc : Assoc) → At basis.schema.model.assocs host.assoc.index assoc
-      → (partner_end host.first_hosts assoc).mult ≡ Many
-      → (place : Place) × ((d : State) → FailsAt basis.schema kind.Clash place (two_links_state basis.schema.model 0 host.assoc host.first_hosts assoc) d)
-  many_clash s host hosts assoc here many =
-      let one : the_assoc basis is limits s host hosts ≡ assoc =
-      at_once basis.schema.model.assocs host.assoc.index (the_assoc basis is limits s host hosts) assoc (is_assoc basis is limits s host hosts) here in
-      let P : Assoc → Type 0 = λ it. (partner_end host.first_hosts it).mult ≡ Many
-      → (place : Place) × ((d : State) → FailsAt basis.schema kind.Clash place (two_links_state basis.schema.model 0 host.assoc host.first_hosts it) d) in
-      subst P one (λ has. (_, two_clash basis is limits s host hosts has)) many
+  pub many_clash : (s : SetId) (at : HostedAssoc basis s) → (partner_end at.host.first_hosts at.assoc).mult ≡ Many → ClashesInRow basis s at.host at.assoc
+  many_clash s at many =
+      let host : Host = at.host in
+      let own : Assoc = the_assoc basis is limits s host at.hosts in
+      let one : own ≡ at.assoc = at_once basis.schema.model.assocs host.assoc.index own at.assoc (is_assoc basis is limits s host at.hosts) at.is_assoc in
+      let P : Assoc → Type 0 = λ it. (partner_end host.first_hosts it).mult ≡ Many → ClashesInRow basis s host it in
+      subst P one (λ has. record {
+        t = (by basis is limits s host at.hosts).fragment.table;
+        col = (pair basis is limits s host at.hosts has).0.col;
+        table = (column basis is limits s host at.hosts has).0;
+        column = (column basis is limits s host at.hosts has).1;
+        has_column = (column basis is limits s host at.hosts has).2;
+        pairing = (the_owner basis is limits s host at.hosts).0;
+        owned = (the_owner basis is limits s host at.hosts).1;
+        fails = two_clash basis is limits s host at.hosts has;
+      }) many
 
   -- where no legal state does, partners are few
   pub few_by_clear : NoneFailsBy basis.schema kind.Clash → HaveFewPartners basis
   few_by_clear clear s host hosts assoc here many =
-      let fails = many_clash s host hosts assoc here many in
-      let state : State = two_links_state basis.schema.model 0 host.assoc host.first_hosts assoc in
-      clear fails.0 state state (fails.1 state)
+      let fails = many_clash s (record { host = host; hosts = hosts; assoc = assoc; is_assoc = here }) many in
+      let state : State = shared_state basis host assoc in
+      clear _ state state (fails.fails state)

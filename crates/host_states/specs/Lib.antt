@@ -3,3 +3,4 @@ pub mod BaseStates
 pub mod FocusStates
 pub mod SmallStates
 pub mod LoneStates
+pub mod ManyPartners

@@ -3,3 +3,4 @@ pub mod Numbered
 pub mod Placed
 pub mod Plain
 pub mod Shortness
+pub mod Pairs

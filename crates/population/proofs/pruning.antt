@@ -4,3 +4,5 @@ pub mod Needed
 pub mod NeededParts
 pub mod PartHolds
 pub mod RowStates
+pub mod NeededBy
+pub mod Writers

@@ -9,7 +9,7 @@ use Rattle.schema_laws.specs.short_values.Numbers.{numbers_from}
 use Rattle.schema_laws.specs.state_demand.MadeTables.{distinct}
 use Rattle.schema_laws.specs.state_demand.Selecting.{same_key}
 use Rattle.population.specs.Numbered.{end_of}
-use Rattle.population.specs.Principals.{PlacedKey, principals}
+use Rattle.population.specs.Principals.{AsksFor, PlacedKey, principals}
 use Rattle.population.specs.Supported.{end_key, is_one}
 use Rattle.population.specs.Least.{grown}
 use Rattle.population.specs.Support.{same_placed}
@@ -90,6 +90,25 @@ module _ (model : EntityModel) where
   -- what the entity with this key needs in a state: its principals, and the partners that are asked of it
   abbrev pub needs : State → PlacedKey → List PlacedKey
   needs state placed = flat_map (principals model placed.set) (at_key state placed) ++ flat_map (partners_at state placed) (enumerate_from 0 model.assocs)
+
+  -- an entity with this key stands in the state, and asks for the principal
+  pub record AsksAtKey (state : State) (from to : PlacedKey) : Type 0 where
+    pub entity : Entity
+    pub stands : Contains (entities_in state from.set) entity
+    pub keyed : key_of model entity ≡ from.key
+    pub asks : AsksFor model from.set entity to
+
+  -- a link of the state joins the two keys, and the other one's end asks for exactly one partner
+  pub record IsJoinedToOne (state : State) (from to : PlacedKey) : Type 0 where
+    pub a : AssocId
+    pub assoc : Assoc
+    pub is_assoc : At model.assocs a.index assoc
+    pub link : Link
+    pub is_link : Contains (links_in state a) link
+    pub first : Bool
+    pub one : (end_of (not first) assoc).mult ≡ One
+    pub from_end : from ≡ key_at_end first assoc link
+    pub to_end : to ≡ key_at_end (not first) assoc link
 
   -- what it needs in any of these states
   abbrev pub needs_in : List State → PlacedKey → List PlacedKey

@@ -84,6 +84,7 @@ pub record HoldsLink (model : EntityModel) (outer : ℕ) (a : AssocId) (assoc : 
 pub record HoldsTwoLinks (model : EntityModel) (outer : ℕ) (a : AssocId) (first : Bool) (assoc : Assoc) (state : State) : Type 0 where
   pub one : HoldsLink model outer a assoc state
   pub two : Contains (links_in state a) (other_link model outer first assoc)
+  pub of_one : end_key first (other_link model outer first assoc) ≡ end_key first (plain_link model outer assoc)
   pub apart : (p : PropId) → Contains (set_key model (end_of (not first) assoc).set) p
       → value_beside p (set_key model (end_of (not first) assoc).set) (end_key (not first) (plain_link model outer assoc))
       ≢ value_beside p (set_key model (end_of (not first) assoc).set) (end_key (not first) (other_link model outer first assoc))

@@ -1,8 +1,8 @@
 -- Failures in small parts of a state: where it fails at a row, the part that the writers of this row need fails too.
 -- Source: the round-trip criterion of Melnik, Adya and Bernstein, SIGMOD 2007, part by part; this project's choice of the states that it shows.
-use Rattle.std.specs.Prelude.{List, [], ◌∷◌, ◌++◌, map, filter, flat_map, slice_get, true, false}
+use Rattle.std.specs.Prelude.{◌≡◌, List, [], ◌∷◌, ◌++◌, map, filter, flat_map, slice_get, Bool, true, false, Contains}
 use Rattle.std.specs.Option.{option_map_or}
-use Rattle.round_trip.specs.Words.{TableId, Value, Assoc, Fragment, LinkFragment, Link, Place, Schema, State, entities_in, links_in, row_key}
+use Rattle.round_trip.specs.Words.{TableId, Value, Assoc, Entity, Fragment, LinkFragment, Link, Place, Schema, State, At, entities_in, links_in, row_key, written_key}
 use Rattle.round_trip.specs.FailsAt.{Clashes, Dangles, Disagrees, FailsAt, LeavesNull}
 use Rattle.round_trip.specs.declared.FailKind.TheVariants as kind
 use Rattle.schema_laws.specs.state_demand.MadeTables.{is_to_row}
@@ -36,6 +36,28 @@ module _ (schema : Schema) (state : State) (t : TableId) (key : List Value) wher
   -- the part of the state that the writers of the row need
   abbrev pub row_state : State
   row_state = part_of schema.model (state ∷ []) row_writers state
+
+-- an entity that a fragment writes to the row has the key, or a link has it at an end
+pub record IsEntityWriter (schema : Schema) (state : State) (t : TableId) (key : List Value) (placed : PlacedKey) : Type 0 where
+  pub fragment : Fragment
+  pub mapped : Contains schema.mapping.fragments fragment
+  pub to_table : fragment.table ≡ t
+  pub entity : Entity
+  pub stands : Contains (entities_in state fragment.set) entity
+  pub to_key : written_key schema.store (entity_writing schema.model fragment entity) ≡ key
+  pub is : placed ≡ key_in schema.model fragment.set entity
+
+pub record IsLinkWriter (schema : Schema) (state : State) (t : TableId) (key : List Value) (placed : PlacedKey) : Type 0 where
+  pub fragment : LinkFragment
+  pub mapped : Contains schema.mapping.links fragment
+  pub to_table : fragment.table ≡ t
+  pub assoc : Assoc
+  pub is_assoc : At schema.model.assocs fragment.assoc.index assoc
+  pub link : Link
+  pub stands : Contains (links_in state fragment.assoc) link
+  pub to_key : written_key schema.store (link_writing schema.model fragment assoc link) ≡ key
+  pub first : Bool
+  pub is : placed ≡ key_at_end first assoc link
 
 -- where the state fails at a place, the part that the writers of one row need is legal and fails at this place by the same kind
 pub record FailsInRows (schema : Schema) (state : State) (place : Place) (other : State) : Type 0 where

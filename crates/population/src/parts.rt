@@ -1,12 +1,12 @@
 //! Parts of legal states: which are legal, what they hold, and which failures stand in them.
 
-ghost use Rattle.std.specs.Prelude.{◌↔◌, Bool, List, Contains};
-ghost use Rattle.round_trip.specs.Words.{EntityModel, Entity, IsLegal, Place, Schema, SetId, State};
+ghost use Rattle.std.specs.Prelude.{◌↔◌, ◌⊎◌, Bool, List, Contains};
+ghost use Rattle.round_trip.specs.Words.{EntityModel, Entity, IsLegal, Place, Schema, SetId, State, TableId, Value};
 ghost use Rattle.round_trip.specs.soundness.mappings.Mappings.{IsSoundSchema};
 ghost use Rattle.round_trip.specs.soundness.models.Models.{IsSoundModel};
-ghost use Rattle.population.specs.Kept.{AreAlikeAs, AreNeeded, HoldsNeeded, IsClosed, kept_state, part_of};
+ghost use Rattle.population.specs.Kept.{AreAlikeAs, AreNeeded, AsksAtKey, HoldsNeeded, IsClosed, IsJoinedToOne, kept_state, needs, part_of};
 ghost use Rattle.population.specs.Principals.{PlacedKey};
-ghost use Rattle.population.specs.RowStates.{FailsInRows};
+ghost use Rattle.population.specs.RowStates.{FailsInRows, IsEntityWriter, IsLinkWriter, row_writers};
 
 /// A part of a legal state is legal exactly where it holds with each of its entities the principals, and the partners that ends `1` ask for.
 pub fn legal_parts_are_closed()
@@ -18,6 +18,8 @@ pub fn legal_parts_are_closed()
 pub fn needed_keys_are_least()
     ensures least { (model : EntityModel) → IsSoundModel model → (states : List State) → ((one : State) → Contains states one → IsLegal model one) → (roots : List PlacedKey)
         → AreNeeded model states roots }
+    ensures asked { (model : EntityModel) → IsSoundModel model → (state : State) (from to : PlacedKey)
+        → Contains (needs model state from) to ↔ (AsksAtKey model state from to ⊎ IsJoinedToOne model state from to) }
 {}
 
 /// The part of a legal state holds an entity where its key is needed, and a link where the keys of both its ends are.
@@ -37,7 +39,10 @@ pub fn needed_parts_are_legal()
         → (state : State) → Contains states state → IsLegal model (part_of model states roots state) }
 {}
 
-/// Where a legal state fails by a clash, a null, a disagreement or a dangling key, so does the part that the writers of one row need, at the same place.
+/// Where a legal state fails by a clash, a null, a disagreement or a dangling key, so does the part that the writers of one row need, at the same place. These
+/// are the entities that fragments write to the row, and those at both ends of the links that link fragments write to it.
 pub fn failures_stand_in_parts()
     ensures stand { (schema : Schema) → IsSoundSchema schema → (state : State) → IsLegal schema.model state → (place : Place) (other : State) → FailsInRows schema state place other }
+    ensures writers { (schema : Schema) (state : State) (t : TableId) (key : List Value) (placed : PlacedKey)
+        → Contains (row_writers schema state t key) placed ↔ (IsEntityWriter schema state t key placed ⊎ IsLinkWriter schema state t key placed) }
 {}

@@ -24,7 +24,7 @@ module _ (schema : Schema) (state : State) (t : TableId) (key : List Value) wher
   to_row_too writing other is to_table to_key = (sym (ap (λ (one : Writing). one.table) is) ∙ to_table, sym (ap (written_key schema.store) is) ∙ to_key)
 
   -- an entity that is written to the row is one of the writers
-  entity_among : (fragment : Fragment) → Contains schema.mapping.fragments fragment → (entity : Entity) → Contains (entities_in state fragment.set) entity
+  pub entity_among : (fragment : Fragment) → Contains schema.mapping.fragments fragment → (entity : Entity) → Contains (entities_in state fragment.set) entity
       → (fragment.table ≡ t) × (written_key schema.store (entity_writing schema.model fragment entity) ≡ key)
       → Contains (row_writers schema state t key) (key_in schema.model fragment.set entity)
   entity_among fragment mapped entity stands to_row =
@@ -37,7 +37,7 @@ module _ (schema : Schema) (state : State) (t : TableId) (key : List Value) wher
       (contains_filter to (entities_in state fragment.set) entity stands ((Decides-row schema.store t key (entity_writing schema.model fragment entity)).1 to_row))))
 
   -- and so are the entities at both ends of a link
-  link_among : (fragment : LinkFragment) → Contains schema.mapping.links fragment → (assoc : Assoc) → At schema.model.assocs fragment.assoc.index assoc
+  pub link_among : (fragment : LinkFragment) → Contains schema.mapping.links fragment → (assoc : Assoc) → At schema.model.assocs fragment.assoc.index assoc
       → (link : Link) → Contains (links_in state fragment.assoc) link
       → (fragment.table ≡ t) × (written_key schema.store (link_writing schema.model fragment assoc link) ≡ key)
       → (first : Bool) → Contains (row_writers schema state t key) (key_at_end first assoc link)

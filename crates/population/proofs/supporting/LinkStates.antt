@@ -28,31 +28,8 @@ use Rattle.population.specs.Supported.{Placed, PlacedLink, added_at, all_links, 
 use Rattle.population.proofs.supporting.Ends.{end_has_key, end_stands, end_typed, key_not_numbered, key_once, link_from, link_pairs, from_link, plain_legal, place_small}
 use Rattle.population.proofs.supporting.Entities.{entities_are, links_are}
 use Rattle.population.proofs.supporting.Links.{IsAdded, added_far, far_key, is_added, linked_is, near_key}
+use Rattle.population.proofs.plain.Pairs.{pairs_none, pairs_one, pairs_three, pairs_two}
 use Rattle.population.proofs.plain.Numbered.{end_within, fresh_once, set_key_is, some_part, sound_end}
-
--- pairs of two and of three items
-module _ {X : Type 0} (R : X → X → Type 0) where
-  pub pairs_none : AllPairs R []
-  pairs_none = λ i j d below within. absurd (omega (arith, within))
-
-  pub pairs_one : (x : X) → AllPairs R (x ∷ [])
-  pairs_one x = AllPairs-cons R x [] (λ i d below. absurd (omega (arith, below))) pairs_none
-
-  all_one : (P : X → Type 0) (x : X) → P x → All P (x ∷ [])
-  all_one P x holds = all_from_members P (x ∷ []) (λ y has. ⊎_elim (λ (here : y ≡ x). subst P (sym here) holds) (λ (later : Contains [] y). absurd (contains_nil y later)) (contains_cons_cases x [] y has))
-
-  all_two : (P : X → Type 0) (x y : X) → P x → P y → All P (x ∷ (y ∷ []))
-  all_two P x y one two = all_from_members P (x ∷ (y ∷ [])) (λ z has. ⊎_elim
-      (λ (here : z ≡ x). subst P (sym here) one)
-      (λ (later : Contains (y ∷ []) z). ⊎_elim
-      (λ (here : z ≡ y). subst P (sym here) two) (λ (never : Contains [] z). absurd (contains_nil z never)) (contains_cons_cases y [] z later))
-      (contains_cons_cases x (y ∷ []) z has))
-
-  pub pairs_two : (x y : X) → R x y → AllPairs R (x ∷ (y ∷ []))
-  pairs_two x y one = AllPairs-cons R x (y ∷ []) (all_one (R x) y one) (pairs_one y)
-
-  pub pairs_three : (x y z : X) → R x y → R x z → R y z → AllPairs R (x ∷ (y ∷ (z ∷ [])))
-  pairs_three x y z one two three = AllPairs-cons R x (y ∷ (z ∷ [])) (all_two (R x) y z one two) (pairs_two y z three)
 
 module _ (model : EntityModel) (outer : ℕ) (has : HasNumbers model outer) (a : AssocId) (assoc : Assoc) (here : At model.assocs a.index assoc) (independent : IsIndependent assoc) where
   is_assoc : Contains model.assocs assoc
@@ -404,5 +381,6 @@ module _ (model : EntityModel) (outer : ℕ) (has : HasNumbers model outer) (a :
       one = holds three three_of three_apart first_three second_three two_links two_of two_once two_few (contains_head the_link (second_link ∷ []));
       two = link_stands three three_of three_apart first_three second_three two_links two_of two_once two_few second_link
           (contains_tail the_link (second_link ∷ []) second_link (contains_head second_link []));
+      of_one = near_is ∙ sym (plain_key first);
       apart = apart_parts;
     }
