@@ -8,7 +8,7 @@ ghost use Rattle.cells.specs.Parts.{AreParts, schema_in};
 ghost use Rattle.cells.specs.declared.parts.Parts.{Parts};
 ghost use Rattle.regions.specs.Basis.{Basis};
 ghost use Rattle.regions.specs.region_laws.IsBasis.{IsBasis};
-ghost use Rattle.region_states.specs.LoneStates.{HasNoAssociationSets};
+ghost use Rattle.region_states.specs.NoAssociations.{HasNoAssociationSets};
 ghost use Rattle.case_laws.specs.candidates.Candidates.{IsCandidate};
 ghost use Rattle.case_laws.specs.candidates.Viewed.{LacksCase};
 ghost use Rattle.case_laws.specs.Reading.{DecidesFree, HasStateTables};

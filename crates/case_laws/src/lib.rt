@@ -17,7 +17,7 @@ ghost use Rattle.regions.specs.region_laws.IsBasis.{IsBasis};
 ghost use Rattle.regions.specs.region_laws.Partners.{HasFewPartners};
 ghost use Rattle.case_laws.specs.filled_rows.Demanded.{IsHeldWith};
 ghost use Rattle.conflict_laws.specs.rival.Alike.{IsClear};
-ghost use Rattle.region_states.specs.LoneStates.{HasNoAssociationSets};
+ghost use Rattle.region_states.specs.NoAssociations.{HasNoAssociationSets};
 ghost use Rattle.case_laws.specs.region_cases.Cases.{case_of};
 ghost use Rattle.case_laws.specs.region_cases.Meets.{AreLinksOf, IsEntityOf, MeetsCase, StandsAtKey};
 ghost use Rattle.case_laws.specs.Reading.{DecidesFree, HasStateTables, HaveOneRowPerKey};

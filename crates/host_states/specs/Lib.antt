@@ -1,3 +1,4 @@
 pub mod BaseStates
 pub mod FocusStates
 pub mod SmallStates
+pub mod LoneStates

@@ -9,7 +9,7 @@ use Rattle.region_states.specs.region_basis.BasisOf.{basis_of}
 use Rattle.region_states.proofs.region_basis.Bases.{basis_is}
 use Rattle.regions.specs.Basis.{Basis}
 use Rattle.regions.specs.region_laws.IsBasis.{IsBasis}
-use Rattle.region_states.specs.LoneStates.{HasNoAssociationSets}
+use Rattle.region_states.specs.NoAssociations.{HasNoAssociationSets}
 use Rattle.case_laws.specs.candidates.Candidates.{IsCandidate, IsFirstLack}
 use Rattle.case_laws.proofs.candidate_laws.FreeCells.{cells_tell}
 use Rattle.case_laws.proofs.candidate_laws.OwnView.{case_met}

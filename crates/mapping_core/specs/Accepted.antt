@@ -8,7 +8,7 @@ use Rattle.cells.specs.Cells.{is_free_in}
 use Rattle.cells.specs.Parts.{AreParts, schema_in}
 use Rattle.regions.specs.declared.region.Region.{Region}
 use Rattle.region_states.specs.region_basis.BasisOf.{basis_of}
-use Rattle.region_states.specs.LoneStates.{HasNoAssociationSets}
+use Rattle.region_states.specs.NoAssociations.{HasNoAssociationSets}
 use Rattle.region_partition.specs.mapping_limits.FirstLimit.{IsFirstLimit}
 use Rattle.region_partition.specs.set_regions.Regions.{AreRegions}
 use Rattle.update_views.specs.Views.{AreViewsOf}

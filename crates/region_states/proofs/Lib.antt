@@ -1,7 +1,6 @@
 pub mod Entities
 pub mod Held
 pub mod Keys
-pub mod lone
-pub mod Base
+pub mod NoAssociations
 pub mod focus
 pub mod defaults

@@ -1,7 +1,6 @@
 pub mod Entities
-pub mod LoneStates
+pub mod NoAssociations
 pub mod Hosting
-pub mod BasePopulation
 pub mod focus
 pub mod defaults
 pub mod conflicts

@@ -7,7 +7,7 @@ ghost use Rattle.round_trip.specs.declared.FailKind.TheVariants as variant;
 ghost use Rattle.regions.specs.Basis.{Basis};
 ghost use Rattle.regions.specs.region_laws.IsBasis.{IsBasis};
 ghost use Rattle.region_states.specs.conflicts.There.{FailsThere, NoneFailsBy};
-ghost use Rattle.region_states.specs.LoneStates.{HasNoAssociationSets};
+ghost use Rattle.region_states.specs.NoAssociations.{HasNoAssociationSets};
 
 /// A legal state that fails by a kind other than dangling fails by it at some set.
 pub fn each_failure_is_at_a_set()

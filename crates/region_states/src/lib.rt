@@ -8,12 +8,10 @@ mod focus_laws;
 pub mod joined_laws;
 pub mod region_basis;
 
-ghost use Rattle.std.specs.Prelude.{◌≡◌, ℕ, Contains, List};
-ghost use Rattle.round_trip.specs.Words.{ColId, Entity, EntityModel, IsLegal, PropId, SetId, State, TableId, Value, props_of, value_of};
-ghost use Rattle.cells.specs.Limits.{IsWithinLimits};
+ghost use Rattle.std.specs.Prelude.{◌≡◌, ℕ, Contains};
+ghost use Rattle.round_trip.specs.Words.{ColId, PropId, State, TableId, props_of, value_of};
 ghost use Rattle.regions.specs.Basis.{Basis};
 ghost use Rattle.regions.specs.Patterns.{Valuation, by_entity, pattern_of, value_under};
-ghost use Rattle.regions.specs.Regions.{regions_of};
 ghost use Rattle.regions.specs.declared.pattern.Focus.TheVariants as focus;
 ghost use Rattle.regions.specs.declared.pattern.Symbol.{Symbol};
 ghost use Rattle.regions.specs.declared.region.Region.{Region};
@@ -23,10 +21,8 @@ ghost use Rattle.regions.specs.region_laws.pattern.Allowed.{IsAllowed, RegionVal
 ghost use Rattle.regions.specs.region_laws.pattern.Listed.{Lists};
 ghost use Rattle.region_states.specs.defaults.Admissible.{IsAdmissible};
 ghost use Rattle.region_states.specs.conflicts.There.{HasFewLinks};
-ghost use Rattle.region_states.specs.BasePopulation.{IsBaseFor, IsKeyOf, base_state};
 ghost use Rattle.region_states.specs.Entities.{focus_entity};
-ghost use Rattle.region_states.specs.Hosting.{HoldsFocus, HostsFocuses, HostsRivals, LeavesOut};
-ghost use Rattle.region_states.specs.LoneStates.{HasNoAssociationSets, HasOneAtMost, empty_state, lone_focus, lone_state};
+ghost use Rattle.region_states.specs.Hosting.{HoldsFocus};
 
 pub use conflicts::Conflict;
 pub use default_values::{
@@ -62,26 +58,4 @@ pub fn a_focus_is_held()
         → HoldsFocus basis at.region at.values state → IsHeldAt basis state at.s (focus_entity basis at.region at.values) at.region at.values.part }
     ensures few { (basis : Basis) → IsBasis basis → (at : RegionValues basis) (state : State) → HoldsFocus basis at.region at.values state
         → HasFewLinks basis state at.s (focus_entity basis at.region at.values) }
-{}
-
-/// Where no association set is declared, the states of one entity, and the empty one, are legal, and they are all that the tests for failing states ask for.
-pub fn lone_states_serve()
-    ensures legal { (basis : Basis) → IsBasis basis → HasNoAssociationSets basis.schema.model → (at : RegionValues basis) → IsAllowed basis at.region at.values
-        → HoldsFocus basis at.region at.values (lone_focus basis at.region at.values) }
-    ensures empty { (basis : Basis) → IsBasis basis → HasNoAssociationSets basis.schema.model → IsLegal basis.schema.model (empty_state basis.schema.model) }
-    ensures hosts { (basis : Basis) → IsBasis basis → HasNoAssociationSets basis.schema.model → (outer : ℕ) → HostsFocuses basis outer (lone_focus basis) }
-    ensures rivals { (basis : Basis) → IsBasis basis → HasNoAssociationSets basis.schema.model → (outer : ℕ)
-        → HostsRivals basis outer (λ one values two others. (lone_focus basis one values, lone_focus basis two others)) }
-    ensures leaves { (basis : Basis) → IsBasis basis → HasNoAssociationSets basis.schema.model → (outer : ℕ)
-        → LeavesOut basis outer (λ region values. (lone_focus basis region values, empty_state basis.schema.model)) }
-    ensures small { (model : EntityModel) (s : SetId) (entity : Entity) → HasOneAtMost (lone_state model s entity) s entity × HasOneAtMost (empty_state model) s entity }
-{}
-
-/// Where no association set is declared, for each region and each key of its entities a legal state holds an entity of the region with this key, to which
-/// nothing refers: that of this entity alone.
-pub fn each_region_has_a_base_population()
-    ensures legal { (basis : Basis) → IsBasis basis → IsWithinLimits basis.schema → HasNoAssociationSets basis.schema.model → (s : SetId) (region : Region)
-        → Contains (regions_of basis s) region → (key : List Value) → IsKeyOf basis region key → IsLegal basis.schema.model (base_state basis region key) }
-    ensures holds { (basis : Basis) → IsBasis basis → IsWithinLimits basis.schema → HasNoAssociationSets basis.schema.model → (s : SetId) (region : Region)
-        → Contains (regions_of basis s) region → (key : List Value) → IsKeyOf basis region key → IsBaseFor basis s region key (base_state basis region key) }
 {}

@@ -19,7 +19,7 @@ use Rattle.region_states.specs.defaults.Defaults.{default_valuation}
 use Rattle.region_states.specs.conflicts.Facts.{has_row, is_required}
 use Rattle.region_states.specs.declared.conflicts.conflict.Conflict.TheVariants as conflict
 use Rattle.region_states.specs.Entities.{focus_entity}
-use Rattle.region_states.specs.LoneStates.{lone_focus, lone_state}
+use Rattle.host_states.specs.LoneStates.{lone_focus, lone_state}
 use Rattle.conflict_laws.specs.clash.ClashValues.{clash_values}
 use Rattle.conflict_laws.proofs.clash.Clashing.{Decides-clash, IsClash}
 use Rattle.conflict_laws.proofs.clash.Fails.{fails_at}

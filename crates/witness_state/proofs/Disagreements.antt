@@ -15,8 +15,8 @@ use Rattle.region_states.specs.defaults.Defaults.{default_valuation}
 use Rattle.region_states.specs.conflicts.Facts.{differ, is_hosted, shows_link_pattern}
 use Rattle.region_states.specs.declared.conflicts.conflict.Conflict.TheVariants as conflict
 use Rattle.region_states.specs.Entities.{focus_entity}
-use Rattle.region_states.specs.LoneStates.{lone_focus, lone_state}
-use Rattle.region_states.proofs.lone.Legal.{no_host}
+use Rattle.host_states.specs.LoneStates.{lone_focus, lone_state}
+use Rattle.region_states.proofs.NoAssociations.{no_host}
 use Rattle.conflict_laws.proofs.disagreement.Deciding.{Decides-disagrees, Decides-hosted, SomeDiffers, SomeLinksDiffer}
 use Rattle.conflict_laws.proofs.disagreement.Failing.{fails}
 use Rattle.conflict_laws.proofs.Exact.{lone_clear}

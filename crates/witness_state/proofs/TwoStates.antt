@@ -16,7 +16,7 @@ use Rattle.region_states.specs.declared.conflicts.conflict.Conflict.{Conflict}
 use Rattle.region_states.specs.declared.conflicts.conflict.Conflict.TheVariants as conflict
 use Rattle.region_states.specs.conflicts.There.{NoneFailsBefore, NoneFailsBy}
 use Rattle.region_states.specs.Entities.{focus_entity}
-use Rattle.region_states.specs.LoneStates.{empty_state, lone_focus, lone_state}
+use Rattle.host_states.specs.LoneStates.{empty_state, lone_focus, lone_state}
 use Rattle.conflict_laws.specs.rival.RivalValues.{first_values, second_values}
 use Rattle.conflict_laws.specs.same.SameValues.{first_several, with_one, with_other}
 use Rattle.conflict_laws.proofs.same.lost.Absent.{several_lost}

@@ -14,8 +14,8 @@ use Rattle.regions.proofs.region_laws.pattern.Cells.{row_of, writing_to}
 use Rattle.regions.proofs.region_laws.pattern.symbols.Origins.{IsRegionWriter, chosen_of, region_writer}
 use Rattle.regions.proofs.region_laws.pattern.types.Regions.{parts_of}
 use Rattle.region_states.specs.focus.Held.{HasRow}
-use Rattle.region_states.specs.LoneStates.{HasNoAssociationSets}
-use Rattle.region_states.proofs.lone.Legal.{no_host}
+use Rattle.region_states.specs.NoAssociations.{HasNoAssociationSets}
+use Rattle.region_states.proofs.NoAssociations.{no_host}
 
 module _ (basis : Basis) (is : IsBasis basis) (alone : HasNoAssociationSets basis.schema.model) (s : SetId) (region : Region) (has : Contains (regions_of basis s) region) where
   -- what writes the table is a fragment of the set

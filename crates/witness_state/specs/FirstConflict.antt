@@ -5,7 +5,7 @@ use Rattle.cells.specs.declared.parts.Parts.{Parts}
 use Rattle.cells.specs.Parts.{AreParts, schema_in}
 use Rattle.regions.specs.region_laws.IsBasis.{IsBasis}
 use Rattle.region_states.specs.region_basis.BasisOf.{basis_of}
-use Rattle.region_states.specs.LoneStates.{HasNoAssociationSets}
+use Rattle.region_states.specs.NoAssociations.{HasNoAssociationSets}
 use Rattle.region_states.specs.conflicts.Conflicts.{IsConflictAt, kind_of}
 use Rattle.region_states.specs.conflicts.There.{NoneFailsBefore}
 use Rattle.region_states.specs.declared.conflicts.conflict.Conflict.{Conflict}

@@ -1,7 +1,7 @@
 ghost use Rattle.std.specs.Prelude.{◌≡◌, IfOk};
 ghost use Rattle.cells.specs.Parts.{AreParts, schema_in};
 ghost use Rattle.region_states.specs.region_basis.BasisOf.{basis_of};
-ghost use Rattle.region_states.specs.LoneStates.{HasNoAssociationSets};
+ghost use Rattle.region_states.specs.NoAssociations.{HasNoAssociationSets};
 ghost use Rattle.regions.specs.declared.pattern.Focus.TheVariants as focus;
 ghost use Rattle.regions.specs.Basis.{Basis};
 ghost use Rattle.round_trip.specs.Words.{SetId};

@@ -4,7 +4,7 @@ ghost use Rattle.regions.specs.declared.pattern.Focus.TheVariants as focus;
 ghost use Rattle.regions.specs.declared.pattern.Symbol.{Symbol};
 ghost use Rattle.round_trip.specs.declared.FailKind.TheVariants as kind;
 ghost use Rattle.region_states.specs.declared.conflicts.conflict.Conflict.TheVariants as conflict;
-ghost use Rattle.region_states.specs.LoneStates.{lone_state};
+ghost use Rattle.host_states.specs.LoneStates.{lone_state};
 ghost use Rattle.witness_state.specs.Failures.{IsFailureOf};
 ghost use Rattle.witness_state.specs.Shown.{shown_alone};
 ghost use Rattle.witness_state.specs.FirstConflict.{IsFirstConflict};

@@ -3,7 +3,7 @@ ghost use Rattle.cells.specs.Parts.{schema_in};
 ghost use Rattle.round_trip.specs.Words.{At, EntitySet, key_of, place_at};
 ghost use Rattle.round_trip.specs.declared.FailKind.TheVariants as kind;
 ghost use Rattle.region_states.specs.declared.conflicts.conflict.Conflict.TheVariants as conflict;
-ghost use Rattle.region_states.specs.LoneStates.{lone_state};
+ghost use Rattle.host_states.specs.LoneStates.{lone_state};
 ghost use Rattle.witness_state.specs.Failures.{IsFailureOf};
 ghost use Rattle.witness_state.specs.Shown.{shown_beside};
 ghost use Rattle.witness_state.specs.FirstConflict.{IsFirstConflict};

@@ -11,7 +11,7 @@ use Rattle.schema_laws.proofs.kept_states.Entities.{apart_by_key}
 use Rattle.schema_laws.proofs.state_demand.lists.Permutations.{same_members_permute}
 use Rattle.regions.specs.Basis.{Basis}
 use Rattle.regions.specs.region_laws.IsBasis.{IsBasis}
-use Rattle.region_states.specs.LoneStates.{HasNoAssociationSets}
+use Rattle.region_states.specs.NoAssociations.{HasNoAssociationSets}
 use Rattle.case_laws.specs.candidates.Candidates.{AreViewed, IsBefore}
 use Rattle.case_laws.specs.candidates.Viewed.{IsViewed}
 use Rattle.case_laws.specs.Reading.{DecidesFree, HasStateTables}

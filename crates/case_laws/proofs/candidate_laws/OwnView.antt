@@ -16,8 +16,8 @@ use Rattle.regions.specs.region_laws.Held.{IsOfRegion}
 use Rattle.regions.proofs.region_laws.entities.Held.{set_of_entity}
 use Rattle.region_states.proofs.focus.Flags.{some_region}
 use Rattle.case_laws.specs.filled_rows.Demanded.{IsHeldWith}
-use Rattle.region_states.specs.LoneStates.{HasNoAssociationSets}
-use Rattle.region_states.proofs.lone.Legal.{no_host}
+use Rattle.region_states.specs.NoAssociations.{HasNoAssociationSets}
+use Rattle.region_states.proofs.NoAssociations.{no_host}
 use Rattle.case_laws.specs.declared.region_cases.case.Case.{Case}
 use Rattle.case_laws.specs.region_cases.Cases.{case_of, cases_of}
 use Rattle.case_laws.specs.region_cases.Meets.{IsEntityOf, MeetsCase}

@@ -11,7 +11,7 @@ use Rattle.schema_laws.proofs.same_states.SameTables.{tables_too, turned}
 use Rattle.schema_laws.proofs.state_demand.tables.SameTables.{same_tables}
 use Rattle.regions.specs.Basis.{Basis}
 use Rattle.regions.specs.region_laws.IsBasis.{IsBasis}
-use Rattle.region_states.specs.LoneStates.{HasNoAssociationSets}
+use Rattle.region_states.specs.NoAssociations.{HasNoAssociationSets}
 use Rattle.case_laws.specs.candidates.Candidates.{IsCandidate}
 use Rattle.case_laws.specs.Reading.{DecidesFree, HasStateTables}
 use Rattle.case_laws.proofs.candidate_laws.Candidate.{same_entities}

@@ -21,7 +21,7 @@ use Rattle.conflict_laws.specs.rival.Alike.{AreComparable, AreWrittenAlike, Patt
 use Rattle.conflict_laws.proofs.rival.Alike.{alike_match}
 use Rattle.conflict_laws.proofs.rival.Matching.{match_self}
 use Rattle.conflict_laws.proofs.rival.Told.{told_same}
-use Rattle.region_states.specs.LoneStates.{HasNoAssociationSets}
+use Rattle.region_states.specs.NoAssociations.{HasNoAssociationSets}
 use Rattle.case_laws.specs.declared.region_cases.case.CaseRow.{CaseRow}
 use Rattle.case_laws.specs.region_cases.Cases.{case_of, case_row}
 use Rattle.case_laws.specs.region_cases.Meets.{StandsAtKey}

@@ -15,7 +15,7 @@ use Rattle.regions.proofs.region_laws.listing.Listed.{set_is}
 use Rattle.region_states.proofs.focus.Flags.{some_region}
 use Rattle.regions.proofs.region_laws.pattern.types.Regions.{parts_of}
 use Rattle.case_laws.specs.filled_rows.Demanded.{IsHeldWith}
-use Rattle.region_states.specs.LoneStates.{HasNoAssociationSets}
+use Rattle.region_states.specs.NoAssociations.{HasNoAssociationSets}
 use Rattle.case_laws.specs.region_cases.Cases.{case_of}
 use Rattle.case_laws.specs.region_cases.Meets.{MeetsCase, StandsAtKey}
 use Rattle.case_laws.specs.Reading.{DecidesFree, HasStateTables}

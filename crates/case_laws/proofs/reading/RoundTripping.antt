@@ -15,8 +15,8 @@ use Rattle.region_states.specs.conflicts.SameFacts.{are_rivals, is_absent, is_lo
 use Rattle.region_states.specs.conflicts.There.{FailsThere}
 use Rattle.region_states.specs.declared.conflicts.conflict.Conflict.{Conflict}
 use Rattle.region_states.specs.declared.conflicts.conflict.Conflict.TheVariants as conflict
-use Rattle.region_states.specs.LoneStates.{HasNoAssociationSets}
-use Rattle.region_states.proofs.lone.Legal.{no_host}
+use Rattle.region_states.specs.NoAssociations.{HasNoAssociationSets}
+use Rattle.region_states.proofs.NoAssociations.{no_host}
 use Rattle.host_states.proofs.FewPartners.{few_by_clear}
 use Rattle.conflict_laws.proofs.clash.Clear.{region_clear}
 use Rattle.conflict_laws.proofs.Exact.{clear_states, exact}

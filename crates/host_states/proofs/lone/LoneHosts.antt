@@ -16,8 +16,9 @@ use Rattle.regions.proofs.region_laws.listing.Listed.{set_is}
 use Rattle.region_states.specs.defaults.Admissible.{IsAdmissible}
 use Rattle.region_states.specs.Entities.{focus_entity}
 use Rattle.region_states.specs.Hosting.{HasOneEntityPerKey, HaveFewPartners, HoldRivals, HoldsFocus, HostsFocuses, HostsRivals, LeavesFocusOut, LeavesOut, RivalPair}
-use Rattle.region_states.specs.LoneStates.{HasNoAssociationSets, empty_state, lone_focus}
-use Rattle.region_states.proofs.lone.Legal.{no_host}
+use Rattle.region_states.specs.NoAssociations.{HasNoAssociationSets}
+use Rattle.host_states.specs.LoneStates.{empty_state, lone_focus}
+use Rattle.region_states.proofs.NoAssociations.{no_host}
 use Rattle.population.specs.Principals.{PlacedKey}
 use Rattle.population.specs.Supported.{Placed}
 use Rattle.host_states.specs.FocusStates.{by_assoc, focus, focus_state, given_by, leaving_states, linked_hosts, partner_of, rival_states}
@@ -28,7 +29,7 @@ use Rattle.host_states.proofs.small.SmallHosts.{small_host, small_leave, small_r
 
 module _ (basis : Basis) (is : IsBasis basis) (none : HasNoAssociationSets basis.schema.model) where
   -- nothing is hosted, so partners are few
-  few_without : HaveFewPartners basis
+  pub few_without : HaveFewPartners basis
   few_without s host hosts assoc here = absurd (no_host basis is none s host hosts)
 
   module _ (outer : ℕ) (region : Region) (values : Valuation) where

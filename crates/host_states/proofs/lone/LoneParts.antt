@@ -16,8 +16,9 @@ use Rattle.regions.specs.Patterns.{Valuation}
 use Rattle.regions.specs.region_laws.IsBasis.{IsBasis}
 use Rattle.regions.proofs.region_laws.lists.Found.{filter_none, filter_one}
 use Rattle.region_states.specs.Entities.{focus_entity}
-use Rattle.region_states.specs.LoneStates.{HasNoAssociationSets, empty_state, lone_state}
-use Rattle.region_states.proofs.lone.Legal.{no_host}
+use Rattle.region_states.specs.NoAssociations.{HasNoAssociationSets}
+use Rattle.host_states.specs.LoneStates.{empty_state, lone_state}
+use Rattle.region_states.proofs.NoAssociations.{no_host}
 use Rattle.population.specs.Kept.{HoldsNeeds, is_needed, key_in, kept_in, kept_links, needed_keys, needs, needs_in, part_of, partners_at}
 use Rattle.population.specs.Principals.{PlacedKey, principals}
 use Rattle.population.specs.Supported.{Placed}

@@ -5,7 +5,7 @@ use Rattle.round_trip.specs.Words.{Assoc, AssocId, At, EntityModel, IsIndependen
 use Rattle.round_trip.specs.declared.FailKind.{FailKind}
 use Rattle.round_trip.specs.declared.FailKind.TheVariants as variant
 use Rattle.region_states.specs.conflicts.There.{NoneFailsBy}
-use Rattle.region_states.specs.LoneStates.{HasNoAssociationSets}
+use Rattle.region_states.specs.NoAssociations.{HasNoAssociationSets}
 
 pub each_kind : (schema : Schema) → NoneFailsBy schema variant.Clash → NoneFailsBy schema variant.Null → NoneFailsBy schema variant.Disagrees → NoneFailsBy schema variant.Dangling
     → NoneFailsBy schema variant.Same → (kind : FailKind) → NoneFailsBy schema kind

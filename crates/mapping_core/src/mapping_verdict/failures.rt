@@ -4,7 +4,7 @@ ghost use Rattle.region_states.specs.conflicts.Conflicts.{IsConflictAt};
 ghost use Rattle.region_states.specs.conflicts.There.{FailsThere, NoneFailsBefore, NoneFailsBy};
 ghost use Rattle.region_states.specs.declared.conflicts.conflict.Conflict.{Conflict};
 ghost use Rattle.region_states.specs.region_basis.BasisOf.{basis_of};
-ghost use Rattle.region_states.specs.LoneStates.{HasNoAssociationSets};
+ghost use Rattle.region_states.specs.NoAssociations.{HasNoAssociationSets};
 ghost use Rattle.round_trip.specs.Words.{At, EntitySet, Keeps, RoundTrips, SetId};
 ghost use Rattle.round_trip.specs.declared.FailKind.TheVariants as fails;
 ghost use Rattle.witness_state.specs.Failures.{IsFailureOf};

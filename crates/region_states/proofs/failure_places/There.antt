@@ -12,8 +12,8 @@ use Rattle.regions.specs.region_laws.IsBasis.{IsBasis}
 use Rattle.region_states.specs.focus.Held.{IsRowOfOne}
 use Rattle.region_states.proofs.focus.Demanded.{row_of_one}
 use Rattle.region_states.specs.conflicts.There.{FailsByThere, FailsThere, IsRowOf, NoneFailsBy}
-use Rattle.region_states.specs.LoneStates.{HasNoAssociationSets}
-use Rattle.region_states.proofs.lone.Legal.{no_assoc, no_host}
+use Rattle.region_states.specs.NoAssociations.{HasNoAssociationSets}
+use Rattle.region_states.proofs.NoAssociations.{no_assoc, no_host}
 
 -- it is so at a set of the model
 abbrev pub AtSome : Basis → (SetId → Type 0) → Type 0

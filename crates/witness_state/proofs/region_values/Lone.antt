@@ -5,8 +5,8 @@ use Rattle.std.proofs.lemmas.Bool.Decides.{Decides-eqb}
 use Rattle.std.proofs.lemmas.List.{length-map, set_past}
 use Rattle.round_trip.specs.Words.{SetId, EntityModel, EntitySet, Entity}
 use Rattle.entity_state.specs.Lists.{empty_state, with_entity}
-use Rattle.region_states.specs.LoneStates.{lone_state}
-use Rattle.region_states.proofs.lone.Lone.{all_empty}
+use Rattle.host_states.specs.LoneStates.{lone_state}
+use Rattle.host_states.proofs.lone.Lone.{all_empty}
 
 is_same : (n t : ℕ) → n ≡ t → (n == t) ≡ true
 is_same n t same = (Decides-eqb n t).1 same

@@ -1,5 +1,5 @@
 ghost use Rattle.std.specs.Prelude.{◌≡◌, IfOk};
-ghost use Rattle.region_states.specs.LoneStates.{lone_state};
+ghost use Rattle.host_states.specs.LoneStates.{lone_state};
 
 use edm_types::{Entity, EntityModel};
 use emc_base::{Memory, SetId};

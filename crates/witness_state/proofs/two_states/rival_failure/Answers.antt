@@ -1,6 +1,6 @@
 use Rattle.std.proofs.Common.{ap, ◌∙◌}
 use Rattle.cells.specs.Parts.{schema_in}
-use Rattle.region_states.specs.LoneStates.{lone_state}
+use Rattle.host_states.specs.LoneStates.{lone_state}
 use Rattle.witness_state.proofs.Shown.{shown_is}
 use Rattle.witness_state.proofs.TwoStates.{rivals_are, set_of, set_within}
 use Rattle.witness_state.proofs.two_states.rival_failure.Goals as goal

@@ -9,7 +9,7 @@ use Rattle.emc_base.proofs.Lists.{only_member, only_stands}
 use Rattle.emc_base.proofs.Numbered.{numbered_at}
 use Rattle.round_trip.specs.Words.{SetId, EntityModel, EntitySet, Entity, At, entities_in}
 use Rattle.schema_laws.proofs.state_demand.lists.Lists.{none_in_nil}
-use Rattle.region_states.specs.LoneStates.{HasOneAtMost, empty_state, lone_state}
+use Rattle.host_states.specs.LoneStates.{HasOneAtMost, empty_state, lone_state}
 
 abbrev no_items : {X Y : Type 0} → X → List Y
 no_items x = []

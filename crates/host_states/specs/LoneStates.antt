@@ -8,10 +8,6 @@ use Rattle.regions.specs.Basis.{Basis}
 use Rattle.regions.specs.Patterns.{Valuation}
 use Rattle.region_states.specs.Entities.{focus_entity}
 
--- no association set is declared
-abbrev pub HasNoAssociationSets : EntityModel → Type 0
-HasNoAssociationSets model = model.assocs ≡ []
-
 -- no entity and no link
 abbrev pub empty_state : EntityModel → State
 empty_state model = record { entities = map (λ set. []) model.sets; links = map (λ assoc. []) model.assocs }
