@@ -41,8 +41,14 @@ module _ (basis : Basis) (is : IsBasis basis) (s : SetId) (region : Region) (lis
     rows_by None none = absurd (of_set.finds.none entity links none region listed holds)
     rows_by (Some place) found =
         let other = of_set.finds.found entity links place found in
-        let one : other.0 ≡ region = region_only basis is s entity links other.0 (contains_at (regions_of basis s) place other.0 other.1) other.2
-        ∙ sym (region_only basis is s entity links region listed holds) in
+        let one : other.0 ≡ region = region_only basis is (record {
+          s = s;
+          region = other.0;
+          entity = entity;
+          links = links;
+          listed = contains_at (regions_of basis s) place other.0 other.1;
+          holds = other.2;
+        }) ∙ sym (region_only basis is (record { s = s; region = region; entity = entity; links = links; listed = listed; holds = holds })) in
         let there : slice_get view.rows place ≡ Some (rows_of_region basis other.0) = ap (λ rows. slice_get rows place) of_set.rows
         ∙ slice_get-map (rows_of_region basis) (regions_of basis s) place ∙ ap (option_map (rows_of_region basis)) other.1 in
         ap (λ (found : Option (List ViewRow)). unwrap_or found []) there ∙ ap (rows_of_region basis) one

@@ -140,7 +140,14 @@ module _ (basis : Basis) (is : IsBasis basis) (entity : Entity) (links : List Ho
     holds_equal region has holds =
         let typed : nat_cmp region.ty.index entity.ty.index ≡ Equal =
         sym (nat_cmp_is region.ty.index entity.ty.index Equal (sym (ap (λ (t : TypeId). t.index) holds.typed))) in
-        let own : region.atoms ≡ map (atom_in basis entity) (tested_props basis entity.ty) = ap (λ (r : Region). r.atoms) (region_only basis is s entity links region has holds) in
+        let own : region.atoms ≡ map (atom_in basis entity) (tested_props basis entity.ty) = ap (λ (r : Region). r.atoms) (region_only basis is (record {
+          s = s;
+          region = region;
+          entity = entity;
+          links = links;
+          listed = has;
+          holds = holds;
+        })) in
         let atoms : all_cmp (told_cmp basis entity) region.atoms ≡ Equal = ap (all_cmp (told_cmp basis entity)) own ∙ own_atoms (tested_props basis entity.ty) in
         let flags : all_cmp (host_cmp basis links region.linked) (basis.hosts region.set) ≡ Equal =
         (Equal-is (all_cmp (host_cmp basis links region.linked) (basis.hosts region.set))).0

@@ -1,6 +1,6 @@
 -- Lists of choices, made by choosing further; and the parts of a region as they are told.
 -- Source: this project's; the cells by which the mapping compiler of Melnik, Adya and Bernstein, SIGMOD 2007, divides entities.
-use Rattle.std.specs.Prelude.{◌++◌, List, [], ◌∷◌, map, flat_map}
+use Rattle.std.specs.Prelude.{◌++◌, List, map, flat_map}
 use Rattle.round_trip.specs.Words.{SetId, TypeId, PropId, AssocId}
 use Rattle.condition_logic.specs.declared.atoms.Atom.{Atom}
 use Rattle.condition_logic.specs.declared.atoms.AtomOf.{AtomOf}

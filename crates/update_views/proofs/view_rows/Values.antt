@@ -1,23 +1,19 @@
 -- The rows of a region hold the values of an entity with the keys of its partners, and the row of an association those of a link.
-use Rattle.std.proofs.Common.{◌≡◌, ◌==◌, ◌∙◌, refl, sym, ap, subst, ℕ, suc, ◌+◌, arith, cond, nat_lt, not, length, List, [], ◌∷◌, map, find, position, slice_get, unwrap_or, Option, Some, None, option_map, option_and_then, Bool, true, false, if◌then◌else◌}
+use Rattle.std.proofs.Common.{◌≡◌, ◌==◌, ◌∙◌, refl, sym, ap, ℕ, suc, ◌+◌, arith, cond, nat_lt, not, length, List, [], ◌∷◌, map, find, position, slice_get, unwrap_or, Option, Some, None, option_map, option_and_then, Bool, true, false, if◌then◌else◌}
 use Rattle.std.specs.List.{position_or_len}
 use Rattle.std.proofs.lemmas.Bool.Decides.{nat_tests}
 use Rattle.std.specs.Option.{option_map_or}
-use Rattle.round_trip.specs.Words.{TypeId, PropId, AssocId, Value, Null, EntityModel, Assoc, Entity, Hosted, Link, key_props, props_of, value_beside, value_of}
-use Rattle.table_files.specs.declared.tables.TableRow.{TableRow}
-use Rattle.regions.specs.declared.region.Region.{Region}
+use Rattle.round_trip.specs.Words.{PropId, AssocId, Value, Null, EntityModel, Assoc, Entity, Hosted, Link, key_props, props_of, value_beside}
 use Rattle.regions.specs.declared.pattern.Symbol.{Symbol}
 use Rattle.regions.specs.declared.pattern.Symbol.TheVariants as symbol
 use Rattle.regions.specs.declared.pattern.PatternRow.{PatternRow}
 use Rattle.regions.specs.Patterns.{by_entity, by_link}
 use Rattle.regions.specs.region_laws.pattern.Allowed.{end_at, partner_parts}
 use Rattle.regions.specs.region_laws.pattern.Described.{row_for, value_in}
-use Rattle.update_views.specs.declared.view_rows.view_cells.ViewCell.{ViewCell}
 use Rattle.update_views.specs.declared.view_rows.view_cells.ViewCell.TheVariants as cell
-use Rattle.update_views.specs.declared.view_rows.link_cells.LinkCell.{LinkCell}
 use Rattle.update_views.specs.declared.view_rows.link_cells.LinkCell.TheVariants as link
 use Rattle.update_views.specs.view_rows.Held.{held_by_entity, held_by_link, part_held, row_by_entity, row_by_link}
-use Rattle.update_views.specs.view_rows.Made.{cell_of, end_cell, link_cell_of, link_row_of, link_symbol_cell, own_cell, row_of, symbol_cell}
+use Rattle.update_views.specs.view_rows.Made.{cell_of, end_cell, link_cell_of, link_row_of, link_symbol_cell, row_of, symbol_cell}
 
 -- a number that may be told, and the next
 next_of : (n : ℕ) (told : Bool) → cond told (Some (1 + n)) None ≡ option_map suc (cond told (Some n) None)

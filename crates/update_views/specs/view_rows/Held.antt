@@ -1,6 +1,6 @@
 -- The values that the cells of a view's rows hold.
 -- Source: the update views of Melnik, Adya and Bernstein, SIGMOD 2007.
-use Rattle.std.specs.Prelude.{◌==◌, ℕ, List, map, find, slice_get, unwrap_or, Bool, Option, option_and_then, if◌then◌else◌}
+use Rattle.std.specs.Prelude.{◌==◌, ℕ, List, map, find, slice_get, unwrap_or, Option, option_and_then, if◌then◌else◌}
 use Rattle.round_trip.specs.Words.{AssocId, Value, Null, Entity, Hosted, Link}
 use Rattle.table_files.specs.declared.tables.TableRow.{TableRow}
 use Rattle.update_views.specs.declared.view_rows.view_cells.ViewCell.{ViewCell}
