@@ -5,3 +5,4 @@ pub mod BaseLinks
 pub mod BaseValues
 pub mod BaseFor
 pub mod OuterRow
+pub mod Stated
