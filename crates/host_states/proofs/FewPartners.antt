@@ -165,11 +165,14 @@ module _ (basis : Basis) (is : IsBasis basis) (limits : IsWithinLimits basis.sch
         let of_pair = All-contains (HasPairIds basis.schema by.fragment.table) (by.fragment.first ++ by.fragment.second) pair.0 ids.pairs
         (among_pairs model by.fragment the_assoc (not host.first_hosts) pair.0 pair.1) in
         let table = item_at basis.schema.store.tables by.fragment.table.index ids.table in
-        let found = item_at (columns_of basis.schema.store by.fragment.table) pair.0.col.index of_pair.1 in
-        (table.0, found.0, record {
-          is_table = table.1;
-          is_column = subst (λ cols. At cols pair.0.col.index found.0) (columns_are basis.schema.store by.fragment.table table.0 table.1) found.1;
-        })
+        let found = item_at (columns_of basis.schema.store by.fragment.table) pair.0.col.index of_pair.1 in (
+          table.0,
+          found.0,
+          record {
+            is_table = table.1;
+            is_column = subst (λ cols. At cols pair.0.col.index found.0) (columns_are basis.schema.store by.fragment.table table.0 table.1) found.1;
+          },
+        )
 
     -- holds the keys of both partners
     abbrev told : Link → Value

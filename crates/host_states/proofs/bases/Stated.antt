@@ -34,11 +34,14 @@ module _ (basis : Basis) (is : IsBasis basis) (at : HeldEntity basis) where
       let set = set_there model at.state at.legal.shape at.s entity at.of_region.stands in
       let kept = at.legal.sets at.s set.0 set.1 in
       let nulls : HasAllowedNulls model entity = All-contains (HasAllowedNulls model) (entities_in at.state at.s) entity kept.nulls at.of_region.stands in
-      let domains : HasValuesInDomain model entity = All-contains (HasValuesInDomain model) (entities_in at.state at.s) entity kept.domains at.of_region.stands in
-      (key.declared, key.is_declared, ⊎_elim
-      (λ (null : value_of model entity p ≡ Null). absurd (true≢false (sym (nulls p key.declared has null) ∙ key.needed)))
-      (λ (inside : InDomain (value_of model entity p) key.declared.kind). inside)
-      (domains p key.declared has))
+      let domains : HasValuesInDomain model entity = All-contains (HasValuesInDomain model) (entities_in at.state at.s) entity kept.domains at.of_region.stands in (
+        key.declared,
+        key.is_declared,
+        ⊎_elim
+            (λ (null : value_of model entity p ≡ Null). absurd (true≢false (sym (nulls p key.declared has null) ∙ key.needed)))
+            (λ (inside : InDomain (value_of model entity p) key.declared.kind). inside)
+            (domains p key.declared has),
+      )
 
   pub key_stated : ((p : PropId) → Contains (key_props model at.region.ty) p → IsDependent model p → IsShort (value_of model at.entity p)) → IsStatedKey basis at.region (key_of model at.entity)
   key_stated short = record {
