@@ -1,9 +1,9 @@
 -- Failures in small parts of a state: where it fails at a row, the part that the writers of this row need fails too.
 -- Source: the round-trip criterion of Melnik, Adya and Bernstein, SIGMOD 2007, part by part; this project's choice of the states that it shows.
-use Rattle.std.specs.Prelude.{◌≡◌, List, [], ◌∷◌, ◌++◌, map, filter, flat_map, slice_get, Bool, true, false, Contains}
+use Rattle.std.specs.Prelude.{◌≡◌, ◌⊎◌, List, [], ◌∷◌, ◌++◌, map, filter, flat_map, slice_get, Bool, true, false, Contains}
 use Rattle.std.specs.Option.{option_map_or}
-use Rattle.round_trip.specs.Words.{TableId, Value, Assoc, Entity, Fragment, LinkFragment, Link, Place, Schema, State, At, entities_in, links_in, row_key, written_key}
-use Rattle.round_trip.specs.FailsAt.{Clashes, Dangles, Disagrees, FailsAt, LeavesNull}
+use Rattle.round_trip.specs.Words.{TableId, Value, Assoc, Entity, Fragment, LinkFragment, Link, Place, Row, Schema, State, Table, Tables, At, entities_in, links_in, place_at, row_key, rows_in, written_key}
+use Rattle.round_trip.specs.FailsAt.{Clashes, Dangles, Disagrees, FailsAt, LeavesNull, element_of, key_in_tuple, keys_in_tuple}
 use Rattle.round_trip.specs.declared.FailKind.TheVariants as kind
 use Rattle.schema_laws.specs.state_demand.MadeTables.{is_to_row}
 use Rattle.schema_laws.specs.state_demand.Writings.{entity_writing, link_writing}
@@ -59,9 +59,22 @@ pub record IsLinkWriter (schema : Schema) (state : State) (t : TableId) (key : L
   pub first : Bool
   pub is : placed ≡ key_at_end first assoc link
 
+-- the place is that of a fragment to the table, and the tables have a row of this key there
+pub record IsDisagreeingRow (schema : Schema) (tables : Tables) (tuple : List Value) (place : Place) (t : TableId) (key : List Value) : Type 0 where
+  pub of_fragment : ((fragment : Fragment) × Contains schema.mapping.fragments fragment × (fragment.table ≡ t)
+      × (place ≡ place_at fragment.place (key_in_tuple schema.model (element_of schema.model fragment.set) fragment.pairs tuple) []))
+      ⊎ ((fragment : LinkFragment) × (assoc : Assoc) × Contains schema.mapping.links fragment × At schema.model.assocs fragment.assoc.index assoc × (fragment.table ≡ t)
+      × (place ≡ place_at fragment.place (keys_in_tuple schema.model assoc fragment tuple) []))
+  pub table : Table
+  pub is_table : At schema.store.tables t.index table
+  pub row : Row
+  pub stands : Contains (rows_in tables t) row
+  pub keyed : row_key table row ≡ key
+
 -- where the state fails at a place, the part that the writers of one row need is legal and fails at this place by the same kind
 pub record FailsInRows (schema : Schema) (state : State) (place : Place) (other : State) : Type 0 where
   pub clash : (fails : Clashes schema state place) → FailsAt schema kind.Clash place (row_state schema state fails.t fails.key) other
   pub null : (fails : LeavesNull schema state place) → FailsAt schema kind.Null place (row_state schema state fails.t fails.key) other
-  pub disagrees : Disagrees schema state place → (t : TableId) × (key : List Value) × FailsAt schema kind.Disagrees place (row_state schema state t key) other
+  pub disagrees : (fails : Disagrees schema state place) → (t : TableId) × (key : List Value) × IsDisagreeingRow schema fails.tables fails.tuple place t key
+      × FailsAt schema kind.Disagrees place (row_state schema state t key) other
   pub dangling : (fails : Dangles schema state place) → FailsAt schema kind.Dangling place (row_state schema state fails.key.from (row_key fails.table fails.row)) other

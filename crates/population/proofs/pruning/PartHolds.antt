@@ -18,7 +18,7 @@ use Rattle.schema_laws.proofs.state_demand.lists.Lists.{any_of, of_any}
 use Rattle.schema_laws.proofs.state_demand.lists.Places.{agree_by_map, map_agree}
 use Rattle.schema_laws.proofs.state_demand.tables.ReadBack.{cells_demanded, row_demanded, rows_demanded}
 use Rattle.schema_laws.proofs.state_demand.tables.SameTables.{same_row}
-use Rattle.population.specs.RowStates.{FailsInRows, row_state}
+use Rattle.population.specs.RowStates.{FailsInRows, IsDisagreeingRow, row_state}
 use Rattle.population.proofs.pruning.RowStates.{demands_cell_still, demands_cell_too, demands_row_still, demands_row_too, entity_stays, entity_stood, legal_part, link_stays, link_stood, no_clash_left}
 
 -- one of the two is so and the other isn't, also where the first is said in another way
@@ -136,12 +136,12 @@ module _ (schema : Schema) (sound : IsSoundSchema schema) (state : State) (legal
       }
 
   -- the part in which a disagreement stands
-  abbrev StillDisagrees : Place → Type 0
-  StillDisagrees place = (t : TableId) × (key : List Value) × Disagrees schema (row_state schema state t key) place
+  abbrev StillDisagrees : Tables → List Value → Place → Type 0
+  StillDisagrees tables tuple place = (t : TableId) × (key : List Value) × IsDisagreeingRow schema tables tuple place t key × Disagrees schema (row_state schema state t key) place
 
   module _ (tables : Tables) (are : TablesAre schema state tables) (tuple : List Value) where
     at_entity : (fragment : Fragment) → Contains schema.mapping.fragments fragment → IsInOneOnly (IsWrittenTuple schema state fragment) (IsShownTuple tables fragment) tuple
-        → StillDisagrees (place_at fragment.place (key_in_tuple schema.model (element_of schema.model fragment.set) fragment.pairs tuple) [])
+        → StillDisagrees tables tuple (place_at fragment.place (key_in_tuple schema.model (element_of schema.model fragment.set) fragment.pairs tuple) [])
     at_entity fragment mapped only =
         let Here : Fragment → Type 0 = λ one. (table : Table) × At schema.store.tables one.table.index table in
         let held = All-contains Here schema.mapping.fragments fragment (has_tables schema sound).fragments mapped in
@@ -161,6 +161,7 @@ module _ (schema : Schema) (sound : IsSoundSchema schema) (state : State) (legal
         } in (
           t,
           key,
+          record { of_fragment = inl (fragment, mapped, refl, refl); table = table; is_table = held.1; row = row; stands = at.1; keyed = refl },
           record {
             tables = part_tables t key tables are;
             defined = part_are t key tables are;
@@ -177,7 +178,7 @@ module _ (schema : Schema) (sound : IsSoundSchema schema) (state : State) (legal
 
     at_link : (fragment : LinkFragment) (assoc : Assoc) → Contains schema.mapping.links fragment → At schema.model.assocs fragment.assoc.index assoc
         → IsInOneOnly (IsWrittenLinkTuple schema state fragment) (IsShownLinkTuple tables fragment) tuple
-        → StillDisagrees (place_at fragment.place (keys_in_tuple schema.model assoc fragment tuple) [])
+        → StillDisagrees tables tuple (place_at fragment.place (keys_in_tuple schema.model assoc fragment tuple) [])
     at_link fragment assoc mapped is_assoc only =
         let Here : LinkFragment → Type 0 = λ one. (table : Table) × At schema.store.tables one.table.index table in
         let held = All-contains Here schema.mapping.links fragment (has_tables schema sound).links mapped in
@@ -204,6 +205,7 @@ module _ (schema : Schema) (sound : IsSoundSchema schema) (state : State) (legal
         } in (
           t,
           key,
+          record { of_fragment = inr (fragment, assoc, mapped, is_assoc, refl, refl); table = table; is_table = held.1; row = row; stands = at.1; keyed = refl },
           record {
             tables = part_tables t key tables are;
             defined = part_are t key tables are;
@@ -231,19 +233,19 @@ module _ (schema : Schema) (sound : IsSoundSchema schema) (state : State) (legal
       × IsInOneOnly (IsWrittenLinkTuple schema state fragment) (IsShownLinkTuple tables fragment) tuple
       × (place ≡ place_at fragment.place (keys_in_tuple schema.model assoc fragment tuple) [])
 
-  disagreement_stays : (place : Place) → Disagrees schema state place → StillDisagrees place
+  disagreement_stays : (place : Place) (fails : Disagrees schema state place) → StillDisagrees fails.tables fails.tuple place
   disagreement_stays place fails = by fails.broken
     where
-      by : ByEntity fails.tables fails.tuple place ⊎ ByLink fails.tables fails.tuple place → StillDisagrees place
-      by (inl (fragment, mapped, only, is)) = subst StillDisagrees (sym is) (at_entity fails.tables fails.defined fails.tuple fragment mapped only)
-      by (inr (fragment, assoc, mapped, is_assoc, only, is)) = subst StillDisagrees (sym is) (at_link fails.tables fails.defined fails.tuple fragment assoc mapped is_assoc only)
+      by : ByEntity fails.tables fails.tuple place ⊎ ByLink fails.tables fails.tuple place → StillDisagrees fails.tables fails.tuple place
+      by (inl (fragment, mapped, only, is)) = subst (StillDisagrees fails.tables fails.tuple) (sym is) (at_entity fails.tables fails.defined fails.tuple fragment mapped only)
+      by (inr (fragment, assoc, mapped, is_assoc, only, is)) = subst (StillDisagrees fails.tables fails.tuple) (sym is) (at_link fails.tables fails.defined fails.tuple fragment assoc mapped is_assoc only)
 
   pub fails_in_rows : (place : Place) (other : State) → FailsInRows schema state place other
   fails_in_rows place other = record {
     clash = λ fails. record { legal = legal_part schema state fails.t fails.key sound legal; fails = clash_stays place fails };
     null = λ fails. record { legal = legal_part schema state fails.t fails.key sound legal; fails = null_stays place fails };
     disagrees = λ fails. let still = disagreement_stays place fails in
-        (still.0, still.1, record { legal = legal_part schema state still.0 still.1 sound legal; fails = still.2 });
+        (still.0, still.1, still.2, record { legal = legal_part schema state still.0 still.1 sound legal; fails = still.3 });
     dangling = λ fails. record {
       legal = legal_part schema state fails.key.from (row_key fails.table fails.row) sound legal;
       fails = dangling_stays place fails;
