@@ -6,11 +6,7 @@ use Rattle.std.specs.Option.{option_map_or}
 use Rattle.round_trip.specs.Words.{SetId, Value, Null, EntityModel, Assoc, Constraint, Entity, IsA, dependent_end, principal_end, key_props, value_beside, values_of}
 use Rattle.schema_laws.specs.sound_demand.Deriving.{derives}
 use Rattle.schema_laws.specs.state_demand.Selecting.{same_value}
-
--- a key in a set
-pub record PlacedKey : Type 0 where
-  pub set : SetId
-  pub key : List Value
+pub use Rattle.population.specs.declared.placed.PlacedKey.{PlacedKey}
 
 module _ (model : EntityModel) where
   -- the key of the principal of these dependent values, in the order of the principal type's key

@@ -11,16 +11,8 @@ use Rattle.schema_laws.specs.state_demand.Selecting.{same_key}
 use Rattle.population.specs.Plain.{plain}
 use Rattle.population.specs.Numbered.{all_numbered, end_number, end_of, numbered_key}
 use Rattle.population.specs.Principals.{PlacedKey}
-
--- an entity in a set
-pub record Placed : Type 0 where
-  pub set : SetId
-  pub entity : Entity
-
--- a link of an association
-pub record PlacedLink : Type 0 where
-  pub assoc : AssocId
-  pub link : Link
+pub use Rattle.population.specs.declared.placed.Placed.{Placed}
+pub use Rattle.population.specs.declared.placed.PlacedLink.{PlacedLink}
 
 -- the key at an end of a link
 abbrev pub end_key : Bool → Link → List Value

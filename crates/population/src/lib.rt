@@ -3,6 +3,7 @@
 
 mod link_states;
 mod parts;
+mod placed;
 
 ghost use Rattle.std.specs.Prelude.{◌↔◌, ℕ, List, Contains};
 ghost use Rattle.round_trip.specs.Words.{EntityModel, Entity, IsLegal, SetId, State};
@@ -17,6 +18,7 @@ pub use parts::{
     failures_stand_in_parts, legal_parts_are_closed, needed_keys_are_least, needed_parts_are_legal,
     parts_by_one_list_are_alike, parts_hold_what_is_needed,
 };
+pub use placed::{Placed, PlacedKey, PlacedLink};
 
 /// The principals that an entity asks for are computed.
 pub fn principals_are_asked_for()
