@@ -8,3 +8,4 @@ pub mod Support
 pub mod Kept
 pub mod RowStates
 pub mod LinkStates
+pub mod Made

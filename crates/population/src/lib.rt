@@ -16,9 +16,9 @@ ghost use Rattle.population.specs.Supported.{Placed, PlacedLink, supported};
 pub use link_states::links_can_stand;
 pub use parts::{
     failures_stand_in_parts, legal_parts_are_closed, needed_keys_are_least, needed_parts_are_legal,
-    parts_by_one_list_are_alike, parts_hold_what_is_needed,
+    parts_by_one_list_are_alike, parts_hold_what_is_needed, supported_parts_are_made,
 };
-pub use placed::{Placed, PlacedKey, PlacedLink};
+pub use placed::{Placed, PlacedKey, PlacedLink, Supporting};
 
 /// The principals that an entity asks for are computed.
 pub fn principals_are_asked_for()

@@ -1,5 +1,5 @@
 use edm_types::{Entity, Link};
-use emc_base::{AssocId, Key, SetId};
+use emc_base::{AssocId, Key, Seq, SetId};
 
 /// An entity in a set.
 #[derive(Drop)]
@@ -21,4 +21,12 @@ pub struct PlacedKey {
 pub struct PlacedLink {
     pub assoc: AssocId,
     pub link: Link,
+}
+
+/// What a supported state is made of: given entities and links, and the keys at which plain entities support them.
+#[derive(Drop)]
+pub struct Supporting {
+    pub given: Seq<Placed>,
+    pub keys: Seq<PlacedKey>,
+    pub links: Seq<PlacedLink>,
 }
