@@ -8,17 +8,12 @@ use Rattle.regions.specs.declared.region.Region.{Region}
 use Rattle.regions.specs.Basis.{Basis, Host, partner_end}
 use Rattle.regions.specs.Patterns.{Valuation}
 use Rattle.regions.specs.Symbols.{is_linked}
+use Rattle.region_states.specs.conflicts.Facts.{is_many}
 use Rattle.region_states.specs.Entities.{focus_entity}
 use Rattle.population.specs.Plain.{plain}
 use Rattle.population.specs.Principals.{PlacedKey, principals}
 use Rattle.population.specs.Supported.{Placed, PlacedLink, link_of, supported}
 use Rattle.population.specs.Support.{support}
-
--- the multiplicity is `*`
-abbrev pub is_many : Mult → Bool
-is_many One = false
-is_many ZeroOrOne = false
-is_many Many = true
 
 module _ (basis : Basis) where
   -- what is made of a hosted association

@@ -35,7 +35,8 @@ use Rattle.population.proofs.supporting.Entities.{differ, links_are}
 use Rattle.population.proofs.supporting.Links.{IsAdded, added_far, added_near, covered, far_key, is_added, linked_is, near_key, none_own}
 use Rattle.population.proofs.plain.Numbered.{end_within, sound_end}
 use Rattle.host_states.specs.BaseStates.{IsAskedLink, IsOwnLink, NoOtherLink}
-use Rattle.host_states.specs.FocusStates.{few_hosts, given_by, has_few, is_many, link_to, linked_hosts, links_by, state_by, told_key, wanted_by}
+use Rattle.region_states.specs.conflicts.Facts.{is_many}
+use Rattle.host_states.specs.FocusStates.{few_hosts, given_by, has_few, link_to, linked_hosts, links_by, state_by, told_key, wanted_by}
 use Rattle.host_states.proofs.bases.Clear.{IsClear, number_clear}
 use Rattle.host_states.proofs.focus.Focus.{IsMade, in_set, numbers}
 use Rattle.host_states.proofs.focus.FocusHeld.{link_stands, none_but_asked, one_not_free, the_link}

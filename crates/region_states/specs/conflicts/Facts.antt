@@ -1,10 +1,11 @@
 -- What makes a mapping fail at a region or a link, as computed answers over its pattern.
 -- Source: this project's; the round-trip criterion of Melnik, Adya and Bernstein, SIGMOD 2007, decided over regions.
-use Rattle.std.specs.Prelude.{◌&&◌, ◌||◌, ◌==◌, ℕ, List, [], find, slice_get, Bool, false, not, if◌then◌else◌}
+use Rattle.std.specs.Prelude.{◌&&◌, ◌||◌, ◌==◌, ℕ, List, [], find, slice_get, Bool, true, false, not, if◌then◌else◌}
 use Rattle.std.specs.List.{list_any}
 use Rattle.std.specs.Option.{option_map_or}
 use Rattle.std.specs.Str.{bytes_eq}
-use Rattle.round_trip.specs.Words.{TableId, ColId, AssocId, Null, StoreModel, Fragment, LinkFragment}
+use Rattle.round_trip.specs.Words.{SetId, TableId, ColId, AssocId, Null, Assoc, Mult, StoreModel, Fragment, LinkFragment}
+use Rattle.edm_types.specs.declared.model.Mult.TheVariants.{One, ZeroOrOne, Many}
 use Rattle.schema_laws.specs.state_demand.Selecting.{same_value}
 use Rattle.regions.specs.declared.region.Region.{Region}
 use Rattle.regions.specs.declared.pattern.Symbol.{Symbol}
@@ -12,7 +13,7 @@ use Rattle.regions.specs.declared.pattern.Symbol.TheVariants as symbol
 use Rattle.regions.specs.declared.pattern.Pattern.{Pattern}
 use Rattle.regions.specs.declared.pattern.Focus.{Focus}
 use Rattle.regions.specs.declared.pattern.Focus.TheVariants as focus
-use Rattle.regions.specs.Basis.{Basis}
+use Rattle.regions.specs.Basis.{Basis, partner_end}
 use Rattle.regions.specs.Patterns.{pattern_of}
 use Rattle.regions.specs.Settled.{Possible, single, multi, possible, clashes}
 use Rattle.regions.specs.Shown.{cell_in, shows_row, shows_link_row}
@@ -39,6 +40,16 @@ is_required store t col = option_map_or (λ table. option_map_or (λ column. not
 abbrev pub can_be_null : Possible → Bool
 can_be_null (single value) = same_value value Null
 can_be_null (multi nullable) = nullable
+
+-- the multiplicity is `*`
+abbrev pub is_many : Mult → Bool
+is_many One = false
+is_many ZeroOrOne = false
+is_many Many = true
+
+-- the association has no constraint
+abbrev pub is_independent : Assoc → Bool
+is_independent assoc = option_map_or (λ constraint. false) assoc.constraint true
 
 -- whether just one of the two is so
 abbrev pub differ : Bool → Bool → Bool
@@ -94,3 +105,16 @@ module _ (basis : Basis) where
       list_any (λ fragment. bytes_eq fragment.place place && differs_at region fragment) basis.schema.mapping.fragments
       || list_any (λ fragment. bytes_eq fragment.place place && differs_at_links region fragment) basis.schema.mapping.links
   disagrees_at (focus.Link a) place = list_any (λ fragment. bytes_eq fragment.place place && hides_link a fragment) basis.schema.mapping.links
+
+  -- links of the association are hosted at the set, and an entity may have any number of partners by it
+  abbrev pub has_many_at : AssocId → Assoc → SetId → Bool
+  has_many_at a assoc s = list_any (λ host. (host.assoc.index == a.index) && is_many (partner_end host.first_hosts assoc).mult) (basis.hosts s)
+
+  -- so it is at the set of one of its ends
+  abbrev pub is_many_links : AssocId → Bool
+  is_many_links a = option_map_or (λ assoc. has_many_at a assoc assoc.first.set || has_many_at a assoc assoc.second.set) (slice_get basis.schema.model.assocs a.index) false
+
+  -- the association is independent, and no link fragment maps it
+  abbrev pub is_unmapped : AssocId → Bool
+  is_unmapped a = option_map_or (λ assoc. is_independent assoc && not (list_any (λ fragment. fragment.assoc.index == a.index) basis.schema.mapping.links))
+      (slice_get basis.schema.model.assocs a.index) false

@@ -1,4 +1,4 @@
-use emc_base::{ColId, PropId, TableId, Txt};
+use emc_base::{AssocId, ColId, PropId, TableId, Txt};
 use regions::{Focus, Region, Symbol};
 
 /// What makes some legal entity state fail.
@@ -12,6 +12,8 @@ pub enum Conflict {
         one: Symbol,
         two: Symbol,
     },
+    /// Links of the association are hosted, and an entity may have any number of partners by it: each is to stand in the same cells. Of kind `Clash`.
+    ManyLinks(AssocId),
     /// A cell of a column that isn't nullable is to hold the value of a symbol that can be null; or nothing, which is told as `Symbol::Null`.
     /// Of kind `Null`.
     NullIn {
@@ -37,4 +39,6 @@ pub enum Conflict {
         region: Region,
         prop: PropId,
     },
+    /// No link fragment maps the independent association: its links are written nowhere. Of kind `Same`.
+    Unmapped(AssocId),
 }

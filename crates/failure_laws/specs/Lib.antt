@@ -1,0 +1,4 @@
+pub mod SmallLinks
+pub mod Facts
+pub mod Witnesses
+pub mod Places
