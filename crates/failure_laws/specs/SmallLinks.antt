@@ -4,7 +4,7 @@ use Rattle.std.specs.Prelude.{ℕ, List, [], ◌∷◌, map, Bool, not}
 use Rattle.round_trip.specs.Words.{AssocId, Assoc, EntityModel, State}
 use Rattle.population.specs.Kept.{part_of}
 use Rattle.population.specs.LinkStates.{PlainEnd, at_first, at_second, key_at, link_state, other_at, two_links_state, unlinked_state}
-use Rattle.population.specs.Principals.{PlacedKey}
+use Rattle.population.specs.declared.placed.PlacedKey.{PlacedKey}
 
 module _ (model : EntityModel) (outer : ℕ) where
   -- the keys of the entities at these ends

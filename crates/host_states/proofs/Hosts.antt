@@ -5,7 +5,7 @@ use Rattle.regions.specs.declared.region.Region.{Region}
 use Rattle.regions.specs.Basis.{Basis}
 use Rattle.regions.specs.region_laws.IsBasis.{IsBasis}
 use Rattle.host_states.specs.Hosting.{HostsFocuses, HostsRivals, LeavesOut}
-use Rattle.population.specs.Principals.{PlacedKey}
+use Rattle.population.specs.declared.placed.PlacedKey.{PlacedKey}
 use Rattle.host_states.specs.FocusStates.{focus_state, given_by, leaving_states, linked_hosts, rival_states, wanted_by}
 use Rattle.host_states.proofs.focus.Focus.{HasRegion}
 use Rattle.host_states.proofs.focus.FocusHeld.{holds_focus}

@@ -15,7 +15,8 @@ use Rattle.regions.specs.Patterns.{Valuation}
 use Rattle.region_states.specs.defaults.Defaults.{default_valuation}
 use Rattle.regions.specs.region_laws.Held.{IsOfRegion}
 use Rattle.population.specs.Numbered.{end_of}
-use Rattle.population.specs.Principals.{PlacedKey, principal_by}
+use Rattle.population.specs.Principals.{principal_by}
+use Rattle.population.specs.declared.placed.PlacedKey.{PlacedKey}
 use Rattle.population.specs.Supported.{end_key}
 use Rattle.population.specs.Support.{steps}
 use Rattle.host_states.specs.FocusStates.{few_hosts, given_by, state_by, wanted_by}

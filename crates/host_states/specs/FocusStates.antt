@@ -11,8 +11,11 @@ use Rattle.regions.specs.Symbols.{is_linked}
 use Rattle.region_states.specs.conflicts.Facts.{is_many}
 use Rattle.region_states.specs.Entities.{focus_entity}
 use Rattle.population.specs.Plain.{plain}
-use Rattle.population.specs.Principals.{PlacedKey, principals}
-use Rattle.population.specs.Supported.{Placed, PlacedLink, link_of, supported}
+use Rattle.population.specs.Principals.{principals}
+use Rattle.population.specs.declared.placed.PlacedKey.{PlacedKey}
+use Rattle.population.specs.Supported.{link_of, supported}
+use Rattle.population.specs.declared.placed.Placed.{Placed}
+use Rattle.population.specs.declared.placed.PlacedLink.{PlacedLink}
 use Rattle.population.specs.Support.{support}
 
 module _ (basis : Basis) where

@@ -6,8 +6,8 @@ use Rattle.regions.specs.declared.region.Region.{Region}
 use Rattle.regions.specs.Basis.{Basis}
 use Rattle.regions.specs.Patterns.{Valuation}
 use Rattle.population.specs.Kept.{part_of}
-use Rattle.population.specs.Principals.{PlacedKey}
-use Rattle.population.specs.Supported.{Placed}
+use Rattle.population.specs.declared.placed.PlacedKey.{PlacedKey}
+use Rattle.population.specs.declared.placed.Placed.{Placed}
 use Rattle.host_states.specs.FocusStates.{focus_state, given_by, leaving_states, linked_hosts, rival_states}
 
 module _ (basis : Basis) (outer : ℕ) where

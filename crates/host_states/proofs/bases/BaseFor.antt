@@ -4,7 +4,7 @@ use Rattle.round_trip.specs.Words.{SetId, Value}
 use Rattle.regions.specs.declared.region.Region.{Region}
 use Rattle.regions.specs.Basis.{Basis, Host}
 use Rattle.regions.specs.Patterns.{Valuation}
-use Rattle.population.specs.Principals.{PlacedKey}
+use Rattle.population.specs.declared.placed.PlacedKey.{PlacedKey}
 use Rattle.region_states.specs.Entities.{focus_entity}
 use Rattle.host_states.specs.BaseStates.{IsBaseFor, IsOuterKey, IsStatedKey, base_state, keyed_values}
 use Rattle.host_states.specs.FocusStates.{few_hosts, given_by, wanted_by}

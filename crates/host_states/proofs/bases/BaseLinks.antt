@@ -27,9 +27,11 @@ use Rattle.regions.specs.region_laws.Held.{IsOfRegion}
 use Rattle.region_states.proofs.Entities.{atoms_lie}
 use Rattle.population.specs.Given.{HasNumbers}
 use Rattle.population.specs.Numbered.{end_number, end_of, numbered_key}
-use Rattle.population.specs.Principals.{PlacedKey}
+use Rattle.population.specs.declared.placed.PlacedKey.{PlacedKey}
 use Rattle.population.specs.Support.{support}
-use Rattle.population.specs.Supported.{Placed, PlacedLink, added_at, all_links, end_key, is_none, links_of, stands_in}
+use Rattle.population.specs.Supported.{added_at, all_links, end_key, is_none, links_of, stands_in}
+use Rattle.population.specs.declared.placed.Placed.{Placed}
+use Rattle.population.specs.declared.placed.PlacedLink.{PlacedLink}
 use Rattle.population.proofs.supporting.Ends.{link_from}
 use Rattle.population.proofs.supporting.Entities.{differ, links_are}
 use Rattle.population.proofs.supporting.Links.{IsAdded, added_far, added_near, covered, far_key, is_added, linked_is, near_key, none_own}

@@ -18,7 +18,8 @@ use Rattle.schema_laws.proofs.state_demand.writings.Decisions.{so_or_not}
 use Rattle.population.specs.Given.{HasNumbers}
 use Rattle.population.specs.Numbered.{number_count, numbered_key}
 use Rattle.population.specs.Plain.{first_concrete, plain}
-use Rattle.population.specs.Principals.{AsksFor, PlacedKey}
+use Rattle.population.specs.Principals.{AsksFor}
+use Rattle.population.specs.declared.placed.PlacedKey.{PlacedKey}
 use Rattle.population.specs.Support.{steps}
 use Rattle.population.proofs.supporting.Arrows.{step_from}
 use Rattle.population.proofs.principals.Matched.{IsMatched, part_matched, sound_constraint}

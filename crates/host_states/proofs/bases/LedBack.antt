@@ -13,9 +13,11 @@ use Rattle.region_states.specs.Entities.{focus_entity}
 use Rattle.population.specs.Given.{HasNumbers}
 use Rattle.population.specs.Numbered.{number_count, numbered_key}
 use Rattle.population.specs.Plain.{plain}
-use Rattle.population.specs.Principals.{AsksFor, PlacedKey, principal_by, principals}
+use Rattle.population.specs.Principals.{AsksFor, principal_by, principals}
+use Rattle.population.specs.declared.placed.PlacedKey.{PlacedKey}
 use Rattle.population.specs.Support.{IsTaken, is_taken, steps, support}
-use Rattle.population.specs.Supported.{Placed, given_in}
+use Rattle.population.specs.Supported.{given_in}
+use Rattle.population.specs.declared.placed.Placed.{Placed}
 use Rattle.population.proofs.supporting.Arrows.{step_from}
 use Rattle.population.proofs.principals.Asked.{of_asked}
 use Rattle.population.proofs.supporting.Ends.{given_from}

@@ -26,9 +26,11 @@ use Rattle.region_states.proofs.Entities.{has_value}
 use Rattle.population.specs.Given.{HasNumbers}
 use Rattle.population.specs.Numbered.{number_count, numbered_key}
 use Rattle.population.specs.Plain.{plain}
-use Rattle.population.specs.Principals.{AsksFor, PlacedKey, principal_by, principal_key, principals}
+use Rattle.population.specs.Principals.{AsksFor, principal_by, principal_key, principals}
+use Rattle.population.specs.declared.placed.PlacedKey.{PlacedKey}
 use Rattle.population.specs.Support.{steps, support}
-use Rattle.population.specs.Supported.{Placed, stands_in}
+use Rattle.population.specs.Supported.{stands_in}
+use Rattle.population.specs.declared.placed.Placed.{Placed}
 use Rattle.population.proofs.supporting.Arrows.{leads_then, step_arrow}
 use Rattle.population.proofs.principals.Asked.{asked_of, of_asked}
 use Rattle.population.proofs.supporting.Ends.{given_from}

@@ -42,8 +42,10 @@ use Rattle.region_states.proofs.Entities.{carried, has_value}
 use Rattle.population.specs.Given.{AreGiven, AreWanted, HasNumbers, HasShortParts, IsShortFor, StandsWell}
 use Rattle.population.specs.Numbered.{number_count, numbered_key, twice}
 use Rattle.population.specs.Plain.{plain}
-use Rattle.population.specs.Principals.{AsksFor, PlacedKey, principals}
-use Rattle.population.specs.Supported.{Placed, given_in}
+use Rattle.population.specs.Principals.{AsksFor, principals}
+use Rattle.population.specs.declared.placed.PlacedKey.{PlacedKey}
+use Rattle.population.specs.Supported.{given_in}
+use Rattle.population.specs.declared.placed.Placed.{Placed}
 use Rattle.population.proofs.principals.Asked.{asked_of}
 use Rattle.population.proofs.supporting.Ends.{given_from, given_pairs, place_small}
 use Rattle.population.proofs.plain.Numbered.{made_once, made_short, number_small, set_key_is, some_part, twice_is}

@@ -22,7 +22,7 @@ use Rattle.regions.proofs.region_laws.lists.Found.{filter_none, filter_one}
 use Rattle.region_states.specs.Entities.{focus_entity}
 use Rattle.region_states.specs.HoldsFocus.{HoldsFocus}
 use Rattle.population.specs.Numbered.{end_of}
-use Rattle.population.specs.Principals.{PlacedKey}
+use Rattle.population.specs.declared.placed.PlacedKey.{PlacedKey}
 use Rattle.population.specs.Supported.{end_key, links_of}
 use Rattle.population.proofs.supporting.Links.{IsAdded, far_key, near_key}
 use Rattle.population.proofs.plain.Lists.{most_one}

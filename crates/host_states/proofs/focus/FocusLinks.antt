@@ -22,9 +22,11 @@ use Rattle.region_states.specs.defaults.Admissible.{IsAdmissible}
 use Rattle.region_states.specs.Entities.{focus_entity}
 use Rattle.population.specs.Given.{AreGiven, AreKeys, AreLinked, HasShortParts, StandsAtEnd}
 use Rattle.population.specs.Numbered.{end_number, end_of, number_count, numbered_key}
-use Rattle.population.specs.Principals.{PlacedKey}
+use Rattle.population.specs.declared.placed.PlacedKey.{PlacedKey}
 use Rattle.population.specs.Support.{support}
-use Rattle.population.specs.Supported.{Placed, PlacedLink, added_at, end_key, given_in, links_of, stands_in}
+use Rattle.population.specs.Supported.{added_at, end_key, given_in, links_of, stands_in}
+use Rattle.population.specs.declared.placed.Placed.{Placed}
+use Rattle.population.specs.declared.placed.PlacedLink.{PlacedLink}
 use Rattle.population.proofs.supporting.Ends.{from_given, from_link, link_from, link_pairs}
 use Rattle.population.proofs.supporting.Entities.{differ, entities_are, given_stands, links_are}
 use Rattle.population.proofs.supporting.Legal.{supported_legal}

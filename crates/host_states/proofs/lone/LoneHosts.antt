@@ -20,8 +20,8 @@ use Rattle.region_states.specs.HoldsFocus.{HoldsFocus}
 use Rattle.region_states.specs.NoAssociations.{HasNoAssociationSets}
 use Rattle.host_states.specs.LoneStates.{empty_state, lone_focus}
 use Rattle.region_states.proofs.NoAssociations.{no_host}
-use Rattle.population.specs.Principals.{PlacedKey}
-use Rattle.population.specs.Supported.{Placed}
+use Rattle.population.specs.declared.placed.PlacedKey.{PlacedKey}
+use Rattle.population.specs.declared.placed.Placed.{Placed}
 use Rattle.host_states.specs.FocusStates.{by_assoc, focus, focus_state, given_by, leaving_states, linked_hosts, partner_of, rival_states}
 use Rattle.host_states.specs.SmallStates.{key_of_placed, roots_of, small_focus, small_leaving, small_rivals}
 use Rattle.host_states.proofs.Hosts.{states_host, states_leave, states_rival}

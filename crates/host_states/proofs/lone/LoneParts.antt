@@ -20,8 +20,9 @@ use Rattle.region_states.specs.NoAssociations.{HasNoAssociationSets}
 use Rattle.host_states.specs.LoneStates.{empty_state, lone_state}
 use Rattle.region_states.proofs.NoAssociations.{no_host}
 use Rattle.population.specs.Kept.{HoldsNeeds, is_needed, key_in, kept_in, kept_links, needed_keys, needs, needs_in, part_of, partners_at}
-use Rattle.population.specs.Principals.{PlacedKey, principals}
-use Rattle.population.specs.Supported.{Placed}
+use Rattle.population.specs.Principals.{principals}
+use Rattle.population.specs.declared.placed.PlacedKey.{PlacedKey}
+use Rattle.population.specs.declared.placed.Placed.{Placed}
 use Rattle.population.proofs.plain.Lists.{most_one}
 use Rattle.population.proofs.plain.Placed.{set_there}
 use Rattle.population.proofs.pruning.Needed.{Decides-needed, needed_least, root_needed}

@@ -6,9 +6,10 @@ use Rattle.schema_laws.specs.short_values.Numbers.{numbers_from}
 use Rattle.schema_laws.specs.state_demand.MadeTables.{distinct}
 use Rattle.schema_laws.specs.state_demand.Selecting.{same_key}
 use Rattle.population.specs.Numbered.{number_count, numbered_key}
-use Rattle.population.specs.Principals.{PlacedKey}
+use Rattle.population.specs.declared.placed.PlacedKey.{PlacedKey}
 use Rattle.population.specs.Support.{free_keys, is_taken, levels, same_placed, steps, support}
-use Rattle.population.specs.Supported.{Placed, given_in}
+use Rattle.population.specs.Supported.{given_in}
+use Rattle.population.specs.declared.placed.Placed.{Placed}
 
 -- filters by the same test
 filter_agree : {X : Type 0} (p q : X → Bool) → ((x : X) → p x ≡ q x) → (xs : List X) → filter p xs ≡ filter q xs

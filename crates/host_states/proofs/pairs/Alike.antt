@@ -25,8 +25,10 @@ use Rattle.regions.proofs.region_laws.pattern.symbols.Origins.{side}
 use Rattle.host_states.specs.Hosting.{HaveFewPartners}
 use Rattle.population.specs.Numbered.{end_number, end_of, numbered, numbered_key}
 use Rattle.population.specs.Plain.{plain}
-use Rattle.population.specs.Principals.{PlacedKey}
-use Rattle.population.specs.Supported.{Placed, PlacedLink, added_at, added_link, end_key, given_in, keys_in, lacks_link, links_of, stands_in, supported}
+use Rattle.population.specs.declared.placed.PlacedKey.{PlacedKey}
+use Rattle.population.specs.Supported.{added_at, added_link, end_key, given_in, keys_in, lacks_link, links_of, stands_in, supported}
+use Rattle.population.specs.declared.placed.Placed.{Placed}
+use Rattle.population.specs.declared.placed.PlacedLink.{PlacedLink}
 use Rattle.population.proofs.supporting.Entities.{entities_are, given_stands, key_stands, links_are, number_stands, of_given, of_key, of_number, set_there, stands_cases, Stands}
 use Rattle.population.proofs.supporting.Links.{IsAdded, added_are, is_added, linked_is, near_key, none_added}
 use Rattle.host_states.proofs.focus.FocusLinks.{side_cases}

@@ -40,9 +40,12 @@ use Rattle.region_states.proofs.defaults.Valued.{atom_tells}
 use Rattle.region_states.proofs.defaults.groups.Constants.{dependent_none}
 use Rattle.population.specs.Given.{AreGiven, AreKeys, AreLinked, AreWanted, HasShortParts}
 use Rattle.population.specs.Numbered.{number_count, numbered_key}
-use Rattle.population.specs.Principals.{AsksFor, PlacedKey, principals}
+use Rattle.population.specs.Principals.{AsksFor, principals}
+use Rattle.population.specs.declared.placed.PlacedKey.{PlacedKey}
 use Rattle.population.specs.Support.{IsTaken, steps, support}
-use Rattle.population.specs.Supported.{Placed, PlacedLink, given_in, keys_in, links_of, stands_in, supported}
+use Rattle.population.specs.Supported.{given_in, keys_in, links_of, stands_in, supported}
+use Rattle.population.specs.declared.placed.Placed.{Placed}
+use Rattle.population.specs.declared.placed.PlacedLink.{PlacedLink}
 use Rattle.population.proofs.supporting.Arrows.{leads_then, step_arrow}
 use Rattle.population.proofs.principals.Asked.{asked_of}
 use Rattle.population.proofs.supporting.Entities.{entities_are, of_given, of_key, of_number, set_there, stands_cases, Stands, key_has}

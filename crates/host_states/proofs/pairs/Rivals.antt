@@ -13,9 +13,11 @@ use Rattle.region_states.specs.Entities.{focus_entity}
 use Rattle.host_states.specs.Hosting.{DifferAtMostAt, HaveFewPartners, HoldRivals}
 use Rattle.population.specs.Given.{HasShortParts}
 use Rattle.population.specs.Plain.{plain}
-use Rattle.population.specs.Principals.{PlacedKey}
+use Rattle.population.specs.declared.placed.PlacedKey.{PlacedKey}
 use Rattle.population.specs.Support.{support}
-use Rattle.population.specs.Supported.{Placed, PlacedLink, given_in, keys_in, link_of, supported}
+use Rattle.population.specs.Supported.{given_in, keys_in, link_of, supported}
+use Rattle.population.specs.declared.placed.Placed.{Placed}
+use Rattle.population.specs.declared.placed.PlacedLink.{PlacedLink}
 use Rattle.population.proofs.supporting.Ends.{from_given, given_from}
 use Rattle.host_states.specs.FocusStates.{by_assoc, focus, given_by, link_to, linked_hosts, links_by, partner_of, rival_states, state_by, told_key, wanted_by, wanted_by_both}
 use Rattle.host_states.proofs.pairs.Agreeing.{HaveSameKeys, support_agree}

@@ -16,7 +16,7 @@ use Rattle.region_states.specs.Entities.{focus_entity}
 use Rattle.host_states.specs.Hosting.{DifferAtMostAt, HoldRivals, LeavesFocusOut}
 use Rattle.region_states.specs.HoldsFocus.{HoldsFocus}
 use Rattle.population.specs.Kept.{HoldsNeeded, has_ends, is_needed, key_at_end, needed_keys, part_of}
-use Rattle.population.specs.Principals.{PlacedKey}
+use Rattle.population.specs.declared.placed.PlacedKey.{PlacedKey}
 use Rattle.population.proofs.pruning.Kept.{links_kept_of}
 use Rattle.population.proofs.pruning.Needed.{root_needed}
 use Rattle.population.proofs.pruning.NeededParts.{are_alike, holds_needed, needed_parts}

@@ -19,8 +19,9 @@ use Rattle.host_states.specs.Hosting.{HostsFocuses, HostsRivals, HoldRivals, Lea
 use Rattle.region_states.specs.HoldsFocus.{HoldsFocus}
 use Rattle.population.specs.Kept.{key_at_end}
 use Rattle.population.specs.Numbered.{end_of}
-use Rattle.population.specs.Principals.{PlacedKey}
-use Rattle.population.specs.Supported.{Placed, link_of}
+use Rattle.population.specs.declared.placed.PlacedKey.{PlacedKey}
+use Rattle.population.specs.Supported.{link_of}
+use Rattle.population.specs.declared.placed.Placed.{Placed}
 use Rattle.population.proofs.supporting.Links.{far_key, near_key}
 use Rattle.host_states.specs.FocusStates.{by_assoc, focus_state, given_by, leaving_states, linked_hosts, partner_of, rival_states, state_by, told_key, wanted_by, wanted_by_both}
 use Rattle.host_states.specs.SmallStates.{key_of_placed, roots_of, small_focus, small_leaving, small_rivals}

@@ -12,9 +12,12 @@ use Rattle.schema_laws.specs.short_values.Numbers.{number}
 use Rattle.schema_laws.specs.short_values.Short.{IsOfSort}
 use Rattle.population.specs.Given.{AreGiven, AreKeys, AreLinked, AreWanted, HasNumbers, HasShortParts, IsNotNumbered, IsShortFor, StandsAtEnd, StandsWell}
 use Rattle.population.specs.Numbered.{end_of}
-use Rattle.population.specs.Principals.{PlacedKey, principals}
+use Rattle.population.specs.Principals.{principals}
+use Rattle.population.specs.declared.placed.PlacedKey.{PlacedKey}
 use Rattle.population.specs.Support.{is_taken, same_placed}
-use Rattle.population.specs.Supported.{Placed, PlacedLink, end_key, links_of, stands_in}
+use Rattle.population.specs.Supported.{end_key, links_of, stands_in}
+use Rattle.population.specs.declared.placed.Placed.{Placed}
+use Rattle.population.specs.declared.placed.PlacedLink.{PlacedLink}
 use Rattle.population.proofs.supporting.Ends.{from_given, given_from, given_pairs, link_from, link_pairs}
 use Rattle.population.proofs.supporting.Entities.{given_stands}
 use Rattle.population.proofs.supporting.Legal.{supported_legal}

@@ -4,7 +4,8 @@ use Rattle.std.specs.Prelude.{Bool, false, true}
 use Rattle.edm_types.specs.IsA.{same}
 use Rattle.population.specs.Given.{StandsAtEnd}
 use Rattle.population.specs.Numbered.{end_of}
-use Rattle.population.specs.Supported.{Placed, end_key}
+use Rattle.population.specs.Supported.{end_key}
+use Rattle.population.specs.declared.placed.Placed.{Placed}
 use Rattle.worked_examples.specs.Ids.{type_id}
 use Rattle.worked_examples.specs.people.People.{people_set}
 use Rattle.worked_examples.specs.supported.Leaders as e

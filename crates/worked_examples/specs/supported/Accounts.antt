@@ -5,7 +5,7 @@ use Rattle.round_trip.specs.Words.{EntityModel, EntityType, Prop, PropId, Entity
 use Rattle.emc_base.specs.declared.value.Kind.TheVariants as kind
 use Rattle.edm_types.specs.declared.model.Mult.TheVariants.{One, Many}
 use Rattle.schema_laws.specs.short_values.Numbers.{number}
-use Rattle.population.specs.Supported.{Placed}
+use Rattle.population.specs.declared.placed.Placed.{Placed}
 use Rattle.worked_examples.specs.Ids.{type_id, set_id, prop_id, needed, set_of, entity_of, leaf, concrete_type, model_of}
 use Rattle.worked_examples.specs.supported.Supports.{asked_by, first_asked, key_in, placed_in, state_of}
 

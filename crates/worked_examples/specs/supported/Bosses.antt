@@ -2,7 +2,8 @@
 use Rattle.std.specs.Prelude.{◌≡◌, ℕ, pos, List, [], ◌∷◌}
 use Rattle.round_trip.specs.Words.{EntityModel, Link, State, IsLegal}
 use Rattle.edm_types.specs.declared.model.Mult.TheVariants.{One}
-use Rattle.population.specs.Supported.{Placed, PlacedLink}
+use Rattle.population.specs.declared.placed.Placed.{Placed}
+use Rattle.population.specs.declared.placed.PlacedLink.{PlacedLink}
 use Rattle.worked_examples.specs.bosses.Bosses.{boss_of, bossed_model, with_bosses}
 use Rattle.worked_examples.specs.supported.Owned.{nameless}
 use Rattle.worked_examples.specs.supported.Supports.{linked_by, placed_in, state_of}

@@ -6,7 +6,7 @@ use Rattle.edm_types.specs.declared.model.Mult.TheVariants.{One, Many}
 use Rattle.edm_types.specs.declared.model.TypeNode.{TypeNode', end_of-TypeNode, more_of-TypeNode}
 use Rattle.schema_laws.specs.short_values.Numbers.{number}
 use Rattle.population.specs.Plain.{plain}
-use Rattle.population.specs.Supported.{Placed}
+use Rattle.population.specs.declared.placed.Placed.{Placed}
 use Rattle.worked_examples.specs.Ids.{type_id, set_id, prop_id, needed, set_of, entity_of, leaf, concrete_type, model_of}
 use Rattle.worked_examples.specs.people.People.{id_prop, name_prop}
 use Rattle.worked_examples.specs.supported.Supports.{asked_by, key_in, placed_in, state_of}

@@ -4,7 +4,7 @@ use Rattle.round_trip.specs.Words.{EntityModel, EntityType, Prop, EntitySet, Ass
 use Rattle.emc_base.specs.declared.value.Kind.TheVariants as kind
 use Rattle.edm_types.specs.declared.model.Mult.TheVariants.{One, ZeroOrOne}
 use Rattle.schema_laws.specs.short_values.Numbers.{number}
-use Rattle.population.specs.Supported.{Placed}
+use Rattle.population.specs.declared.placed.Placed.{Placed}
 use Rattle.worked_examples.specs.Ids.{type_id, set_id, prop_id, needed, set_of, entity_of, leaf, concrete_type, model_of}
 use Rattle.worked_examples.specs.sound_examples.Lines.{order_id_prop, line_order_prop, line_number_prop, order_type, line_type, orders_set, lines_set, lines_of_order}
 use Rattle.worked_examples.specs.supported.Supports.{asked_by, first_asked, key_in, placed_in, state_of}

@@ -4,7 +4,8 @@ use Rattle.round_trip.specs.Words.{EntityModel, EntityType, Prop, EntitySet, Ass
 use Rattle.emc_base.specs.declared.value.Kind.TheVariants as kind
 use Rattle.edm_types.specs.declared.model.Mult.TheVariants.{One, Many}
 use Rattle.schema_laws.specs.short_values.Numbers.{number}
-use Rattle.population.specs.Supported.{Placed, PlacedLink}
+use Rattle.population.specs.declared.placed.Placed.{Placed}
+use Rattle.population.specs.declared.placed.PlacedLink.{PlacedLink}
 use Rattle.worked_examples.specs.Ids.{type_id, set_id, prop_id, needed, set_of, entity_of, leaf, stem, concrete_type, model_of}
 use Rattle.worked_examples.specs.people.People.{id_prop, name_prop, person_type, people_set}
 use Rattle.worked_examples.specs.staff.Owners.{employee_type}

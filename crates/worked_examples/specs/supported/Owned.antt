@@ -3,7 +3,7 @@ use Rattle.std.specs.Prelude.{◌≡◌, ℕ, pos, List, [], ◌∷◌, Some, tr
 use Rattle.round_trip.specs.Words.{Assoc, Null, Entity, EntityModel, State, IsLegal}
 use Rattle.schema_laws.specs.short_values.Numbers.{number}
 use Rattle.population.specs.Plain.{plain}
-use Rattle.population.specs.Supported.{Placed}
+use Rattle.population.specs.declared.placed.Placed.{Placed}
 use Rattle.worked_examples.specs.Ids.{type_id, entity_of, model_of}
 use Rattle.worked_examples.specs.people.People.{person}
 use Rattle.worked_examples.specs.staff.Owners.{order, owner, owner_constraint, shop_model}

@@ -4,7 +4,7 @@ use Rattle.round_trip.specs.Words.{Value, Null, EntityModel, Prop, Assoc, Entity
 use Rattle.emc_base.specs.declared.value.Kind.TheVariants as kind
 use Rattle.edm_types.specs.declared.model.Mult.TheVariants.{ZeroOrOne}
 use Rattle.schema_laws.specs.short_values.Numbers.{number}
-use Rattle.population.specs.Supported.{Placed}
+use Rattle.population.specs.declared.placed.Placed.{Placed}
 use Rattle.worked_examples.specs.Ids.{type_id, set_id, prop_id, optional, entity_of}
 use Rattle.worked_examples.specs.supported.Accounts.{account, accounts_with, line, many_of, order, refers_by}
 use Rattle.worked_examples.specs.supported.Supports.{asked_by, key_in, placed_in, state_of}

@@ -1,9 +1,12 @@
 -- What given entities ask for, and the state that stands with them.
 use Rattle.std.specs.Prelude.{ℕ, List, flat_map}
 use Rattle.round_trip.specs.Words.{Value, EntityModel, Entity, Link, State}
-use Rattle.population.specs.Principals.{PlacedKey, principals}
+use Rattle.population.specs.Principals.{principals}
+use Rattle.population.specs.declared.placed.PlacedKey.{PlacedKey}
 use Rattle.population.specs.Support.{support}
-use Rattle.population.specs.Supported.{Placed, PlacedLink, supported}
+use Rattle.population.specs.Supported.{supported}
+use Rattle.population.specs.declared.placed.Placed.{Placed}
+use Rattle.population.specs.declared.placed.PlacedLink.{PlacedLink}
 use Rattle.worked_examples.specs.Ids.{set_id, assoc_id}
 
 -- an entity in the set of a number, a key in it, and a link of the association of a number
