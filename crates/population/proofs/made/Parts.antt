@@ -1,11 +1,11 @@
 -- The part of a supported state that holds what is needed.
-use Rattle.std.proofs.Common.{◌≡◌, ◌&&◌, ℕ, List, [], ◌++◌, map, filter, length, slice_get, Contains, Option, None, Some, Bool, true, false, not, IsTrue, Decides, if◌then◌else◌, refl, sym, ap, subst, ◌∙◌}
+use Rattle.std.proofs.Common.{◌≡◌, ◌&&◌, ℕ, List, [], ◌++◌, map, filter, length, slice_get, Contains, Option, None, Some, Bool, true, false, not, IsTrue, if◌then◌else◌, refl, sym, ap, subst, ◌∙◌}
 use Rattle.std.specs.Option.{option_map_or}
 use Rattle.std.proofs.Math.Bool.{and_comm}
 use Rattle.std.proofs.lemmas.Bool.{and_from, and_parts}
 use Rattle.std.proofs.lemmas.Bool.Decides.{same_from_decides}
 use Rattle.std.proofs.lemmas.List.Elements.{filter-append}
-use Rattle.round_trip.specs.Words.{SetId, AssocId, Value, EntityModel, Assoc, Constraint, Entity, Link, State, At, IsIndependent, IsLegal, key_of, links_in}
+use Rattle.round_trip.specs.Words.{SetId, AssocId, Value, EntityModel, Assoc, Constraint, Entity, Link, State, At, IsLegal, links_in}
 use Rattle.schema_laws.specs.short_values.Numbers.{numbers_from}
 use Rattle.population.specs.Given.{HasNumbers}
 use Rattle.population.specs.Kept.{has_ends, key_at_end, key_in, kept_in, kept_links, kept_state}

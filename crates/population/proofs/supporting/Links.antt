@@ -1,10 +1,10 @@
 -- The links of a supported state: between entities that stand, each once, and as many at each end as the other end allows.
-use Rattle.std.proofs.Common.{◌≡◌, ◌≢◌, ◌⊎◌, ⊎_elim, inl, inr, ℕ, ◌<◌, ◌≤◌, ◌==◌, ◌&&◌, List, [], ◌∷◌, ◌++◌, map, filter, length, slice_get, get_or, All, AllPairs, Any, Contains, Option, Some, None, Bool, true, false, true≢false, not, Decides, IsTrue, if◌then◌else◌, refl, sym, ap, subst, ◌∙◌, arith}
+use Rattle.std.proofs.Common.{◌≡◌, ◌≢◌, ⊎_elim, ℕ, List, [], ◌++◌, map, filter, get_or, All, AllPairs, Any, Contains, Bool, true, false, true≢false, not, Decides, if◌then◌else◌, refl, sym, ap, subst, ◌∙◌}
 use Rattle.std.specs.Option.{option_map_or}
-use Rattle.std.proofs.lemmas.Bool.{and_parts, cond-false, cond-true}
-use Rattle.std.proofs.lemmas.Bool.Decides.{Decides-and, Decides-not, not_from_Decides}
+use Rattle.std.proofs.lemmas.Bool.{and_parts, cond-true}
+use Rattle.std.proofs.lemmas.Bool.Decides.{Decides-and, Decides-not}
 use Rattle.std.proofs.lemmas.List.{append-nil}
-use Rattle.std.proofs.lemmas.List.Elements.{All-contains, Contains-append_cases, Contains-append_left, Contains-append_right, Contains-get_or}
+use Rattle.std.proofs.lemmas.List.Elements.{All-contains, Contains-append_cases, Contains-append_left, Contains-append_right}
 use Rattle.std.proofs.lemmas.List.Kept.{AllPairs-filter}
 use Rattle.std.proofs.lemmas.Option.{MatchOption-at_none}
 use Rattle.emc_base.specs.Lists.{AreApart, AtMostOne}
@@ -14,9 +14,8 @@ use Rattle.emc_base.proofs.Lists.{all_from_members}
 use Rattle.emc_base.proofs.Mapped.{contains_at, contains_filter, contains_map}
 use Rattle.emc_base.proofs.Members.{contains_nil}
 use Rattle.emc_base.proofs.Numbered.{all_pairs_map, filter_contains, map_contains}
-use Rattle.round_trip.specs.Words.{SetId, AssocId, Value, EntityModel, EntitySet, Assoc, End, Mult, Constraint, Entity, Link, At, HasCount, IsA, IsIndependent, key_of}
+use Rattle.round_trip.specs.Words.{SetId, AssocId, Value, EntityModel, EntitySet, Assoc, End, Mult, Entity, Link, At, HasCount, IsA, IsIndependent, key_of}
 use Rattle.edm_types.specs.declared.model.Mult.TheVariants.{One, ZeroOrOne, Many}
-use Rattle.edm_types.specs.IsA.{chain}
 use Rattle.round_trip.specs.soundness.models.Constraints.{HasIndependentMults, IsSoundAssoc, IsSoundConstraint, IsSoundEnd}
 use Rattle.round_trip.specs.soundness.models.Models.{IsSoundModel}
 use Rattle.schema_laws.specs.sound_demand.Deriving.{derives}
@@ -30,7 +29,7 @@ use Rattle.population.specs.Numbered.{end_number, end_of, numbered, numbered_key
 use Rattle.population.specs.Plain.{first_concrete}
 use Rattle.population.specs.Principals.{PlacedKey}
 use Rattle.population.specs.Supported.{Placed, PlacedLink, added_at, added_link, all_links, end_key, has_own_link, is_none, is_one, lacks_link, link_of, linked_in, links_of, stands_in}
-use Rattle.population.proofs.supporting.Entities.{differ, number_stands, set_there}
+use Rattle.population.proofs.supporting.Entities.{differ, number_stands}
 use Rattle.population.proofs.plain.Lists.{most_one}
 use Rattle.population.proofs.plain.Numbered.{asked_end, end_within, numbered_has, sound_end}
 use Rattle.population.proofs.plain.Plain.{first_is}
