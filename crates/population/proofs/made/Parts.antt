@@ -1,5 +1,5 @@
 -- The part of a supported state that holds what is needed.
-use Rattle.std.proofs.Common.{◌≡◌, ◌&&◌, ℕ, List, [], ◌++◌, map, filter, length, slice_get, Contains, Option, None, Some, Bool, true, false, not, IsTrue, if◌then◌else◌, refl, sym, ap, subst, ◌∙◌}
+use Rattle.std.proofs.Common.{◌≡◌, ◌&&◌, ℕ, List, [], ◌++◌, map, filter, length, slice_get, Contains, Option, None, Some, Bool, true, false, not, if◌then◌else◌, refl, sym, ap, ◌∙◌}
 use Rattle.std.specs.Option.{option_map_or}
 use Rattle.std.proofs.Math.Bool.{and_comm}
 use Rattle.std.proofs.lemmas.Bool.{and_from, and_parts}
@@ -23,7 +23,7 @@ use Rattle.population.proofs.supporting.Entities.{entities_are, links_are}
 use Rattle.population.proofs.supporting.Links.{linked_is}
 
 -- whether the keys at both ends of a link are needed
-abbrev pub needed_both : (PlacedKey → Bool) → Assoc → Link → Bool
+abbrev needed_both : (PlacedKey → Bool) → Assoc → Link → Bool
 needed_both needed assoc link = needed (key_at_end true assoc link) && needed (key_at_end false assoc link)
 
 -- entities whose keys are needed stand at both ends of a legal state's link just where both keys are needed
@@ -32,16 +32,16 @@ module _ (model : EntityModel) (state : State) (legal : IsLegal model state) (ne
   keep u entity = needed (key_in model u entity)
 
   module _ (a : AssocId) (assoc : Assoc) (here : At model.assocs a.index assoc) (link : Link) (has : Contains (links_in state a) link) where
+    abbrev is_needed : Bool → List Value → Bool
+    is_needed first key = needed (record { set = (end_of first assoc).set; key = key })
+
     end_needed : (first : Bool) → HasKeptEnd model keep state first assoc link → needed (key_at_end first assoc link) ≡ true
-    end_needed first end =
-        let P : List Value → Type 0 = λ key. IsTrue (needed (record { set = (end_of first assoc).set; key = key })) in
-        subst P end.3 end.2
+    end_needed first end = ap (is_needed first) (sym end.3) ∙ end.2
 
     end_kept : (first : Bool) → needed (key_at_end first assoc link) ≡ true → HasKeptEnd model keep state first assoc link
     end_kept first told =
         let found = entity_at model state legal a assoc here link has first in
-        let P : List Value → Type 0 = λ key. IsTrue (needed (record { set = (end_of first assoc).set; key = key })) in
-        (found.0, found.1, subst P (sym found.3) told, found.3)
+        (found.0, found.1, ap (is_needed first) found.3 ∙ told, found.3)
 
     ends_alike : has_ends model keep state assoc link ≡ needed_both needed assoc link
     ends_alike =
