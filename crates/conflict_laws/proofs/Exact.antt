@@ -69,6 +69,8 @@ module _ (basis : Basis) (is : IsBasis basis) (limits : IsWithinLimits basis.sch
   never_dangling (conflict.Absent region) s is_at = (let kind = is_at.of_kind in cc)
   never_dangling (conflict.Rival one two) s is_at = (let kind = is_at.of_kind in cc)
   never_dangling (conflict.Lost region p) s is_at = (let kind = is_at.of_kind in cc)
+  never_dangling (conflict.ManyLinks a) s is_at = is_at.of_set
+  never_dangling (conflict.Unmapped a) s is_at = is_at.of_set
 
   -- each kind by its laws
   pub exact : (kind : FailKind) → NoneFailsBefore basis.schema kind → (s : SetId)

@@ -1,5 +1,6 @@
 -- Which conflicts of a region are of a kind.
 use Rattle.std.proofs.Common.{◌≡◌, ℕ, List, Some, false, true≢false, IsTrue, refl, sym, subst, ◌∙◌}
+use Rattle.std.proofs.lemmas.Option.{none-some}
 use Rattle.round_trip.specs.Words.{ColId, TableId}
 use Rattle.round_trip.specs.declared.FailKind.TheVariants as kind
 use Rattle.regions.specs.Basis.{Basis}
@@ -29,6 +30,8 @@ module _ (basis : Basis) (region : Region) where
   no_clash_one none (conflict.Absent one) is = let told : kind.Same ≡ kind.Clash = is.of_kind in cc
   no_clash_one none (conflict.Rival one two) is = let told : kind.Same ≡ kind.Clash = is.of_kind in cc
   no_clash_one none (conflict.Lost one p) is = let told : kind.Same ≡ kind.Clash = is.of_kind in cc
+  no_clash_one none (conflict.ManyLinks a) is = none-some at is.of_region
+  no_clash_one none (conflict.Unmapped a) is = let told : kind.Same ≡ kind.Clash = is.of_kind in cc
 
   -- a null, and where there is none
   pub is_null_one : (t : TableId) (col : ColId) (one : Symbol) → IsTrue (is_null_in basis at t col one) → IsOneOf basis region kind.Null (conflict.NullIn at t col one)
@@ -43,6 +46,8 @@ module _ (basis : Basis) (region : Region) where
   no_null_one none (conflict.Absent one) is = let told : kind.Same ≡ kind.Null = is.of_kind in cc
   no_null_one none (conflict.Rival one two) is = let told : kind.Same ≡ kind.Null = is.of_kind in cc
   no_null_one none (conflict.Lost one p) is = let told : kind.Same ≡ kind.Null = is.of_kind in cc
+  no_null_one none (conflict.ManyLinks a) is = let told : kind.Clash ≡ kind.Null = is.of_kind in cc
+  no_null_one none (conflict.Unmapped a) is = let told : kind.Same ≡ kind.Null = is.of_kind in cc
 
   -- a disagreement, and where there is none
   pub is_disagreement : (place : List ℕ) → IsTrue (disagrees_at basis at place) → IsOneOf basis region kind.Disagrees (conflict.Disagree at place)
@@ -57,6 +62,8 @@ module _ (basis : Basis) (region : Region) where
   no_disagreement none (conflict.Absent one) is = let told : kind.Same ≡ kind.Disagrees = is.of_kind in cc
   no_disagreement none (conflict.Rival one two) is = let told : kind.Same ≡ kind.Disagrees = is.of_kind in cc
   no_disagreement none (conflict.Lost one p) is = let told : kind.Same ≡ kind.Disagrees = is.of_kind in cc
+  no_disagreement none (conflict.ManyLinks a) is = let told : kind.Clash ≡ kind.Disagrees = is.of_kind in cc
+  no_disagreement none (conflict.Unmapped a) is = let told : kind.Same ≡ kind.Disagrees = is.of_kind in cc
 
   -- no conflict is one by which a foreign key dangles
   pub no_dangling : (made : Conflict) → ¬ IsOneOf basis region kind.Dangling made
@@ -66,3 +73,5 @@ module _ (basis : Basis) (region : Region) where
   no_dangling (conflict.Absent one) is = let told : kind.Same ≡ kind.Dangling = is.of_kind in cc
   no_dangling (conflict.Rival one two) is = let told : kind.Same ≡ kind.Dangling = is.of_kind in cc
   no_dangling (conflict.Lost one p) is = let told : kind.Same ≡ kind.Dangling = is.of_kind in cc
+  no_dangling (conflict.ManyLinks a) is = let told : kind.Clash ≡ kind.Dangling = is.of_kind in cc
+  no_dangling (conflict.Unmapped a) is = let told : kind.Same ≡ kind.Dangling = is.of_kind in cc

@@ -31,6 +31,8 @@ module _ (basis : Basis) (s : SetId) (asked : FailKind) where
   tells region has (conflict.Absent one) is = absurd (none-some (focus.Entity region) is)
   tells region has (conflict.Rival one two) is = absurd (none-some (focus.Entity region) is)
   tells region has (conflict.Lost one p) is = absurd (none-some (focus.Entity region) is)
+  tells region has (conflict.ManyLinks a) is = absurd (none-some (focus.Entity region) is)
+  tells region has (conflict.Unmapped a) is = absurd (none-some (focus.Entity region) is)
 
   -- one of a region is one of the set
   region_conflict : (region : Region) → Contains regions region → (made : Conflict) → IsOneOf basis region asked made → IsConflictAt basis s asked made
@@ -52,6 +54,8 @@ module _ (basis : Basis) (s : SetId) (asked : FailKind) where
       by (conflict.Absent one) of_set not is = other (sym is)
       by (conflict.Rival one two) of_set not is = other (sym is)
       by (conflict.Lost one p) of_set not is = other (sym is)
+      by (conflict.ManyLinks a) of_set not is = of_set
+      by (conflict.Unmapped a) of_set not is = of_set
 
   -- the same of what a loop over the regions finds at one of them, and of what it doesn't find at any
   pub found_at : (items : List Region) → items ≡ regions → (i : ℕ) (region : Region) → At items i region → (found : Option Conflict) (made : Conflict) → found ≡ Some made
@@ -75,3 +79,5 @@ no_dangling_of_set basis s made is = by made is.of_kind
     by (conflict.Absent one) told = cc
     by (conflict.Rival one two) told = cc
     by (conflict.Lost one p) told = cc
+    by (conflict.ManyLinks a) told = cc
+    by (conflict.Unmapped a) told = cc

@@ -18,6 +18,8 @@ focus_of (conflict.Disagree of place) = Some of
 focus_of (conflict.Absent region) = None
 focus_of (conflict.Rival one two) = None
 focus_of (conflict.Lost region p) = None
+focus_of (conflict.ManyLinks a) = None
+focus_of (conflict.Unmapped a) = None
 
 -- the conflict is one of this kind, at a cell or a fragment of this region
 pub record IsOneOf (basis : Basis) (region : Region) (kind : FailKind) (conflict : Conflict) : Type 0 where

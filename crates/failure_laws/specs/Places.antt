@@ -1,8 +1,8 @@
 -- Where the states fail that are shown of a conflict.
 -- Source: this project's choice of how places are told.
-use Rattle.std.specs.Prelude.{◌≡◌, ◌⊎◌, ℕ, [], ◌++◌, List, Contains}
+use Rattle.std.specs.Prelude.{◌≡◌, ◌⊎◌, ℕ, [], ◌++◌, List, Contains, if◌then◌else◌}
 use Rattle.std.specs.Option.{option_map_or}
-use Rattle.round_trip.specs.Words.{AssocId, SetId, TableId, ColId, Assoc, At, Column, EntitySet, Fragment, LinkFragment, Place, Table, Value, key_of, place_at, written_key}
+use Rattle.round_trip.specs.Words.{AssocId, SetId, TableId, ColId, Assoc, At, Column, EntitySet, Fragment, LinkFragment, Pair, Place, Table, Value, key_of, place_at, written_key}
 use Rattle.round_trip.specs.FailsAt.{HasColumn}
 use Rattle.schema_laws.specs.sound_demand.Disagreeing.{keys_in_row}
 use Rattle.schema_laws.specs.state_demand.Owners.{IsJoinedTo, paired_key}
@@ -47,14 +47,17 @@ module _ (basis : Basis) where
   IsCell (focus.Entity region) values t col place = IsEntityCell region (values region) t col place
   IsCell (focus.Link a) values t col place = IsLinkCell a t col place
 
-  -- a cell in the row of the entity that has two partners
+  -- a cell in the row of the entity that has two partners, where the association's link fragment writes a part of the partner's key
   pub record IsSharedCell (a : AssocId) (place : Place) : Type 0 where
     pub s : SetId
     pub at : HostedAssoc basis s
     pub of_assoc : at.host.assoc ≡ a
-    pub t : TableId
-    pub col : ColId
-    pub owned : OwnedColumn basis.schema s t col
+    pub fragment : LinkFragment
+    pub mapped : Contains basis.schema.mapping.links fragment
+    pub of_fragment : fragment.assoc ≡ a
+    pub pair : Pair
+    pub paired : Contains (if at.host.first_hosts then fragment.second else fragment.first) pair
+    pub owned : OwnedColumn basis.schema s fragment.table pair.col
     pub is : place ≡ place_at owned.table.name (paired_key basis.schema.model owned.pairing (shared_entity basis at.host at.assoc)) owned.column.name
 
   -- the row of the usual entity of a region in the table of a hosted link fragment: the keys of both ends are read there

@@ -87,10 +87,12 @@ fn word_of(found: &Option<Conflict>) -> &'static str {
 fn word_of_conflict(conflict: &Conflict) -> &'static str {
     match conflict {
         Conflict::Clash { .. } => "clash;",
+        Conflict::ManyLinks(_) => "manylinks;",
         Conflict::NullIn { .. } => "null;",
         Conflict::Disagree { .. } => "disagree;",
         Conflict::Absent(_) => "absent;",
         Conflict::Rival { .. } => "rivals;",
         Conflict::Lost { .. } => "lost;",
+        Conflict::Unmapped(_) => "unmapped;",
     }
 }

@@ -143,3 +143,5 @@ module _ (basis : Basis) (given : FocusStates basis) where
   fails_there s (conflict.Absent region) told = absurd (let never = told.of_kind in cc)
   fails_there s (conflict.Rival one two) told = absurd (let never = told.of_kind in cc)
   fails_there s (conflict.Lost region p) told = absurd (let never = told.of_kind in cc)
+  fails_there s (conflict.ManyLinks a) told = absurd told.of_set
+  fails_there s (conflict.Unmapped a) told = absurd told.of_set

@@ -212,3 +212,5 @@ module _ (basis : Basis) (states : ClearStates basis) where
       by (conflict.Absent region) is_kind has fact = absurd (let no : ⊥ = cc in no)
       by (conflict.Rival first second) is_kind has fact = absurd (let no : ⊥ = cc in no)
       by (conflict.Lost region p) is_kind has fact = absurd (let no : ⊥ = cc in no)
+      by (conflict.ManyLinks a) is_kind has fact = absurd has
+      by (conflict.Unmapped a) is_kind has fact = absurd has

@@ -166,3 +166,5 @@ module _ (basis : Basis) (states : ClearStates basis) where
   null_there s (conflict.Absent region) is_conflict = absurd (let never : kind.Same ≡ kind.Null = is_conflict.of_kind in cc)
   null_there s (conflict.Rival one two) is_conflict = absurd (let never : kind.Same ≡ kind.Null = is_conflict.of_kind in cc)
   null_there s (conflict.Lost region p) is_conflict = absurd (let never : kind.Same ≡ kind.Null = is_conflict.of_kind in cc)
+  null_there s (conflict.ManyLinks a) is_conflict = absurd is_conflict.of_set
+  null_there s (conflict.Unmapped a) is_conflict = absurd is_conflict.of_set

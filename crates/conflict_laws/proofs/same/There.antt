@@ -58,3 +58,5 @@ module _ (basis : Basis) (given : RivalStates basis) (s : SetId) where
       fails_of_set parts.set parts.is_set _ _ _
       (rivals_fail basis given (record { s = s; one = one; two = two; is_one = told.of_set.0; is_two = told.of_set.1; rivals = told.holds }) parts.set parts.is_set)
   same_there (conflict.Lost region p) told = lost_there region told.of_set p told.holds
+  same_there (conflict.ManyLinks a) told = absurd told.of_set
+  same_there (conflict.Unmapped a) told = absurd told.of_set

@@ -69,6 +69,8 @@ module _ (basis : Basis) (s : SetId) (written : List Written) (are : AreWritten 
     none_told (conflict.Clash of t col one two) is = let never = is.of_kind in cc
     none_told (conflict.NullIn of t col one) is = let never = is.of_kind in cc
     none_told (conflict.Disagree of place) is = let never = is.of_kind in cc
+    none_told (conflict.ManyLinks a) is = is.of_set
+    none_told (conflict.Unmapped a) is = is.of_set
     none_told (conflict.Absent region) is =
         let found = map_contains region_in written region (lent region is.of_set) in
         none_passes leaves_no_row written found.0 no_absent found.1 (sym (absent_is found.0 found.1) ∙ ap (is_absent basis) found.2 ∙ is.holds)
