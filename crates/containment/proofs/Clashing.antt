@@ -1,4 +1,4 @@
--- Clashes of a region by the rows of its pattern, and by the symbols of a cell.
+-- Clashes of a region or a link by the rows of its pattern, and by the symbols of a cell.
 use Rattle.std.proofs.Common.{◌≡◌, ◌&&◌, ◌+◌, ◌<◌, ◌≤◌, ⊎_elim, arith, ℕ, List, [], length, slice_get, All, Contains, find, None, Option, Some, false, IsTrue, unwrap_or, refl, sym, ap, subst, ◌∙◌}
 use Rattle.std.proofs.lemmas.Bool.{and_from, and_parts, cases_lt, false_from_ne_true}
 use Rattle.std.proofs.lemmas.Option.{slice_get_past}
@@ -9,10 +9,10 @@ use Rattle.regions.specs.Basis.{Basis}
 use Rattle.regions.specs.Patterns.{pattern_of}
 use Rattle.regions.specs.Settled.{clashes}
 use Rattle.regions.specs.Shown.{cell_in}
-use Rattle.regions.specs.declared.pattern.Focus.TheVariants as focus
+use Rattle.regions.specs.declared.pattern.Focus.{Focus}
 use Rattle.regions.specs.declared.pattern.PatternRow.{PatternRow}
 use Rattle.regions.specs.declared.pattern.Symbol.{Symbol}
-use Rattle.regions.specs.declared.region.Region.{Region}
+use Rattle.regions.specs.region_laws.pattern.Allowed.{told_of}
 use Rattle.regions.proofs.region_laws.pattern.Choices.{found_passes, none_passes}
 use Rattle.region_states.specs.conflicts.Facts.{is_clash, lists}
 use Rattle.conflict_laws.proofs.clash.Listed.{Decides-lists}
@@ -35,24 +35,24 @@ module _ (model : EntityModel) (atoms : List AtomOf) (cell : List Symbol) where
       let none_with = All-contains (λ (symbol : Symbol). find (clashes model atoms symbol) cell ≡ None) cell one none ((Decides-lists cell one).0 listed.0) in
       none_passes (clashes model atoms one) cell two none_with ((Decides-lists cell two).0 listed.1) parts.1)
 
-module _ (basis : Basis) (region : Region) where
+module _ (basis : Basis) (of : Focus) where
   abbrev rows : List PatternRow
-  rows = (pattern_of basis (focus.Entity region)).rows
+  rows = (pattern_of basis of).rows
 
   -- a clash in a row of the pattern
   pub clash_told : (row : PatternRow) → Contains rows row → (t : TableId) (col : ColId) (one two : Symbol) → row.table ≡ t
-      → IsTrue (are_apart basis.schema.model region.atoms (cell_in row col) one two) → IsTrue (is_clash basis (focus.Entity region) t col one two)
+      → IsTrue (are_apart basis.schema.model (told_of of) (cell_in row col) one two) → IsTrue (is_clash basis of t col one two)
   clash_told row has t col one two of_table apart =
-      let P : TableId → Type 0 = λ u. IsTrue (is_clash basis (focus.Entity region) u col one two) in
-      let Q : List Symbol → Type 0 = λ cell. IsTrue (are_apart basis.schema.model region.atoms cell one two) in
-      subst P of_table (subst Q (sym (listed_row basis (focus.Entity region) row has col)) apart)
+      let P : TableId → Type 0 = λ u. IsTrue (is_clash basis of u col one two) in
+      let Q : List Symbol → Type 0 = λ cell. IsTrue (are_apart basis.schema.model (told_of of) cell one two) in
+      subst P of_table (subst Q (sym (listed_row basis of row has col)) apart)
 
   -- where no row has a clash there is none
-  pub clash_none : All (HasNoClash basis.schema.model region.atoms) rows → (t : TableId) (col : ColId) (one two : Symbol)
-      → is_clash basis (focus.Entity region) t col one two ≡ false
+  pub clash_none : All (HasNoClash basis.schema.model (told_of of)) rows → (t : TableId) (col : ColId) (one two : Symbol)
+      → is_clash basis of t col one two ≡ false
   clash_none none t col one two =
-      listed_by basis (focus.Entity region) t col (λ cell. are_apart basis.schema.model region.atoms cell one two ≡ false) refl
-      (λ row has of_table. All-contains (HasNoClash basis.schema.model region.atoms) rows row none has col one two)
+      listed_by basis of t col (λ cell. are_apart basis.schema.model (told_of of) cell one two ≡ false) refl
+      (λ row has of_table. All-contains (HasNoClash basis.schema.model (told_of of)) rows row none has col one two)
 
 module _ (model : EntityModel) (atoms : List AtomOf) (row : PatternRow) where
   abbrev NoneBelow : ℕ → Type 0

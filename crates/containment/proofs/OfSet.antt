@@ -35,13 +35,13 @@ module _ (basis : Basis) (s : SetId) (asked : FailKind) where
   tells region has (conflict.Unmapped a) is = absurd (none-some (focus.Entity region) is)
 
   -- one of a region is one of the set
-  region_conflict : (region : Region) → Contains regions region → (made : Conflict) → IsOneOf basis region asked made → IsConflictAt basis s asked made
-  region_conflict region has made is = record { of_kind = is.of_kind; of_set = tells region has made is.of_region; holds = is.holds }
+  region_conflict : (region : Region) → Contains regions region → (made : Conflict) → IsOneOf basis (focus.Entity region) asked made → IsConflictAt basis s asked made
+  region_conflict region has made is = record { of_kind = is.of_kind; of_set = tells region has made is.of_focus; holds = is.holds }
 
   -- and where no region has one, the set has none
-  no_conflict : asked ≢ kind.Same → All (λ region. FindsOne basis region asked None) regions → (made : Conflict) → ¬ IsConflictAt basis s asked made
-  no_conflict other none made is = by made is.of_set (λ region has at. All-contains (λ (one : Region). FindsOne basis one asked None) regions region none has made
-      (record { of_kind = is.of_kind; of_region = at; holds = is.holds })) is.of_kind
+  no_conflict : asked ≢ kind.Same → All (λ region. FindsOne basis (focus.Entity region) asked None) regions → (made : Conflict) → ¬ IsConflictAt basis s asked made
+  no_conflict other none made is = by made is.of_set (λ region has at. All-contains (λ (one : Region). FindsOne basis (focus.Entity one) asked None) regions region none has made
+      (record { of_kind = is.of_kind; of_focus = at; holds = is.holds })) is.of_kind
     where
       by_focus : (of : Focus) → IsRegionOf basis s of → ((region : Region) → Contains regions region → Some of ≡ Some (focus.Entity region) → ⊥) → ⊥
       by_focus (focus.Entity region) has not = not region has refl
@@ -59,14 +59,14 @@ module _ (basis : Basis) (s : SetId) (asked : FailKind) where
 
   -- the same of what a loop over the regions finds at one of them, and of what it doesn't find at any
   pub found_at : (items : List Region) → items ≡ regions → (i : ℕ) (region : Region) → At items i region → (found : Option Conflict) (made : Conflict) → found ≡ Some made
-      → FindsOne basis region asked found → IsConflictAt basis s asked made
+      → FindsOne basis (focus.Entity region) asked found → IsConflictAt basis s asked made
   found_at items are i region at found made is finds =
-      region_conflict region (subst (λ list. Contains list region) are (contains_at items i region at)) made (subst (FindsOne basis region asked) is finds)
+      region_conflict region (subst (λ list. Contains list region) are (contains_at items i region at)) made (subst (FindsOne basis (focus.Entity region) asked) is finds)
 
-  pub none_at : (items : List Region) → items ≡ regions → (i : ℕ) → length items ≤ i → All (λ region. FindsOne basis region asked None) (take i items)
+  pub none_at : (items : List Region) → items ≡ regions → (i : ℕ) → length items ≤ i → All (λ region. FindsOne basis (focus.Entity region) asked None) (take i items)
       → asked ≢ kind.Same → (made : Conflict) → ¬ IsConflictAt basis s asked made
   none_at items are i end none other =
-      no_conflict other (All-same (λ (region : Region). FindsOne basis region asked None) regions (take i items) (sym (take_all i items end ∙ are)) none)
+      no_conflict other (All-same (λ (region : Region). FindsOne basis (focus.Entity region) asked None) regions (take i items) (sym (take_all i items end ∙ are)) none)
 
 -- no conflict of a set is one by which a foreign key dangles
 pub no_dangling_of_set : (basis : Basis) (s : SetId) (made : Conflict) → ¬ IsConflictAt basis s kind.Dangling made

@@ -6,8 +6,7 @@ use Rattle.condition_logic.specs.declared.atoms.AtomOf.{AtomOf}
 use Rattle.regions.specs.Basis.{Basis}
 use Rattle.regions.specs.Settled.{clashes}
 use Rattle.regions.specs.Shown.{cell_in}
-use Rattle.regions.specs.declared.region.Region.{Region}
-use Rattle.regions.specs.declared.pattern.Focus.TheVariants as focus
+use Rattle.regions.specs.declared.pattern.Focus.{Focus}
 use Rattle.regions.specs.declared.pattern.PatternRow.{PatternRow}
 use Rattle.regions.specs.declared.pattern.Symbol.{Symbol}
 use Rattle.region_states.specs.conflicts.Facts.{is_required, lists, stands_for_null}
@@ -20,8 +19,8 @@ abbrev pub are_apart : EntityModel → List AtomOf → List Symbol → Symbol �
 are_apart model atoms cell one two = lists cell one && lists cell two && clashes model atoms one two
 
 -- whether a symbol stands for null in a column of a row, and this isn't nullable
-abbrev pub lacks : Basis → Region → PatternRow → ColId → Symbol → Bool
-lacks basis region row col one = is_required basis.schema.store row.table col && stands_for_null basis (focus.Entity region) (cell_in row col) one
+abbrev pub lacks : Basis → Focus → PatternRow → ColId → Symbol → Bool
+lacks basis of row col one = is_required basis.schema.store row.table col && stands_for_null basis of (cell_in row col) one
 
 -- a clash is one in the row
 abbrev pub ClashesIn : EntityModel → List AtomOf → Clash → PatternRow → Type 0
@@ -32,9 +31,9 @@ abbrev pub HasNoClash : EntityModel → List AtomOf → PatternRow → Type 0
 HasNoClash model atoms row = (col : ColId) (one two : Symbol) → are_apart model atoms (cell_in row col) one two ≡ false
 
 -- a gap is one in the row
-abbrev pub GapsIn : Basis → Region → Gap → PatternRow → Type 0
-GapsIn basis region gap row = (row.table ≡ gap.table) × IsTrue (lacks basis region row gap.col (symbol_of gap.lack))
+abbrev pub GapsIn : Basis → Focus → Gap → PatternRow → Type 0
+GapsIn basis of gap row = (row.table ≡ gap.table) × IsTrue (lacks basis of row gap.col (symbol_of gap.lack))
 
 -- the row has no gap
-abbrev pub HasNoGap : Basis → Region → PatternRow → Type 0
-HasNoGap basis region row = (col : ColId) (one : Symbol) → lacks basis region row col one ≡ false
+abbrev pub HasNoGap : Basis → Focus → PatternRow → Type 0
+HasNoGap basis of row = (col : ColId) (one : Symbol) → lacks basis of row col one ≡ false

@@ -3,21 +3,22 @@ ghost use Rattle.std.specs.Option.{option_copied};
 ghost use Rattle.round_trip.specs.declared.FailKind.TheVariants as kind;
 ghost use Rattle.regions.specs.Patterns.{pattern_of};
 ghost use Rattle.regions.specs.Settled.{clashes};
-ghost use Rattle.regions.specs.declared.pattern.Focus.TheVariants as focus;
 ghost use Rattle.regions.specs.declared.pattern.Symbol.{Symbol};
 ghost use Rattle.region_states.specs.region_basis.BasisOf.{basis_of};
 ghost use Rattle.region_states.specs.declared.conflicts.conflict.Conflict.TheVariants as conflict;
 ghost use Rattle.containment.specs.Cells.{ClashesIn, HasNoClash, are_apart};
 ghost use Rattle.containment.specs.Found.{FindsOne};
+ghost use Rattle.containment.specs.Lent.{focus_in};
 
+use crate::lent::{FocusRef, atoms_of, focus_of};
 use cells::Parts;
 use condition_logic::AtomOf;
 use edm_types::EntityModel;
 use emc_base::{ColId, Memory, TableId};
 use region_states::Conflict;
-use regions::{Pattern, PatternRow, Region, Symbol};
+use regions::{Pattern, PatternRow, Symbol};
 use std::alloc::Global;
-use symbolic_rows::{clash, copy_symbol, focus_on};
+use symbolic_rows::{clash, copy_symbol};
 
 // Two symbols of a cell that can differ.
 #[derive(Drop)]
@@ -28,32 +29,28 @@ struct Clash<'p> {
     two: &'p Symbol,
 }
 
-/// A clash at a region of this pattern. `Memory` comes where there is none to tell it.
+/// A clash at a focus of this pattern. `Memory` comes where there is none to tell it.
 pub fn clash_at(
     alloc: Global,
     parts: &Parts<'_>,
-    region: &Region,
+    of: FocusRef<'_>,
     pattern: &Pattern,
 ) -> Result<Option<Conflict>, Memory>
-    requires { pattern.now ≡ pattern_of (basis_of parts.now) (focus.Entity region.now) }
-    ensures { IfOk result (FindsOne (basis_of parts.now) region.now kind.Clash) }
+    requires { pattern.now ≡ pattern_of (basis_of parts.now) (focus_in of) }
+    ensures { IfOk result (FindsOne (basis_of parts.now) (focus_in of.entry) kind.Clash) }
 {
-    match clash_in(
-        parts.model,
-        region.atoms.as_slice(),
-        pattern.rows.as_slice(),
-    ) {
-        Some(found) => Ok(Some(told(alloc, region, &found)?)),
+    match clash_in(parts.model, atoms_of(of), pattern.rows.as_slice()) {
+        Some(found) => Ok(Some(told(alloc, of, &found)?)),
         None => Ok(None),
     }
 }
 
-// A clash as a conflict at the region.
-fn told(alloc: Global, region: &Region, found: &Clash<'_>) -> Result<Conflict, Memory>
-    ensures { IfOk result (λ made. made ≡ conflict.Clash (focus.Entity region.now) found.now.table found.now.col found.now.one.now found.now.two.now) }
+// A clash as a conflict at the focus.
+fn told(alloc: Global, of: FocusRef<'_>, found: &Clash<'_>) -> Result<Conflict, Memory>
+    ensures { IfOk result (λ made. made ≡ conflict.Clash (focus_in of.entry) found.now.table found.now.col found.now.one.now found.now.two.now) }
 {
     Ok(Conflict::Clash {
-        focus: focus_on(region)?,
+        focus: focus_of(of)?,
         table: found.table,
         col: found.col,
         one: copy_symbol(alloc, found.one)?,

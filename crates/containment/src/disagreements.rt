@@ -7,7 +7,9 @@ ghost use Rattle.regions.specs.declared.pattern.Focus.TheVariants as focus;
 ghost use Rattle.region_states.specs.region_basis.BasisOf.{basis_of};
 ghost use Rattle.region_states.specs.conflicts.Facts.{differs_at, differs_at_links, disagrees_at, is_hosted, shows_link_pattern, shows_pattern};
 ghost use Rattle.containment.specs.Found.{FindsOne};
+ghost use Rattle.containment.specs.Lent.{focus_in};
 
+use crate::lent::{FocusRef, atoms_of};
 use crate::shown::{shows_link_row, shows_row};
 use cells::Parts;
 use edm_types::{Fragment, LinkFragment};
@@ -26,7 +28,7 @@ pub fn disagreement_at(
 ) -> Result<Option<Conflict>, Memory>
     requires parts { AreParts parts.now }
     requires pattern { pattern.now ≡ pattern_of (basis_of parts.now) (focus.Entity region.now) }
-    ensures { IfOk result (FindsOne (basis_of parts.now) region.now kind.Disagrees) }
+    ensures { IfOk result (FindsOne (basis_of parts.now) (focus.Entity region.now) kind.Disagrees) }
 {
     match place_of(parts, region, pattern) {
         Some(place) => Ok(Some(Conflict::Disagree {
@@ -113,7 +115,8 @@ fn differs_at_links(
     ensures { result ≡ differs_at_links (basis_of parts.now) region.now fragment.now }
 {
     is_hosted(parts, region, fragment.assoc)
-        && is_linked(region, fragment.assoc) != shows_link(parts, region, pattern, fragment)
+        && is_linked(region, fragment.assoc)
+            != shows_link(parts, FocusRef::Entity(region), pattern, fragment)
 }
 
 // Whether the links of an association are hosted at the region's set.
@@ -127,18 +130,19 @@ fn is_hosted(parts: &Parts<'_>, region: &Region, id: AssocId) -> bool
     }
 }
 
-// Whether a link fragment shows a row of the region.
-fn shows_link(
+/// Whether a link fragment shows a row of the focus.
+pub fn shows_link(
     parts: &Parts<'_>,
-    region: &Region,
+    of: FocusRef<'_>,
     pattern: &Pattern,
     fragment: &LinkFragment,
 ) -> bool
-    requires { pattern.now ≡ pattern_of (basis_of parts.now) (focus.Entity region.now) }
-    ensures { result ≡ shows_link_pattern (basis_of parts.now) (focus.Entity region.now) fragment.now }
+    requires { pattern.now ≡ pattern_of (basis_of parts.now) (focus_in of) }
+    ensures { result ≡ shows_link_pattern (basis_of parts.now) (focus_in of.entry) fragment.now }
 {
+    let atoms = atoms_of(of);
     pattern.rows.as_slice().iter().any(|row| {
         row.table.index == fragment.table.index
-            && shows_link_row(parts.model, region.atoms.as_slice(), fragment, row)
+            && shows_link_row(parts.model, atoms, fragment, row)
     })
 }

@@ -2,6 +2,7 @@ ghost use Rattle.std.specs.Prelude.{◌≡◌, ◌≢◌, ◌↔◌, IfOk, IsSom
 ghost use Rattle.cells.specs.Parts.{AreParts, schema_in};
 ghost use Rattle.round_trip.specs.declared.FailKind.TheVariants as fails;
 ghost use Rattle.regions.specs.Regions.{regions_of};
+ghost use Rattle.regions.specs.declared.pattern.Focus.TheVariants as focus;
 ghost use Rattle.region_states.specs.region_basis.BasisOf.{basis_of};
 ghost use Rattle.region_states.specs.conflicts.Conflicts.{IsConflictAt};
 ghost use Rattle.region_states.specs.conflicts.There.{FailsThere, NoneFailsBefore};
@@ -10,6 +11,7 @@ ghost use Rattle.containment.specs.Found.{FindsOne};
 
 use crate::clashes::clash_at;
 use crate::disagreements::disagreement_at;
+use crate::lent::FocusRef;
 use crate::nulls::null_at;
 use crate::same_conflicts::first_same;
 use cells::Parts;
@@ -94,12 +96,12 @@ fn conflict_at(
     requires parts { AreParts parts.now }
     requires alone { kind ≢ fails.Same }
     requires kind { kind ≢ fails.Dangling }
-    ensures { IfOk result (FindsOne (basis_of parts.now) region.now kind) }
+    ensures { IfOk result (FindsOne (basis_of parts.now) (focus.Entity region.now) kind) }
 {
     let pattern = region_pattern(alloc, parts, region)?;
     match kind {
-        FailKind::Clash => clash_at(alloc, parts, region, &pattern),
-        FailKind::Null => null_at(alloc, parts, region, &pattern),
+        FailKind::Clash => clash_at(alloc, parts, FocusRef::Entity(region), &pattern),
+        FailKind::Null => null_at(alloc, parts, FocusRef::Entity(region), &pattern),
         FailKind::Disagrees => disagreement_at(alloc, parts, region, &pattern),
         FailKind::Dangling | FailKind::Same => unreachable!(),
     }

@@ -4,9 +4,12 @@
 mod clashes;
 mod disagreements;
 mod first;
+mod lent;
+mod links;
 mod nulls;
 mod same_conflicts;
 mod shown;
 
 pub use first::first_conflict;
+pub use links::first_link_conflict;
 pub use same_conflicts::first_same;
