@@ -39,7 +39,7 @@ module _ (model : EntityModel) (places : List LinkPlace) (s : SetId) (a : AssocI
   Decides-hosted = Decides-any (λ (host : Host). host.assoc.index == a.index) (λ host. host.assoc ≡ a) (λ host. Decides-assoc host.assoc a) hosts
 
   -- a host of the association is told by its own place
-  by_place : (host : Host) → Contains hosts host → host.assoc ≡ a → (assoc : Assoc) × At model.assocs a.index assoc × Contains (host_at places s (a.index, assoc)) host
+  pub by_place : (host : Host) → Contains hosts host → host.assoc ≡ a → (assoc : Assoc) × At model.assocs a.index assoc × Contains (host_at places s (a.index, assoc)) host
   by_place host has same =
       let entry = member_of_flat_map (host_at places s) (enumerate_from 0 model.assocs) host has in
       let told : LinkPlace = unwrap_or (slice_get places entry.0.0) place.Unmapped in
@@ -56,7 +56,7 @@ module _ (model : EntityModel) (places : List LinkPlace) (s : SetId) (a : AssocI
       none-some by.0 (sym none ∙ by.1))
 
   module _ (assoc : Assoc) (here : At model.assocs a.index assoc) (told : LinkPlace) (at : At places a.index told) where
-    by_told : host_at places s (a.index, assoc) ≡ host_by s a assoc told
+    pub by_told : host_at places s (a.index, assoc) ≡ host_by s a assoc told
     by_told = ap (λ (found : Option LinkPlace). host_by s a assoc (unwrap_or found place.Unmapped)) at
 
     -- they are where an end is told

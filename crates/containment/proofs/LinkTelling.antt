@@ -76,7 +76,8 @@ module _ (parts : Parts) (are : AreParts parts) (a : AssocId) (assoc : Assoc) (h
     module _ (number : LinkFragId) (is_told : told ≡ place.Joined number) where
       link : (of : Focus) → Some of ≡ Some (focus.Link a) → IsLinkOf basis a of
       link of is = let same : of ≡ focus.Link a = cc in
-          subst (IsLinkOf basis a) (sym same) (refl, joined_table parts are a assoc here told at number is_told)
+          let own = joined_table parts are a assoc here told at number is_told in
+          subst (IsLinkOf basis a) (sym same) (refl, own.0, own.1)
 
       tells_links : (made : Conflict) → focus_of made ≡ Some (focus.Link a) → TellsOfLinks basis a made
       tells_links (conflict.Clash of t col one two) is = link of is
@@ -131,7 +132,7 @@ module _ (parts : Parts) (are : AreParts parts) (a : AssocId) (assoc : Assoc) (h
         where
           by : IsOfPlace made → ⊥
           by (inl (other, joined)) = let never : place.Hosted first_hosts number ≡ place.Joined other = sym is_told ∙ joined in cc
-          by (inr (inl (is_many_made, first, other, hosted, many))) =
+          by (inr (inl (is_many_made, (first, other, hosted, many)))) =
               let clash : kind.Clash ≡ asked = ap kind_of (sym is_many_made) ∙ is.of_kind in
               let both : place.Hosted first_hosts number ≡ place.Hosted first other = sym is_told ∙ hosted in
               let side : first_hosts ≡ first = hosts_at both in
@@ -159,7 +160,7 @@ module _ (parts : Parts) (are : AreParts parts) (a : AssocId) (assoc : Assoc) (h
         where
           by : IsOfPlace made → ⊥
           by (inl (other, joined)) = let never : place.Unmapped ≡ place.Joined other = sym is_told ∙ joined in cc
-          by (inr (inl (is_many_made, first, other, hosted, many))) = let never : place.Unmapped ≡ place.Hosted first other = sym is_told ∙ hosted in cc
+          by (inr (inl (is_many_made, (first, other, hosted, many)))) = let never : place.Unmapped ≡ place.Hosted first other = sym is_told ∙ hosted in cc
           by (inr (inr (is_unmapped_made, unmapped))) =
               let of_same : kind.Same ≡ asked = ap kind_of (sym is_unmapped_made) ∙ is.of_kind in
               let no : unmapped_found kind.Same a ≡ None = subst (λ k. unmapped_found k a ≡ None) (sym of_same) none in
@@ -171,5 +172,5 @@ module _ (parts : Parts) (are : AreParts parts) (a : AssocId) (assoc : Assoc) (h
       where
         by : IsOfPlace made → ⊥
         by (inl (other, joined)) = let never : place.Constraint ≡ place.Joined other = sym is_told ∙ joined in cc
-        by (inr (inl (is_many_made, first, other, hosted, many))) = let never : place.Constraint ≡ place.Hosted first other = sym is_told ∙ hosted in cc
+        by (inr (inl (is_many_made, (first, other, hosted, many)))) = let never : place.Constraint ≡ place.Hosted first other = sym is_told ∙ hosted in cc
         by (inr (inr (is_unmapped_made, unmapped))) = let never : place.Constraint ≡ place.Unmapped = sym is_told ∙ unmapped in cc
