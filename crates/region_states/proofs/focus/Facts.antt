@@ -8,7 +8,7 @@ use Rattle.round_trip.specs.Words.{TableId, ColId, AssocId, Value, Assoc, Fragme
 use Rattle.round_trip.specs.soundness.Stores.{IsKeyColumn, IsSoundTable}
 use Rattle.round_trip.proofs.Lookups.{key_columns_at}
 use Rattle.schema_laws.specs.state_demand.WellWritten.{FitsTable, cols_of}
-use Rattle.schema_laws.specs.state_demand.Writings.{entity_writing, link_writing}
+use Rattle.schema_laws.specs.state_demand.Writings.{link_writing}
 use Rattle.schema_laws.proofs.state_demand.lists.Lists.{none_in_nil}
 use Rattle.schema_laws.proofs.state_demand.lists.Places.{map_agree}
 use Rattle.schema_laws.proofs.state_demand.writings.Fitting.{cell_cols, entity_cols, key_written, link_cols, written_stands}
@@ -32,7 +32,7 @@ use Rattle.regions.specs.region_laws.pattern.Listed.{HasCell, PatternCell}
 use Rattle.regions.proofs.region_laws.pattern.Keys.{end_cell, key_cell, owned_here}
 use Rattle.regions.proofs.region_laws.writings.Cells.{cells_concrete, rows_concrete}
 use Rattle.regions.proofs.region_laws.writings.Rows.{row_cells, rows_all, rows_only}
-use Rattle.region_states.specs.focus.Given.{Gives, GivesCell, GivesEntity, GivesHosted, GivesLink, GivesRow, HasConcreteCell, HasConcreteRow, HasLinkPerFlag, key_in}
+use Rattle.region_states.specs.focus.Given.{Gives, GivesCell, GivesLink, GivesRow, HasConcreteCell, HasConcreteRow, HasLinkPerFlag, key_in}
 use Rattle.region_states.proofs.focus.Given.{entity_given, link_given}
 use Rattle.region_states.proofs.focus.Listed.{has_row, has_symbol}
 

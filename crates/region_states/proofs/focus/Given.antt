@@ -19,7 +19,6 @@ use Rattle.schema_laws.proofs.state_demand.writings.Decisions.{so_or_not}
 use Rattle.schema_laws.proofs.sound_demand.Fitting.{sound_link}
 use Rattle.schema_laws.proofs.sound_demand.Keys.{inherits_keys}
 use Rattle.schema_laws.proofs.sound_demand.owners.Pairing.{written_part}
-use Rattle.regions.specs.declared.region.Region.{Region}
 use Rattle.regions.specs.Basis.{Basis, Host, host_end}
 use Rattle.regions.specs.Symbols.{SymbolWriting, fragment_writing, fragments_of, host_writings, is_linked, link_fragment_writing, link_fragments_of, link_writings, region_writings, selects_region}
 use Rattle.regions.specs.Patterns.{Valuation, by_entity, by_link}

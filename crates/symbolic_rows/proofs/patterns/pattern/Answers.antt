@@ -1,4 +1,4 @@
-use Rattle.std.proofs.Common.{◌≡◌, sym, subst}
+use Rattle.std.proofs.Common.{sym, subst}
 use Rattle.std.proofs.lemmas.Result.{IfOk-weaker}
 use Rattle.round_trip.specs.Words.{AssocId}
 use Rattle.regions.specs.Basis.{Basis}
@@ -20,11 +20,11 @@ returns-in-Entity-clause-facts c =
     let region : Region = c.in-Entity.region in
     let facts : HasFactsOf basis (focus.Entity region) (pattern_of basis (focus.Entity region)) =
     λ held same per_flag. (let P : Region → Type 0 = λ one. HasFacts basis.schema.store (pattern_of basis (focus.Entity one))
-        (by_entity basis.schema.model held.entity (partner_parts basis.schema.model held.links)) (Gives basis held.s held.entity held.links) in
-        subst P same (record {
-          rows = c.a_pattern_is_the_facts.ensures.rows basis is held per_flag;
-          cells = c.a_pattern_is_the_facts.ensures.cells basis is held per_flag;
-        })) in
+    (by_entity basis.schema.model held.entity (partner_parts basis.schema.model held.links)) (Gives basis held.s held.entity held.links) in
+    subst P same (record {
+      rows = c.a_pattern_is_the_facts.ensures.rows basis is held per_flag;
+      cells = c.a_pattern_is_the_facts.ensures.cells basis is held per_flag;
+    })) in
     let Of : Focus → Pattern → Type 0 = HasFactsOf basis in
     IfOk-weaker c.region_pattern.result _ _ (λ pattern same. subst (λ of. Of of pattern) (sym c.in-Entity.is) (subst (Of (focus.Entity region)) (sym same) facts))
     c.region_pattern.ensures
