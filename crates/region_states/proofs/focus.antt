@@ -4,3 +4,5 @@ pub mod Flags
 pub mod Hosts
 pub mod Partners
 pub mod Agreeing
+pub mod Given
+pub mod Facts

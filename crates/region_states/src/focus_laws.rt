@@ -13,12 +13,14 @@ ghost use Rattle.regions.specs.Patterns.{by_entity, by_link, pattern_of};
 ghost use Rattle.regions.specs.Regions.{regions_of};
 ghost use Rattle.regions.specs.Shown.{shows_link_row, shows_row};
 ghost use Rattle.regions.specs.Symbols.{is_linked, selects_region};
-ghost use Rattle.regions.specs.region_laws.Held.{HeldEntity, IsAtRow, IsHeldAt, IsOfRegion, LinkRow, LinkedEntity, Standing};
+ghost use Rattle.regions.specs.region_laws.Held.{HeldEntity, Holding, IsAtRow, IsHeldAt, IsOfRegion, LinkRow, LinkedEntity, Standing};
 ghost use Rattle.regions.specs.region_laws.IsBasis.{IsBasis};
 ghost use Rattle.regions.specs.region_laws.Partners.{HasFewPartners, part_by};
 ghost use Rattle.regions.specs.region_laws.RegionAt.{links_at};
+ghost use Rattle.regions.specs.region_laws.pattern.Allowed.{partner_parts};
 ghost use Rattle.regions.specs.region_laws.pattern.Described.{IsClearRow};
 ghost use Rattle.region_states.specs.focus.Agreeing.{RowAtFragment, RowAtHosted, RowAtJoined};
+ghost use Rattle.region_states.specs.focus.Given.{Gives, GivesCell, GivesLink, GivesRow, HasConcreteCell, HasConcreteRow, HasLinkPerFlag};
 ghost use Rattle.region_states.specs.focus.Held.{HasRow, IsRowOfOne, ListsValue};
 
 /// A legal state demands the row of an entity, in a table that its set owns, just where the pattern of the region that holds the entity has a row of the
@@ -41,6 +43,26 @@ pub fn a_pattern_is_the_demand()
         ↔ ListsValue (pattern_of basis (focus.Link row.fragment.assoc)) (by_link basis.schema.model row.assoc row.link) row.t col value }
     ensures partners { (basis : Basis) → IsBasis basis → (held : HeldEntity basis) → HasFewPartners basis held.s
         → IsHeldAt basis held.state held.s held.entity held.region (part_by basis held.state held.s (key_of basis.schema.model held.entity)) }
+{}
+
+/// Whatever the state, and legal or not: of an entity that a region holds with one link for each of its flags, the fragments that select the entity, and those
+/// of the links, give a row of a table just where the region's pattern has it with the values of the entity and of its partners' keys (`rows`), and a value
+/// of a cell just where a symbol that the pattern lists there has it (`cells`). The same of a link and its association's pattern (`link_rows`, `link_cells`).
+pub fn a_pattern_is_the_facts()
+    ensures rows { (basis : Basis) → IsBasis basis → (held : Holding basis) → HasLinkPerFlag basis held.region held.links → (t : TableId) (key : List Value)
+        → GivesRow basis.schema.store (Gives basis held.s held.entity held.links) t key
+        ↔ HasConcreteRow basis.schema.store (pattern_of basis (focus.Entity held.region))
+        (by_entity basis.schema.model held.entity (partner_parts basis.schema.model held.links)) t key }
+    ensures cells { (basis : Basis) → IsBasis basis → (held : Holding basis) → HasLinkPerFlag basis held.region held.links → (t : TableId) (key : List Value)
+        → (col : ColId) (value : Value) → GivesCell basis.schema.store (Gives basis held.s held.entity held.links) t key col value
+        ↔ HasConcreteCell basis.schema.store (pattern_of basis (focus.Entity held.region))
+        (by_entity basis.schema.model held.entity (partner_parts basis.schema.model held.links)) t key col value }
+    ensures link_rows { (basis : Basis) → IsBasis basis → (a : AssocId) (assoc : Assoc) → At basis.schema.model.assocs a.index assoc → (link : Link)
+        → (t : TableId) (key : List Value) → GivesRow basis.schema.store (GivesLink basis a assoc link) t key
+        ↔ HasConcreteRow basis.schema.store (pattern_of basis (focus.Link a)) (by_link basis.schema.model assoc link) t key }
+    ensures link_cells { (basis : Basis) → IsBasis basis → (a : AssocId) (assoc : Assoc) → At basis.schema.model.assocs a.index assoc → (link : Link)
+        → (t : TableId) (key : List Value) (col : ColId) (value : Value) → GivesCell basis.schema.store (GivesLink basis a assoc link) t key col value
+        ↔ HasConcreteCell basis.schema.store (pattern_of basis (focus.Link a)) (by_link basis.schema.model assoc link) t key col value }
 {}
 
 /// Each row that a legal state demands is that of an entity, in a table that its set owns, or of a link of a joined association; and the pattern of such an

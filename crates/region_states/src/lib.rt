@@ -32,7 +32,7 @@ pub use default_values::{
 };
 pub use failure_places::{a_mapping_round_trips_set_by_set, each_failure_is_at_a_set};
 pub use focus_laws::{
-    a_pattern_is_the_demand, agreement_is_by_the_pattern, flags_tell_links,
+    a_pattern_is_the_demand, a_pattern_is_the_facts, agreement_is_by_the_pattern, flags_tell_links,
     no_other_row_is_demanded,
 };
 pub use joined_laws::{a_joined_pattern_is_one_row, joined_links_are_told};
