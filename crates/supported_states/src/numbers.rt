@@ -63,8 +63,11 @@ pub(crate) fn number_count(model: &EntityModel) -> Result<u32, Memory>
 pub(crate) fn end_number(first: bool, assoc: AssocId) -> Result<u32, Memory>
     ensures { IfOk result (λ number. number ≡ end_number first assoc) }
 {
-    let before = 2 * assoc.index as usize;
-    narrow(if first { before + 1 } else { before + 2 })
+    if first {
+        narrow(2 * assoc.index as usize + 1)
+    } else {
+        narrow(2 * assoc.index as usize + 2)
+    }
 }
 
 /// A set's entity of a number. `Memory` comes where memory ran out.
