@@ -18,6 +18,10 @@ either : (b c : Bool) → cond b true c ≡ (b || c)
 either true c = refl
 either false c = refl
 
+pub not-no : (b : Bool) → not b ≡ false → b ≡ true
+not-no true told = refl
+not-no false told = cc
+
 -- what is known when a key has come
 pub known_more : (keys : List PlacedKey) (spots after : BTreeSet Spot) (placed : PlacedKey) → HoldsJust keys spots → Updates spot_cmp spots after (spot_of placed) true
     → HoldsJust (placed ∷ keys) after

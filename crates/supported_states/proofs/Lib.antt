@@ -6,3 +6,5 @@ pub mod Ends
 pub mod Lists
 pub mod Order
 pub mod Gathering
+pub mod Once
+pub mod Stepping
