@@ -1,6 +1,6 @@
 -- When given entities, keys and links make a legal state.
 -- Source: CSDL version 3, EntitySet, EntityType, Key, AssociationSet, Multiplicity and ReferentialConstraint.
-use Rattle.std.specs.Prelude.{◌≡◌, ◌≢◌, ℕ, ◌<◌, ◌≤◌, List, All, Any, AllPairs, Contains, Bool, not, length}
+use Rattle.std.specs.Prelude.{◌≡◌, ◌≢◌, ℕ, ◌<◌, ◌≤◌, List, Any, AllPairs, Contains, Bool, not, length}
 use Rattle.std.specs.List.{AllZip}
 use Rattle.round_trip.specs.Words.{SetId, AssocId, PropId, Value, EntityModel, Prop, EntitySet, Assoc, End, Entity, Link, At, HasAllowedNulls, HasFittingType, HasValuesInDomain, IsA, IsEntity, key_of}
 use Rattle.round_trip.specs.soundness.Lookups.{set_key}

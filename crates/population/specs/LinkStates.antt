@@ -1,13 +1,13 @@
 -- States with a link, or two, between plain entities at the ends of an association.
 -- Source: this project's choice of the states that it shows; CSDL version 3, AssociationSet, End and Multiplicity.
-use Rattle.std.specs.Prelude.{◌≡◌, ◌≢◌, ◌↔◌, ◌+◌, ℕ, List, [], ◌∷◌, map, flat_map, Contains, Bool, true, false, not}
+use Rattle.std.specs.Prelude.{◌≡◌, ◌≢◌, ◌+◌, ℕ, List, [], ◌∷◌, map, flat_map, Contains, Bool, true, false, not}
 use Rattle.round_trip.specs.Words.{SetId, AssocId, PropId, Value, EntityModel, Assoc, End, Entity, Link, State, IsA, IsLegal, entities_in, key_of, links_in, value_beside}
 use Rattle.round_trip.specs.soundness.Lookups.{set_key}
 use Rattle.schema_laws.specs.short_values.Fresh.{first_end_key, fresh_at, second_end_key, second_key}
 use Rattle.schema_laws.specs.short_values.Places.{place_in}
 use Rattle.population.specs.Plain.{plain}
 use Rattle.population.specs.Numbered.{end_of}
-use Rattle.population.specs.Principals.{PlacedKey, principals}
+use Rattle.population.specs.Principals.{principals}
 use Rattle.population.specs.Supported.{Placed, PlacedLink, end_key, link_of, supported}
 use Rattle.population.specs.Support.{support}
 

@@ -1,9 +1,10 @@
 -- The small part of a supported state, made without the rest of it.
 -- Source: this project's choice of the states that it shows; CSDL version 3, AssociationSet, Multiplicity and ReferentialConstraint.
-use Rattle.std.specs.Prelude.{◌==◌, ◌&&◌, ℕ, List, [], ◌++◌, map, filter, flat_map, length, slice_get, Bool, true, false, not, if◌then◌else◌}
+use Rattle.std.specs.Prelude.{◌≡◌, ◌==◌, ◌&&◌, ℕ, List, [], ◌++◌, map, filter, flat_map, length, slice_get, Contains, Bool, true, false, not, if◌then◌else◌}
 use Rattle.std.specs.List.{enumerate_from}
 use Rattle.std.specs.Option.{option_map_or}
 use Rattle.round_trip.specs.Words.{SetId, AssocId, Value, EntityModel, EntitySet, Assoc, Entity, Link, State, key_of}
+use Rattle.round_trip.specs.soundness.Lookups.{set_key}
 use Rattle.schema_laws.specs.short_values.Numbers.{numbers_from}
 use Rattle.schema_laws.specs.state_demand.Selecting.{same_key}
 use Rattle.population.specs.Plain.{plain}
@@ -12,6 +13,10 @@ use Rattle.population.specs.Principals.{PlacedKey, principals}
 use Rattle.population.specs.Supported.{added_link, end_key, given_in, is_none, is_one, keys_in, lacks_link, links_of, supported}
 use Rattle.population.specs.Kept.{key_at_end, key_in}
 use Rattle.population.specs.declared.placed.Supporting.{Supporting}
+
+-- each key has as many parts as the key of its set
+pub record AreWhole (model : EntityModel) (keys : List PlacedKey) : Type 0 where
+  pub long : (u : SetId) (key : List Value) → Contains (keys_in keys u) key → length key ≡ length (set_key model u)
 
 module _ (model : EntityModel) (outer : ℕ) (one : Supporting) where
   -- the state that is made of these

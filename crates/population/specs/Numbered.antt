@@ -2,7 +2,7 @@
 -- Source: this project's choice of the states that it shows; CSDL version 3, AssociationSet and End.
 use Rattle.std.specs.Prelude.{◌==◌, ℕ, zero, suc, List, [], ◌∷◌, map, length, slice_get, Bool, true, false, if◌then◌else◌}
 use Rattle.std.specs.Option.{option_map_or}
-use Rattle.round_trip.specs.Words.{SetId, TypeId, PropId, AssocId, Value, EntityModel, EntitySet, Assoc, End, Entity}
+use Rattle.round_trip.specs.Words.{SetId, TypeId, AssocId, Value, EntityModel, EntitySet, Assoc, End, Entity}
 use Rattle.round_trip.specs.soundness.Lookups.{set_key}
 use Rattle.schema_laws.specs.short_values.Fresh.{added_value, fresh_at}
 use Rattle.schema_laws.specs.short_values.Numbers.{numbers_from}

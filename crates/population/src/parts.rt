@@ -6,7 +6,7 @@ ghost use Rattle.round_trip.specs.soundness.mappings.Mappings.{IsSoundSchema};
 ghost use Rattle.round_trip.specs.soundness.models.Models.{IsSoundModel};
 ghost use Rattle.population.specs.Kept.{AreAlikeAs, AreNeeded, AsksAtKey, HoldsNeeded, IsClosed, IsJoinedToOne, kept_state, key_in, needs, part_of};
 ghost use Rattle.population.specs.Given.{HasNumbers};
-ghost use Rattle.population.specs.Made.{needs_of, part_made, state_of};
+ghost use Rattle.population.specs.Made.{AreWhole, needs_of, part_made, state_of};
 ghost use Rattle.population.specs.declared.placed.Supporting.{Supporting};
 ghost use Rattle.population.specs.Principals.{PlacedKey};
 ghost use Rattle.population.specs.RowStates.{FailsInRows, IsEntityWriter, IsLinkWriter, row_writers};
@@ -53,8 +53,8 @@ pub fn failures_stand_in_parts()
 /// What the entity with a key needs in a supported state, and the part of the state that holds what is needed, are made of what supports the state, without
 /// its other entities.
 pub fn supported_parts_are_made()
-    ensures needs { (model : EntityModel) (outer : ℕ) → HasNumbers model outer → (one : Supporting) → IsLegal model (state_of model outer one) → (placed to : PlacedKey)
+    ensures needs { (model : EntityModel) (outer : ℕ) → HasNumbers model outer → (one : Supporting) → AreWhole model one.keys → (placed to : PlacedKey)
         → Contains (needs model (state_of model outer one) placed) to ↔ Contains (needs_of model outer one placed) to }
-    ensures part { (model : EntityModel) (outer : ℕ) → HasNumbers model outer → (one : Supporting) → IsLegal model (state_of model outer one) → (needed : PlacedKey → Bool)
-        → kept_state model (λ u entity. needed (key_in model u entity)) (state_of model outer one) ≡ part_made model outer one needed }
+    ensures part { (model : EntityModel) (outer : ℕ) → HasNumbers model outer → (one : Supporting) → AreWhole model one.keys → IsLegal model (state_of model outer one)
+        → (needed : PlacedKey → Bool) → kept_state model (λ u entity. needed (key_in model u entity)) (state_of model outer one) ≡ part_made model outer one needed }
 {}

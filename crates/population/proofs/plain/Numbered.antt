@@ -1,14 +1,12 @@
 -- The entities of numbers: of the types that are asked, with keys that differ by the number.
-use Rattle.std.proofs.Common.{◌≡◌, ◌≢◌, ◌⊎◌, ⊎_elim, inl, inr, ℕ, zero, suc, ◌+◌, ◌<◌, ◌≤◌, ◌==◌, List, [], ◌∷◌, map, length, slice_get, Contains, Option, Some, None, Bool, true, false, if◌then◌else◌, refl, sym, ap, subst, ◌∙◌, arith}
-use Rattle.std.specs.List.{AllZip}
+use Rattle.std.proofs.Common.{◌≡◌, ◌⊎◌, ⊎_elim, inl, inr, ℕ, zero, suc, ◌+◌, ◌<◌, ◌==◌, List, [], ◌∷◌, map, length, slice_get, Contains, Option, Some, None, Bool, true, false, refl, sym, ap, subst, ◌∙◌, arith}
 use Rattle.std.specs.Option.{option_map_or}
 use Rattle.std.proofs.lemmas.Bool.{cond-true, cond_both}
-use Rattle.std.proofs.lemmas.Bool.Decides.{Decides-eqb}
 use Rattle.std.proofs.lemmas.List.Elements.{All-contains}
 use Rattle.std.proofs.lemmas.Option.{slice_get_within}
 use Rattle.emc_base.proofs.Mapped.{all_zip-map, contains_at}
 use Rattle.emc_base.proofs.Lists.{all_from_members, item_at}
-use Rattle.emc_base.proofs.Members.{contains_cons_cases, contains_head, contains_tail}
+use Rattle.emc_base.proofs.Members.{contains_head, contains_tail}
 use Rattle.round_trip.specs.Words.{SetId, TypeId, PropId, AssocId, EntityModel, EntityType, EntitySet, Assoc, End, At, key_of, key_props}
 use Rattle.edm_types.specs.IsA.{same}
 use Rattle.round_trip.specs.soundness.Lookups.{HasConcrete, IsUnderElement, set_key}

@@ -1,5 +1,5 @@
 -- What holds between the members of short lists.
-use Rattle.std.proofs.Common.{◌≡◌, ⊎_elim, List, [], ◌∷◌, All, AllPairs, Contains, sym, subst, arith}
+use Rattle.std.proofs.Common.{◌≡◌, ⊎_elim, [], ◌∷◌, All, AllPairs, Contains, sym, subst, arith}
 use Rattle.std.proofs.lemmas.List.Kept.{AllPairs-cons}
 use Rattle.emc_base.proofs.Lists.{all_from_members}
 use Rattle.emc_base.proofs.Members.{contains_cons_cases, contains_nil}

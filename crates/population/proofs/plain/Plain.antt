@@ -1,37 +1,34 @@
 -- A plain entity has its key, null where it may be, and values in the domains of its properties.
-use Rattle.std.proofs.Common.{◌≡◌, ◌≢◌, ◌⊎◌, ⊎_elim, inl, inr, ℕ, pos, ◌<◌, ◌≤◌, ◌==◌, ◌&&◌, List, [], ◌∷◌, map, filter, length, slice_get, unwrap_or, get_or, Contains, Option, Some, None, Bool, true, false, true≢false, not, IsTrue, if◌then◌else◌, refl, sym, ap, subst, ◌∙◌, arith}
-use Rattle.std.specs.Bool.{⊤}
+use Rattle.std.proofs.Common.{◌≡◌, ◌≢◌, ◌⊎◌, ⊎_elim, inl, inr, ℕ, pos, ◌<◌, ◌≤◌, ◌==◌, ◌&&◌, List, [], ◌∷◌, filter, length, slice_get, unwrap_or, Contains, Some, None, Bool, true, false, true≢false, not, IsTrue, if◌then◌else◌, refl, sym, ap, subst, ◌∙◌, arith}
 use Rattle.std.specs.List.{AllZip, enumerate_from}
 use Rattle.std.specs.Option.{option_map_or}
-use Rattle.std.proofs.lemmas.Bool.{and_parts, cond-true, cond-false, cond_both}
+use Rattle.std.proofs.lemmas.Bool.{and_parts, cond-true, cond_both}
 use Rattle.std.proofs.lemmas.Bool.Decides.{not_from_Decides}
 use Rattle.std.proofs.lemmas.Int.{ints}
 use Rattle.std.proofs.lemmas.List.{length-map}
 use Rattle.std.proofs.lemmas.Slice.Zip.{AllZip-long}
-use Rattle.emc_base.specs.declared.value.Value.TheVariants as value
 use Rattle.emc_base.specs.declared.value.Kind.TheVariants as kind
 use Rattle.emc_base.proofs.Lists.{at_once}
-use Rattle.emc_base.proofs.Mapped.{contains_at, contains_enumerated, contains_filter, contains_map}
+use Rattle.emc_base.proofs.Mapped.{contains_enumerated, contains_filter, contains_map}
 use Rattle.emc_base.proofs.Members.{contains_cons_cases, contains_head, contains_nil}
 use Rattle.emc_base.proofs.Numbered.{enumerated_at, filter_contains, map_contains}
-use Rattle.round_trip.specs.Words.{SetId, TypeId, PropId, Value, Null, Whole, Kind, EntityModel, EntityType, EntitySet, Prop, At, InDomain, IsA, IsConcrete, HasProp, IsEntity, key_of, key_props, props_of, value_beside, value_of}
+use Rattle.round_trip.specs.Words.{SetId, TypeId, PropId, Value, Null, Kind, EntityModel, EntityType, EntitySet, Prop, At, InDomain, IsA, IsConcrete, key_of, key_props, props_of, value_beside, value_of}
 use Rattle.edm_types.specs.IsA.{chain}
 use Rattle.round_trip.specs.soundness.Kinds.{IsSoundKind}
 use Rattle.round_trip.specs.soundness.Lookups.{HasConcrete, IsUnderElement, set_key}
-use Rattle.round_trip.specs.soundness.models.Inheritance.{IsKeyProp}
 use Rattle.round_trip.specs.soundness.models.Models.{IsSoundModel}
 use Rattle.schema_laws.specs.sound_demand.Deriving.{derives}
-use Rattle.schema_laws.specs.short_values.Fresh.{added, added_value, fresh, most_indices}
+use Rattle.schema_laws.specs.short_values.Fresh.{added_value, fresh, most_indices}
 use Rattle.schema_laws.specs.short_values.Places.{is_among, is_dependent}
-use Rattle.schema_laws.specs.short_values.Short.{IsOfSort, IsShort}
+use Rattle.schema_laws.specs.short_values.Short.{IsOfSort}
 use Rattle.schema_laws.proofs.sound_demand.Deriving.{decides_types}
 use Rattle.schema_laws.proofs.sound_demand.Keys.{inherits_keys, keys_apart}
 use Rattle.schema_laws.proofs.sound_demand.tuples.TupleKeys.{key_beside}
 use Rattle.schema_laws.proofs.sound_types.Dependent.{dependent_is, sound_kind}
-use Rattle.schema_laws.proofs.sound_types.Inherited.{key_among, key_prop}
+use Rattle.schema_laws.proofs.sound_types.Inherited.{key_among}
 use Rattle.schema_laws.proofs.short_values.Fitting.{key_takes}
 use Rattle.schema_laws.proofs.short_values.Places.{Decides-among, Decides-dependent}
-use Rattle.schema_laws.proofs.short_values.Short.{domain_not_null, fresh_fits, fresh_short, one_within, short_not_null}
+use Rattle.schema_laws.proofs.short_values.Short.{domain_not_null, fresh_fits}
 use Rattle.schema_laws.proofs.state_demand.lists.Ids.{Decides-prop}
 use Rattle.schema_laws.proofs.state_demand.lists.Places.{map_agree}
 use Rattle.schema_laws.proofs.state_demand.writings.Decisions.{so_or_not}

@@ -1,5 +1,5 @@
 -- The principals of entities whose dependent values are short have short keys; so have those of plain entities.
-use Rattle.std.proofs.Common.{◌≡◌, ◌≢◌, ⊎_elim, ℕ, ◌==◌, List, [], map, slice_get, option_map, All, Contains, Option, Some, None, refl, sym, ap, subst, ◌∙◌, arith}
+use Rattle.std.proofs.Common.{◌≡◌, ◌≢◌, ⊎_elim, ℕ, List, [], map, slice_get, option_map, All, Contains, Option, Some, None, refl, sym, ap, subst, ◌∙◌, arith}
 use Rattle.std.specs.List.{AllZip}
 use Rattle.std.specs.Option.{option_map_or}
 use Rattle.std.proofs.lemmas.List.Elements.{All-contains}
@@ -8,14 +8,12 @@ use Rattle.emc_base.proofs.Mapped.{all_zip-map, contains_map}
 use Rattle.emc_base.proofs.Members.{contains_nil}
 use Rattle.round_trip.specs.Words.{SetId, PropId, TypeId, Value, Null, EntityModel, EntitySet, Prop, Assoc, Constraint, Entity, At, IsA, dependent_end, principal_end, key_props, props_of, value_beside, value_of, values_of}
 use Rattle.round_trip.specs.soundness.Kinds.{without_bound}
-use Rattle.round_trip.specs.soundness.Lookups.{HasConcrete, IsUnderElement, prop_kind, set_key}
+use Rattle.round_trip.specs.soundness.Lookups.{HasConcrete, IsUnderElement}
 use Rattle.round_trip.specs.soundness.models.Constraints.{HasMatchedLists}
 use Rattle.round_trip.specs.soundness.models.Inheritance.{IsKeyProp}
-use Rattle.round_trip.specs.soundness.models.Models.{IsSoundModel}
 use Rattle.round_trip.proofs.Lookups.{prop_kind_at}
-use Rattle.schema_laws.specs.short_values.Fresh.{added_value, fresh_at}
+use Rattle.schema_laws.specs.short_values.Fresh.{added_value}
 use Rattle.schema_laws.specs.short_values.Places.{is_among}
-use Rattle.schema_laws.specs.short_values.Short.{IsOfSort, IsShort}
 use Rattle.schema_laws.proofs.sound_types.Dependent.{dependent_kind}
 use Rattle.schema_laws.proofs.sound_types.Inherited.{inherits_prop, key_prop}
 use Rattle.schema_laws.proofs.short_values.Places.{Decides-among, fresh_is}
@@ -23,12 +21,12 @@ use Rattle.schema_laws.proofs.short_values.Short.{fresh_short, fresh_sort}
 use Rattle.schema_laws.proofs.state_demand.writings.Decisions.{so_or_not}
 use Rattle.population.specs.Given.{HasNumbers, HasShortParts, IsShortFor}
 use Rattle.population.specs.Plain.{first_concrete, plain}
-use Rattle.population.specs.Principals.{AsksFor, PlacedKey, principal_by, principal_key, principals}
+use Rattle.population.specs.Principals.{AsksFor, PlacedKey, principal_key, principals}
 use Rattle.population.specs.Support.{steps}
 use Rattle.population.proofs.principals.Asked.{asked_of}
 use Rattle.population.proofs.principals.Matched.{IsMatched, bare_kind, part_matched, sort_alike, sound_constraint}
 use Rattle.population.proofs.plain.Numbered.{asked_concrete, asked_under, number_small}
-use Rattle.population.proofs.plain.Plain.{keys_same, part_short, plain_part}
+use Rattle.population.proofs.plain.Plain.{part_short, plain_part}
 use Rattle.population.proofs.principals.Principals.{is_dependent_by, plain_dependent, principal_key_is}
 
 module _ (model : EntityModel) (outer : ℕ) (has : HasNumbers model outer) where

@@ -1,13 +1,12 @@
 -- The principals that an entity asks for are those that are computed.
-use Rattle.std.proofs.Common.{◌≡◌, ◌≢◌, ◌↔◌, ⊎_elim, ◌==◌, ◌&&◌, List, [], ◌∷◌, All, Contains, Bool, true, false, not, Decides, Option, Some, None, refl, sym, ap, subst, ◌∙◌}
-use Rattle.std.specs.List.{list_all}
+use Rattle.std.proofs.Common.{◌≡◌, ◌≢◌, ◌↔◌, ⊎_elim, ◌==◌, ◌&&◌, List, [], ◌∷◌, All, Contains, not, Decides, Option, Some, None, refl, sym, subst}
 use Rattle.std.specs.Option.{option_map_or}
-use Rattle.std.proofs.lemmas.Bool.{and_parts, cond-true, cond_both}
-use Rattle.std.proofs.lemmas.Bool.Decides.{Decides-and, Decides-like, Decides-not, not_from_Decides}
+use Rattle.std.proofs.lemmas.Bool.{cond-true, cond_both}
+use Rattle.std.proofs.lemmas.Bool.Decides.{Decides-and, Decides-not}
 use Rattle.emc_base.proofs.FoundItems.{contains_flat_map}
 use Rattle.emc_base.proofs.Joined.{in_flat_map}
 use Rattle.emc_base.proofs.Members.{contains_cons_cases, contains_head, contains_nil}
-use Rattle.round_trip.specs.Words.{SetId, Value, Null, EntityModel, Assoc, Constraint, Entity, IsA, dependent_end, principal_end, values_of}
+use Rattle.round_trip.specs.Words.{SetId, Value, Null, EntityModel, Assoc, Constraint, Entity, IsA, dependent_end, values_of}
 use Rattle.round_trip.specs.soundness.models.Models.{IsSoundModel}
 use Rattle.schema_laws.specs.sound_demand.Deriving.{derives}
 use Rattle.schema_laws.specs.state_demand.Selecting.{same_value}

@@ -1,5 +1,5 @@
 -- Principal and dependent properties, item by item: their kinds, and the values beside them.
-use Rattle.std.proofs.Common.{◌≡◌, ⊎_elim, ℕ, ◌==◌, List, [], ◌∷◌, map, length, slice_get, option_map, Contains, Option, Some, None, refl, sym, ap, subst, ◌∙◌}
+use Rattle.std.proofs.Common.{◌≡◌, ⊎_elim, ℕ, ◌==◌, List, [], ◌∷◌, map, length, option_map, Contains, Option, Some, None, refl, sym, ap, subst, ◌∙◌}
 use Rattle.std.proofs.lemmas.Bool.{cond-true, cond_both}
 use Rattle.std.proofs.lemmas.Bool.Decides.{not_from_Decides}
 use Rattle.std.proofs.lemmas.List.{length-map}
@@ -8,7 +8,7 @@ use Rattle.std.proofs.lemmas.Option.{MatchOption-at_some}
 use Rattle.emc_base.specs.declared.value.Value.TheVariants as value
 use Rattle.emc_base.specs.declared.value.Kind.TheVariants as kind
 use Rattle.emc_base.proofs.Members.{contains_cons_cases, contains_head, contains_nil, contains_tail}
-use Rattle.round_trip.specs.Words.{SetId, PropId, Value, Kind, EntityModel, Prop, Assoc, Constraint, Entity, At, IsA, key_of, key_props, principal_end, value_beside, value_of, values_of}
+use Rattle.round_trip.specs.Words.{PropId, Value, Kind, EntityModel, Prop, Assoc, Constraint, Entity, At, key_of, key_props, principal_end, value_beside, value_of, values_of}
 use Rattle.round_trip.specs.soundness.models.Constraints.{HasIndependentMults, HasMatchedLists, IsSoundAssoc, IsSoundConstraint}
 use Rattle.round_trip.specs.soundness.models.Models.{IsSoundModel}
 use Rattle.round_trip.specs.soundness.Kinds.{without_bound}
@@ -16,7 +16,6 @@ use Rattle.round_trip.specs.soundness.Lookups.{prop_kind}
 use Rattle.round_trip.proofs.Lookups.{prop_kind_at}
 use Rattle.schema_laws.specs.short_values.Fresh.{fresh, fresh_at}
 use Rattle.schema_laws.specs.short_values.Short.{IsOfSort}
-use Rattle.schema_laws.proofs.sound_demand.Keys.{inherits_keys}
 use Rattle.schema_laws.proofs.sound_demand.tuples.TupleKeys.{key_beside}
 use Rattle.schema_laws.proofs.short_values.Places.{fresh_is}
 use Rattle.schema_laws.proofs.state_demand.lists.Ids.{Decides-prop}

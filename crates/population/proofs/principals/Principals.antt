@@ -1,21 +1,19 @@
 -- Each entity of a supported state has its principals.
-use Rattle.std.proofs.Common.{◌≡◌, ◌≢◌, ⊎_elim, ℕ, ◌<◌, ◌≤◌, ◌==◌, List, [], map, length, slice_get, All, Any, Contains, Option, Some, None, Bool, true, false, IsTrue, if◌then◌else◌, refl, sym, ap, subst, ◌∙◌, arith}
-use Rattle.std.specs.Option.{option_map_or}
+use Rattle.std.proofs.Common.{◌≡◌, ◌≢◌, ⊎_elim, ℕ, List, map, All, Any, Contains, Some, Bool, true, false, if◌then◌else◌, refl, sym, ap, ◌∙◌}
 use Rattle.std.proofs.lemmas.Bool.{cond-true}
 use Rattle.std.proofs.lemmas.List.{length-map}
 use Rattle.std.proofs.lemmas.List.Elements.{All-contains}
 use Rattle.emc_base.proofs.FoundItems.{member_of, some_member}
-use Rattle.emc_base.proofs.Lists.{all_from_members, at_once}
-use Rattle.emc_base.proofs.Mapped.{contains_at, contains_map}
-use Rattle.round_trip.specs.Words.{SetId, AssocId, PropId, TypeId, Value, Null, EntityModel, EntitySet, Prop, Assoc, Constraint, Entity, At, IsA, HavePrincipals, dependent_end, principal_end, key_of, key_props, props_of, value_beside, value_of, values_of}
-use Rattle.round_trip.specs.soundness.Lookups.{HasConcrete, IsElement, set_key}
+use Rattle.emc_base.proofs.Lists.{all_from_members}
+use Rattle.emc_base.proofs.Mapped.{contains_map}
+use Rattle.round_trip.specs.Words.{SetId, PropId, TypeId, Value, Null, EntityModel, EntitySet, Prop, Assoc, Constraint, Entity, At, IsA, dependent_end, principal_end, key_of, key_props, props_of, value_beside, value_of, values_of}
+use Rattle.round_trip.specs.soundness.Lookups.{IsElement, set_key}
 use Rattle.round_trip.specs.soundness.models.Constraints.{HasMatchedLists}
 use Rattle.round_trip.specs.soundness.models.Inheritance.{IsKeyProp}
 use Rattle.round_trip.specs.soundness.models.Models.{IsSoundModel}
 use Rattle.round_trip.specs.soundness.mappings.Joined.{IsDependent}
-use Rattle.schema_laws.specs.short_values.Fresh.{added_value, fresh, fresh_at, most_indices}
+use Rattle.schema_laws.specs.short_values.Fresh.{added_value, fresh, fresh_at}
 use Rattle.schema_laws.specs.short_values.Places.{is_among, is_dependent}
-use Rattle.schema_laws.proofs.sound_demand.Keys.{inherits_keys}
 use Rattle.schema_laws.proofs.sound_types.Dependent.{dependent_kind}
 use Rattle.schema_laws.proofs.sound_types.Inherited.{inherits_prop, key_prop}
 use Rattle.schema_laws.proofs.short_values.Places.{Decides-among, Decides-dependent, fresh_is}
@@ -23,14 +21,14 @@ use Rattle.schema_laws.proofs.state_demand.lists.Places.{map_agree}
 use Rattle.schema_laws.proofs.state_demand.owners.Owners.{beside_map}
 use Rattle.schema_laws.proofs.state_demand.writings.Decisions.{so_or_not}
 use Rattle.population.specs.Given.{AreGiven, AreKeys, HasNumbers, IsThere}
-use Rattle.population.specs.Numbered.{asked_type, number_count, numbered, numbered_key}
+use Rattle.population.specs.Numbered.{asked_type, numbered, numbered_key}
 use Rattle.population.specs.Plain.{first_concrete, first_value, needed_value, plain}
-use Rattle.population.specs.Principals.{PlacedKey, principal_by, principal_key, principals}
-use Rattle.population.specs.Supported.{Placed, given_in, keys_in, stands_in}
+use Rattle.population.specs.Principals.{PlacedKey, principal_by, principal_key}
+use Rattle.population.specs.Supported.{Placed, stands_in}
 use Rattle.population.proofs.principals.Asked.{is_principal}
 use Rattle.population.proofs.supporting.Entities.{Stands, has_set_key, number_stands, of_given, of_key, of_number, set_there, stands_cases}
-use Rattle.population.proofs.principals.Matched.{IsMatched, bare_kind, as_many, fresh_matched, part_matched, principal_values, sound_constraint}
-use Rattle.population.proofs.plain.Numbered.{asked_concrete, asked_under, number_small, numbered_has, set_key_is}
+use Rattle.population.proofs.principals.Matched.{IsMatched, as_many, fresh_matched, part_matched, principal_values, sound_constraint}
+use Rattle.population.proofs.plain.Numbered.{asked_concrete, asked_under, numbered_has, set_key_is}
 use Rattle.population.proofs.plain.Plain.{keys_same, plain_other, plain_part}
 
 module _ (model : EntityModel) (sound : IsSoundModel model) where

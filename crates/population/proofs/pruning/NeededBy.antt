@@ -1,5 +1,5 @@
 -- What is needed by a key is what an entity of it asks for, and what ends `1` ask of it.
-use Rattle.std.proofs.Common.{◌≡◌, ◌↔◌, ◌⊎◌, ⊎_elim, inl, inr, ◌==◌, ◌&&◌, List, [], ◌++◌, map, filter, flat_map, Contains, Bool, true, false, not, refl, sym, ap, subst, ◌∙◌}
+use Rattle.std.proofs.Common.{◌≡◌, ◌↔◌, ◌⊎◌, ⊎_elim, inl, inr, ◌==◌, ◌&&◌, List, [], map, filter, flat_map, Contains, Bool, true, false, not, sym, subst}
 use Rattle.std.specs.List.{enumerate_from}
 use Rattle.std.proofs.lemmas.Bool.{cond_both}
 use Rattle.std.proofs.lemmas.Bool.Decides.{Decides-and}
@@ -7,8 +7,7 @@ use Rattle.std.proofs.lemmas.List.Elements.{Contains-append_cases}
 use Rattle.emc_base.proofs.Joined.{in_flat_map}
 use Rattle.emc_base.proofs.Members.{contains_nil, in_map}
 use Rattle.emc_base.proofs.Numbered.{enumerated_at, filter_contains}
-use Rattle.edm_types.specs.declared.model.Mult.TheVariants.{One}
-use Rattle.round_trip.specs.Words.{SetId, AssocId, EntityModel, Assoc, Entity, Link, State, At, entities_in, key_of, links_in}
+use Rattle.round_trip.specs.Words.{AssocId, EntityModel, Assoc, Link, State, At, entities_in, key_of, links_in}
 use Rattle.round_trip.specs.soundness.models.Models.{IsSoundModel}
 use Rattle.schema_laws.specs.state_demand.Selecting.{same_key}
 use Rattle.schema_laws.proofs.state_demand.lists.Ids.{Decides-set}

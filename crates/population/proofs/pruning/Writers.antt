@@ -1,12 +1,11 @@
 -- The writers of a row are the entities that fragments write to it, and the ends of the links that link fragments write to it.
-use Rattle.std.proofs.Common.{◌≡◌, ◌↔◌, ◌⊎◌, ⊎_elim, inl, inr, List, [], ◌∷◌, ◌++◌, map, filter, flat_map, slice_get, Contains, Bool, true, false, Option, Some, None, refl, sym, subst}
+use Rattle.std.proofs.Common.{◌≡◌, ◌↔◌, ◌⊎◌, ⊎_elim, inl, inr, List, [], ◌∷◌, filter, flat_map, slice_get, Contains, Bool, true, false, Option, Some, None, refl, sym, subst}
 use Rattle.std.specs.Option.{option_map_or}
 use Rattle.std.proofs.lemmas.List.Elements.{Contains-append_cases}
-use Rattle.emc_base.specs.Lists.{At}
 use Rattle.emc_base.proofs.Joined.{in_flat_map}
 use Rattle.emc_base.proofs.Members.{contains_cons_cases, contains_nil, in_map}
 use Rattle.emc_base.proofs.Numbered.{filter_contains}
-use Rattle.round_trip.specs.Words.{TableId, Value, Assoc, Entity, Fragment, Link, LinkFragment, Schema, State, entities_in, links_in, written_key}
+use Rattle.round_trip.specs.Words.{TableId, Value, Assoc, Entity, Fragment, Link, LinkFragment, Schema, State, entities_in, links_in}
 use Rattle.schema_laws.specs.state_demand.MadeTables.{is_to_row}
 use Rattle.schema_laws.specs.state_demand.Writings.{entity_writing, link_writing}
 use Rattle.schema_laws.proofs.state_demand.writings.Demanded.{Decides-row}

@@ -1,5 +1,5 @@
 -- A step to a key at which no entity of a number stands is by an arrow, and arrows lead through no more sets than there are.
-use Rattle.std.proofs.Common.{◌≡◌, ◌≢◌, ◌⊎◌, ⊎_elim, ℕ, zero, suc, ◌<◌, ◌≤◌, ◌==◌, List, [], ◌∷◌, map, length, slice_get, inl, inr, All, Any, Contains, Option, Some, None, Bool, true, false, if◌then◌else◌, refl, sym, ap, subst, ◌∙◌, arith}
+use Rattle.std.proofs.Common.{◌≡◌, ◌≢◌, ◌⊎◌, ⊎_elim, ℕ, suc, ◌<◌, ◌≤◌, ◌==◌, List, [], ◌∷◌, map, length, slice_get, inl, inr, All, Contains, Option, Some, None, true, false, if◌then◌else◌, refl, sym, ap, subst, ◌∙◌, arith}
 use Rattle.std.specs.Option.{option_map_or}
 use Rattle.std.proofs.lemmas.Bool.{cond-true}
 use Rattle.std.proofs.lemmas.List.Elements.{All-contains}
@@ -7,16 +7,15 @@ use Rattle.std.proofs.lemmas.List.Kept.{AllPairs-cons}
 use Rattle.std.proofs.lemmas.Option.{slice_get_within}
 use Rattle.std.proofs.lemmas.List.{length-map}
 use Rattle.emc_base.specs.Lists.{AreApart}
-use Rattle.emc_base.proofs.FoundItems.{member_of, some_member}
+use Rattle.emc_base.proofs.FoundItems.{some_member}
 use Rattle.emc_base.proofs.Lists.{all_from_members}
 use Rattle.emc_base.proofs.Mapped.{contains_map}
 use Rattle.emc_base.proofs.Members.{contains_cons_cases, contains_nil}
-use Rattle.emc_base.proofs.Numbered.{all_pairs_map, map_contains}
-use Rattle.round_trip.specs.Words.{SetId, PropId, TypeId, Value, Null, EntityModel, EntitySet, Prop, Assoc, Constraint, Entity, At, IsA, dependent_end, principal_end, key_props, props_of, value_of, values_of}
+use Rattle.round_trip.specs.Words.{SetId, PropId, TypeId, Value, Null, EntityModel, EntitySet, Prop, Assoc, Constraint, Entity, At, dependent_end, key_props, props_of, value_of, values_of}
 use Rattle.round_trip.specs.soundness.Lookups.{IsNeeded}
-use Rattle.round_trip.specs.soundness.models.Constraints.{DependsByKey, HasArrow, HasMatchedLists, HasNoCircleOfArrows, Leads, arrow, further}
+use Rattle.round_trip.specs.soundness.models.Constraints.{HasArrow, HasMatchedLists, Leads, arrow, further}
 use Rattle.round_trip.specs.soundness.models.Inheritance.{IsKeyProp}
-use Rattle.schema_laws.specs.short_values.Fresh.{added_value, fresh, fresh_at}
+use Rattle.schema_laws.specs.short_values.Fresh.{added_value, fresh}
 use Rattle.schema_laws.specs.short_values.Numbers.{numbers_from}
 use Rattle.schema_laws.specs.short_values.Places.{is_among, is_dependent}
 use Rattle.schema_laws.proofs.sound_demand.Keys.{inherits_keys}
@@ -28,7 +27,7 @@ use Rattle.schema_laws.proofs.state_demand.lists.Lists.{any_or_none}
 use Rattle.schema_laws.proofs.state_demand.writings.Decisions.{so_or_not}
 use Rattle.population.specs.Given.{HasNumbers}
 use Rattle.population.specs.Numbered.{number_count, numbered_key}
-use Rattle.population.specs.Plain.{first_concrete, first_value, needed_value, plain}
+use Rattle.population.specs.Plain.{first_concrete, first_value, plain}
 use Rattle.population.specs.Principals.{AsksFor, PlacedKey, principals}
 use Rattle.population.specs.Support.{steps}
 use Rattle.population.proofs.principals.Asked.{asked_of}

@@ -1,30 +1,29 @@
 -- Plain entities at ends, with keys of different indices, are given entities of a legal state.
-use Rattle.std.proofs.Common.{◌≡◌, ◌≢◌, ⊎_elim, ℕ, suc, ◌+◌, ◌<◌, ◌≤◌, ◌==◌, List, [], ◌∷◌, map, filter, flat_map, length, get_or, AllPairs, Contains, Bool, Some, refl, sym, ap, subst, ◌∙◌, arith}
+use Rattle.std.proofs.Common.{◌≡◌, ◌≢◌, ℕ, ◌+◌, ◌<◌, ◌≤◌, ◌==◌, List, map, filter, flat_map, length, get_or, AllPairs, Contains, Bool, refl, sym, ap, subst, ◌∙◌, arith}
 use Rattle.std.proofs.lemmas.List.Elements.{Contains-get_or}
 use Rattle.std.proofs.lemmas.List.Kept.{AllPairs-filter}
 use Rattle.emc_base.proofs.FoundItems.{contains_flat_map}
 use Rattle.emc_base.proofs.Joined.{in_flat_map}
-use Rattle.emc_base.proofs.Lists.{at_once}
 use Rattle.emc_base.proofs.Mapped.{contains_filter, contains_map}
 use Rattle.emc_base.proofs.Numbered.{all_pairs_map, filter_contains, map_contains}
-use Rattle.round_trip.specs.Words.{SetId, AssocId, PropId, Value, EntityModel, EntitySet, End, Entity, Link, State, At, IsA, IsLegal, key_of, key_props}
-use Rattle.round_trip.specs.soundness.Lookups.{HasConcrete, IsUnderElement, set_key}
+use Rattle.round_trip.specs.Words.{SetId, AssocId, PropId, EntityModel, EntitySet, Entity, Link, At, IsA, IsLegal, key_of}
+use Rattle.round_trip.specs.soundness.Lookups.{set_key}
 use Rattle.round_trip.specs.soundness.models.Constraints.{IsSoundEnd}
-use Rattle.schema_laws.specs.short_values.Fresh.{added_value, fresh_at, most_indices}
+use Rattle.schema_laws.specs.short_values.Fresh.{added_value, most_indices}
 use Rattle.schema_laws.specs.short_values.Places.{place_in}
 use Rattle.schema_laws.proofs.sound_demand.Keys.{keys_few}
 use Rattle.schema_laws.proofs.short_values.Places.{place_within}
 use Rattle.schema_laws.proofs.state_demand.lists.Ids.{Decides-assoc, Decides-set}
 use Rattle.population.specs.Given.{AreGiven, AreKeys, AreLinked, AreWanted, HasNumbers, HasShortParts, StandsWell}
 use Rattle.population.specs.LinkStates.{PlainEnd, entity_at, key_at, key_from, placed_at, plain_state}
-use Rattle.population.specs.Numbered.{number_count, numbered_key, twice}
+use Rattle.population.specs.Numbered.{number_count, numbered_key}
 use Rattle.population.specs.Principals.{AsksFor, PlacedKey, principals}
 use Rattle.population.specs.Support.{support}
 use Rattle.population.specs.Supported.{Placed, PlacedLink, given_in, links_of, stands_in}
 use Rattle.population.proofs.principals.Asked.{asked_of}
 use Rattle.population.proofs.supporting.Entities.{given_stands}
 use Rattle.population.proofs.supporting.Legal.{supported_legal}
-use Rattle.population.proofs.plain.Numbered.{made_once, made_short, number_small, set_key_is, some_part, twice_is}
+use Rattle.population.proofs.plain.Numbered.{made_once, made_short, number_small, set_key_is, some_part}
 use Rattle.population.proofs.plain.Plain.{first_is, has_key, plain_well}
 use Rattle.population.proofs.plain.Shortness.{plain_short, principal_short}
 use Rattle.population.proofs.supporting.Support.{support_fits}

@@ -1,30 +1,27 @@
 -- The entities of a supported state: they keep the rules on types and values, and no two of a set have one key.
-use Rattle.std.proofs.Common.{◌≡◌, ◌≢◌, ◌⊎◌, ⊎_elim, inl, inr, ℕ, zero, suc, ◌<◌, ◌≤◌, ◌==◌, List, [], ◌∷◌, ◌++◌, map, filter, length, slice_get, unwrap_or, get_or, All, AllPairs, Any, Contains, Option, Some, None, refl, sym, ap, subst, ◌∙◌, arith}
+use Rattle.std.proofs.Common.{◌≡◌, ◌≢◌, ⊎_elim, ℕ, zero, suc, ◌<◌, List, [], ◌++◌, map, length, slice_get, get_or, All, AllPairs, Contains, Option, Some, None, refl, sym, ap, subst, ◌∙◌, arith}
 use Rattle.std.specs.Option.{option_map_or}
-use Rattle.std.proofs.lemmas.List.{length-map}
-use Rattle.std.proofs.lemmas.List.Elements.{All-contains, Contains-append_cases, Contains-append_left, Contains-append_right, Contains-get_or}
+use Rattle.std.proofs.lemmas.List.Elements.{Contains-append_cases, Contains-append_left, Contains-append_right, Contains-get_or}
 use Rattle.std.proofs.lemmas.List.Kept.{AllPairs-cons}
 use Rattle.std.proofs.lemmas.Option.{slice_get_past}
-use Rattle.emc_base.proofs.FoundItems.{some_member}
 use Rattle.emc_base.proofs.Joined.{apart-append}
 use Rattle.emc_base.proofs.Lists.{all_from_members}
 use Rattle.emc_base.proofs.Mapped.{contains_map}
 use Rattle.emc_base.proofs.Members.{contains_nil}
 use Rattle.emc_base.proofs.Numbered.{all_pairs_map, map_contains}
-use Rattle.round_trip.specs.Words.{SetId, AssocId, Value, EntityModel, EntitySet, Entity, At, IsA, HasFittingType, HasAllowedNulls, HasValuesInDomain, IsEntity, IsLegalSet, State, entities_in, key_of, key_props, links_in}
+use Rattle.round_trip.specs.Words.{SetId, AssocId, Value, EntityModel, EntitySet, Entity, At, HasFittingType, HasAllowedNulls, HasValuesInDomain, IsEntity, IsLegalSet, entities_in, key_of, key_props, links_in}
 use Rattle.edm_types.specs.IsA.{same as itself}
 use Rattle.round_trip.specs.soundness.Lookups.{HasConcrete, IsUnderElement, set_key}
-use Rattle.round_trip.specs.soundness.models.Models.{IsSoundModel}
 use Rattle.emc_base.specs.Lists.{AreApart}
 use Rattle.schema_laws.specs.short_values.Numbers.{numbers_from}
 use Rattle.schema_laws.proofs.sound_demand.Keys.{inherits_keys}
-use Rattle.population.specs.Given.{AreGiven, AreKeys, HasNumbers, IsNotNumbered, StandsWell}
+use Rattle.population.specs.Given.{AreGiven, AreKeys, HasNumbers, StandsWell}
 use Rattle.population.specs.Numbered.{all_numbered, number_count, numbered, numbered_key}
 use Rattle.population.specs.Plain.{plain}
 use Rattle.population.specs.Principals.{PlacedKey}
 use Rattle.population.specs.Supported.{Placed, PlacedLink, all_in, all_links, given_in, keys_in, linked_in, links_of, stands_in, supported}
 use Rattle.population.proofs.plain.Lists.{made_at, number_there, number_within}
-use Rattle.population.proofs.plain.Numbered.{asked_concrete, asked_under, number_small, numbered_has, numbered_once, numbered_well, set_key_is}
+use Rattle.population.proofs.plain.Numbered.{asked_concrete, number_small, numbered_has, numbered_once, numbered_well, set_key_is}
 use Rattle.population.proofs.plain.Plain.{has_key, plain_well}
 
 -- numbers in a row are different

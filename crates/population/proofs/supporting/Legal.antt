@@ -1,5 +1,5 @@
 -- A supported state is legal.
-use Rattle.std.proofs.Common.{◌≡◌, ◌≢◌, ℕ, List, [], ◌++◌, map, length, slice_get, All, Any, Contains, Option, Some, None, true, false, if◌then◌else◌, refl, sym, ap, subst, ◌∙◌}
+use Rattle.std.proofs.Common.{◌≡◌, ◌≢◌, ℕ, List, [], ◌++◌, length, All, Any, Contains, Option, Some, None, true, false, if◌then◌else◌, refl, sym, ap, subst, ◌∙◌}
 use Rattle.std.specs.Option.{option_map_or}
 use Rattle.std.proofs.lemmas.List.{length-map}
 use Rattle.std.proofs.lemmas.List.Elements.{All-contains}
@@ -7,13 +7,12 @@ use Rattle.emc_base.proofs.FoundItems.{member_of}
 use Rattle.emc_base.proofs.Lists.{all_from_members}
 use Rattle.emc_base.proofs.Mapped.{contains_at}
 use Rattle.emc_base.proofs.Members.{contains_nil}
-use Rattle.round_trip.specs.Words.{SetId, AssocId, Value, EntityModel, EntitySet, Assoc, Constraint, End, Entity, Link, Null, State, At, AreLegalLinks, HasCount, HasEntityAt, HasPrincipal, HavePrincipals, IsA, IsEntity, IsIndependent, IsLegal, IsLegalSet, IsLink, IsState, dependent_end, principal_end, entities_in, key_of, key_props, links_in, value_of, values_of}
+use Rattle.round_trip.specs.Words.{SetId, AssocId, Value, EntityModel, Assoc, Constraint, End, Entity, Link, Null, State, At, AreLegalLinks, HasCount, HasEntityAt, HavePrincipals, IsA, IsEntity, IsIndependent, IsLegal, IsLegalSet, IsLink, dependent_end, principal_end, entities_in, key_of, key_props, links_in, value_of, values_of}
 use Rattle.schema_laws.proofs.sound_demand.Keys.{inherits_keys}
 use Rattle.schema_laws.specs.short_values.Numbers.{numbers_from}
 use Rattle.population.specs.Given.{AreGiven, AreKeys, AreLinked, HasNumbers, StandsAtEnd}
-use Rattle.population.specs.Numbered.{end_of}
 use Rattle.population.specs.Principals.{PlacedKey}
-use Rattle.population.specs.Supported.{Placed, PlacedLink, added_at, all_links, end_key, is_none, linked_in, links_of, stands_in, supported}
+use Rattle.population.specs.Supported.{Placed, PlacedLink, added_at, all_links, is_none, linked_in, links_of, stands_in, supported}
 use Rattle.population.proofs.supporting.Entities.{entities_are, is_entity, legal_set, links_are}
 use Rattle.population.proofs.supporting.Links.{count, ends_stand, links_once}
 use Rattle.population.proofs.plain.Lists.{length-numbers}

@@ -1,16 +1,14 @@
 -- States with a link, with two links of one entity, and two that differ in a link alone.
-use Rattle.std.proofs.Common.{◌≡◌, ◌≢◌, ◌⊎◌, ⊎_elim, inl, inr, ℕ, ◌+◌, ◌<◌, ◌≤◌, ◌==◌, List, [], ◌∷◌, ◌++◌, map, filter, flat_map, slice_get, get_or, All, AllPairs, Any, Contains, Bool, true, false, not, refl, sym, ap, subst, ◌∙◌, arith}
+use Rattle.std.proofs.Common.{◌≡◌, ◌≢◌, ⊎_elim, ℕ, ◌+◌, ◌≤◌, ◌==◌, List, [], ◌∷◌, ◌++◌, map, flat_map, slice_get, get_or, AllPairs, Contains, Bool, true, false, not, refl, sym, ap, subst, ◌∙◌, arith}
 use Rattle.std.specs.Option.{option_map_or}
 use Rattle.std.proofs.lemmas.Bool.{false_from_ne_true}
 use Rattle.std.proofs.lemmas.List.Elements.{Contains-append_cases, Contains-append_left, Contains-get_or}
-use Rattle.std.proofs.lemmas.List.Kept.{AllPairs-cons}
-use Rattle.emc_base.specs.Lists.{AreApart}
 use Rattle.emc_base.proofs.FoundItems.{some_member}
 use Rattle.emc_base.proofs.Joined.{filter-drops}
-use Rattle.emc_base.proofs.Lists.{all_from_members, at_once}
+use Rattle.emc_base.proofs.Lists.{at_once}
 use Rattle.emc_base.proofs.Mapped.{contains_at}
 use Rattle.emc_base.proofs.Members.{contains_cons_cases, contains_head, contains_nil, contains_tail}
-use Rattle.round_trip.specs.Words.{SetId, AssocId, PropId, Value, EntityModel, EntitySet, Assoc, End, Entity, Link, State, At, IsA, IsIndependent, IsLegal, entities_in, key_of, key_props, links_in, value_beside}
+use Rattle.round_trip.specs.Words.{SetId, AssocId, PropId, Value, EntityModel, EntitySet, Assoc, End, Link, State, At, IsA, IsIndependent, IsLegal, entities_in, key_of, key_props, links_in, value_beside}
 use Rattle.edm_types.specs.declared.model.Mult.TheVariants.{Many}
 use Rattle.round_trip.specs.soundness.Lookups.{set_key}
 use Rattle.round_trip.specs.soundness.models.Constraints.{IsSoundEnd}
@@ -19,15 +17,15 @@ use Rattle.schema_laws.specs.short_values.Places.{place_in}
 use Rattle.schema_laws.proofs.state_demand.lists.Ids.{Decides-assoc}
 use Rattle.schema_laws.proofs.state_demand.writings.Decisions.{so_or_not}
 use Rattle.schema_laws.proofs.state_demand.owners.Owners.{beside_map}
-use Rattle.population.specs.Given.{AreGiven, AreKeys, AreLinked, HasNumbers, StandsAtEnd}
+use Rattle.population.specs.Given.{AreLinked, HasNumbers, StandsAtEnd}
 use Rattle.population.specs.LinkStates.{DifferInLink, HoldsLink, HoldsTwoLinks, PlainEnd, at_end, at_first, at_second, entity_at, key_at, key_from, link_state, of_assoc, other_at, other_link, placed_at, plain_link, plain_state, two_links_state, unlinked_state}
 use Rattle.population.specs.Numbered.{end_number, end_of, numbered_key}
 use Rattle.population.specs.Principals.{PlacedKey, principals}
 use Rattle.population.specs.Support.{support}
-use Rattle.population.specs.Supported.{Placed, PlacedLink, added_at, all_links, end_key, given_in, linked_in, link_of, links_of, stands_in}
-use Rattle.population.proofs.supporting.Ends.{end_has_key, end_stands, end_typed, key_not_numbered, key_once, link_from, link_pairs, from_link, plain_legal, place_small}
+use Rattle.population.specs.Supported.{Placed, PlacedLink, added_at, all_links, end_key, links_of, stands_in}
+use Rattle.population.proofs.supporting.Ends.{end_has_key, end_stands, end_typed, key_not_numbered, link_from, link_pairs, from_link, plain_legal}
 use Rattle.population.proofs.supporting.Entities.{entities_are, links_are}
-use Rattle.population.proofs.supporting.Links.{IsAdded, added_far, far_key, is_added, linked_is, near_key}
+use Rattle.population.proofs.supporting.Links.{IsAdded, far_key, is_added, linked_is, near_key}
 use Rattle.population.proofs.plain.Pairs.{pairs_none, pairs_one, pairs_three, pairs_two}
 use Rattle.population.proofs.plain.Numbered.{end_within, fresh_once, set_key_is, some_part, sound_end}
 

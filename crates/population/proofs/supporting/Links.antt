@@ -1,10 +1,10 @@
 -- The links of a supported state: between entities that stand, each once, and as many at each end as the other end allows.
-use Rattle.std.proofs.Common.{◌≡◌, ◌≢◌, ◌⊎◌, ⊎_elim, inl, inr, ℕ, ◌<◌, ◌≤◌, ◌==◌, ◌&&◌, List, [], ◌∷◌, ◌++◌, map, filter, length, slice_get, get_or, All, AllPairs, Any, Contains, Option, Some, None, Bool, true, false, true≢false, not, Decides, IsTrue, if◌then◌else◌, refl, sym, ap, subst, ◌∙◌, arith}
+use Rattle.std.proofs.Common.{◌≡◌, ◌≢◌, ⊎_elim, ℕ, List, [], ◌++◌, map, filter, get_or, All, AllPairs, Any, Contains, Bool, true, false, true≢false, not, Decides, if◌then◌else◌, refl, sym, ap, subst, ◌∙◌}
 use Rattle.std.specs.Option.{option_map_or}
-use Rattle.std.proofs.lemmas.Bool.{and_parts, cond-false, cond-true}
-use Rattle.std.proofs.lemmas.Bool.Decides.{Decides-and, Decides-not, not_from_Decides}
+use Rattle.std.proofs.lemmas.Bool.{and_parts, cond-true}
+use Rattle.std.proofs.lemmas.Bool.Decides.{Decides-and, Decides-not}
 use Rattle.std.proofs.lemmas.List.{append-nil}
-use Rattle.std.proofs.lemmas.List.Elements.{All-contains, Contains-append_cases, Contains-append_left, Contains-append_right, Contains-get_or}
+use Rattle.std.proofs.lemmas.List.Elements.{All-contains, Contains-append_cases, Contains-append_left, Contains-append_right}
 use Rattle.std.proofs.lemmas.List.Kept.{AllPairs-filter}
 use Rattle.std.proofs.lemmas.Option.{MatchOption-at_none}
 use Rattle.emc_base.specs.Lists.{AreApart, AtMostOne}
@@ -14,10 +14,10 @@ use Rattle.emc_base.proofs.Lists.{all_from_members}
 use Rattle.emc_base.proofs.Mapped.{contains_at, contains_filter, contains_map}
 use Rattle.emc_base.proofs.Members.{contains_nil}
 use Rattle.emc_base.proofs.Numbered.{all_pairs_map, filter_contains, map_contains}
-use Rattle.round_trip.specs.Words.{SetId, AssocId, Value, EntityModel, EntitySet, Assoc, End, Mult, Constraint, Entity, Link, At, HasCount, IsA, IsIndependent, key_of}
+use Rattle.round_trip.specs.Words.{SetId, AssocId, Value, EntityModel, EntitySet, Assoc, End, Mult, Entity, Link, At, HasCount, IsA, IsIndependent, key_of}
 use Rattle.edm_types.specs.declared.model.Mult.TheVariants.{One, ZeroOrOne, Many}
-use Rattle.edm_types.specs.IsA.{chain}
 use Rattle.round_trip.specs.soundness.models.Constraints.{HasIndependentMults, IsSoundAssoc, IsSoundConstraint, IsSoundEnd}
+use Rattle.round_trip.specs.soundness.models.Models.{IsSoundModel}
 use Rattle.schema_laws.specs.sound_demand.Deriving.{derives}
 use Rattle.schema_laws.specs.state_demand.Selecting.{same_key}
 use Rattle.schema_laws.proofs.sound_demand.Deriving.{decides_types}
@@ -29,7 +29,7 @@ use Rattle.population.specs.Numbered.{end_number, end_of, numbered, numbered_key
 use Rattle.population.specs.Plain.{first_concrete}
 use Rattle.population.specs.Principals.{PlacedKey}
 use Rattle.population.specs.Supported.{Placed, PlacedLink, added_at, added_link, all_links, end_key, has_own_link, is_none, is_one, lacks_link, link_of, linked_in, links_of, stands_in}
-use Rattle.population.proofs.supporting.Entities.{differ, number_stands, set_there}
+use Rattle.population.proofs.supporting.Entities.{differ, number_stands}
 use Rattle.population.proofs.plain.Lists.{most_one}
 use Rattle.population.proofs.plain.Numbered.{asked_end, end_within, numbered_has, sound_end}
 use Rattle.population.proofs.plain.Plain.{first_is}
@@ -102,6 +102,33 @@ module _ (model : EntityModel) (outer : ℕ) (given : List Placed) (keys : List 
   Decides-own first entity = Decides-any (λ link. same_key (end_key first link) (key_of model entity)) (λ link. end_key first link ≡ key_of model entity)
       (λ link. Decides-key (end_key first link) (key_of model entity)) links
 
+-- opposite `1` stands `*`
+independent_mults : (model : EntityModel) → IsSoundModel model → (a : AssocId) (assoc : Assoc) → At model.assocs a.index assoc → IsIndependent assoc → HasIndependentMults assoc
+independent_mults model sound a assoc here independent = MatchOption-at_none (HasIndependentMults assoc) (IsSoundConstraint model assoc) independent
+    (All-contains (IsSoundAssoc model) model.assocs assoc sound.assocs (contains_at model.assocs a.index assoc here)).kind
+
+module _ (model : EntityModel) (outer : ℕ) (sound : IsSoundModel model) (given : List Placed) (keys : List PlacedKey) (all : List PlacedLink)
+    (a : AssocId) (assoc : Assoc) (here : At model.assocs a.index assoc) (independent : IsIndependent assoc) where
+  abbrev given_links : List Link
+  given_links = links_of all a
+
+  abbrev added_links : Bool → List Link
+  added_links first = added_at model outer given keys first a assoc given_links
+
+  opposite : (first : Bool) → (end_of (not first) assoc).mult ≡ One → (end_of first assoc).mult ≡ Many
+  opposite true one = (independent_mults model sound a assoc here independent).second one
+  opposite false one = (independent_mults model sound a assoc here independent).first one
+
+  -- where the other end is `1`, links are added for this one alone
+  pub linked_for : (first : Bool) → (end_of (not first) assoc).mult ≡ One → linked_in model outer given keys all a ≡ given_links ++ added_links first
+  linked_for true one =
+      let none : added_links false ≡ [] = none_added model outer given keys a assoc given_links false (λ also. (let never : Many ≡ One = sym (opposite true one) ∙ also in cc)) in
+      linked_is model outer given keys all a assoc here independent
+      ∙ ap (λ rest. given_links ++ (added_links true ++ rest)) none ∙ ap (λ rest. given_links ++ rest) (append-nil (added_links true))
+  linked_for false one =
+      let none : added_links true ≡ [] = none_added model outer given keys a assoc given_links true (λ also. (let never : Many ≡ One = sym (opposite false one) ∙ also in cc)) in
+      linked_is model outer given keys all a assoc here independent ∙ ap (λ rest. given_links ++ (rest ++ added_links false)) none
+
 module _ (model : EntityModel) (outer : ℕ) (has : HasNumbers model outer) (given : List Placed) (keys : List PlacedKey) (are_given : AreGiven model outer given)
     (are_keys : AreKeys model outer given keys) (all : List PlacedLink) (are_linked : AreLinked model outer given keys all)
     (a : AssocId) (assoc : Assoc) (here : At model.assocs a.index assoc) (independent : IsIndependent assoc) where
@@ -117,16 +144,14 @@ module _ (model : EntityModel) (outer : ℕ) (has : HasNumbers model outer) (giv
   is_assoc : Contains model.assocs assoc
   is_assoc = contains_at model.assocs a.index assoc here
 
-  -- opposite `1` stands `*`
   mults : HasIndependentMults assoc
-  mults = MatchOption-at_none (HasIndependentMults assoc) (IsSoundConstraint model assoc) independent (All-contains (IsSoundAssoc model) model.assocs assoc has.sound.assocs is_assoc).kind
-
-  pub opposite : (first : Bool) → (end_of (not first) assoc).mult ≡ One → (end_of first assoc).mult ≡ Many
-  opposite true one = mults.second one
-  opposite false one = mults.first one
+  mults = independent_mults model has.sound a assoc here independent
 
   both_are : linked ≡ own ++ (more true ++ more false)
   both_are = linked_is model outer given keys all a assoc here independent
+
+  added_for : (first : Bool) → (end_of (not first) assoc).mult ≡ One → linked ≡ own ++ more first
+  added_for = linked_for model outer has.sound given keys all a assoc here independent
 
   -- the links are the given ones, with those that are added for one end, or alone
   data Linked : Type 0 where
@@ -135,30 +160,15 @@ module _ (model : EntityModel) (outer : ℕ) (has : HasNumbers model outer) (giv
 
   cases : Linked
   cases = ⊎_elim
-      (λ (second_one : assoc.second.mult ≡ One).
-      let none : more false ≡ [] = none_added model outer given keys a assoc own false (λ one. many_not_one (sym (opposite true second_one) ∙ one)) in
-      with_added true second_one (both_are ∙ ap (λ rest. own ++ (more true ++ rest)) none ∙ ap (λ rest. own ++ rest) (append-nil (more true))))
+      (λ (second_one : assoc.second.mult ≡ One). with_added true second_one (added_for true second_one))
       (λ (second_not : assoc.second.mult ≢ One). ⊎_elim
-      (λ (first_one : assoc.first.mult ≡ One).
-      with_added false first_one (both_are ∙ ap (λ rest. own ++ (rest ++ more false)) (none_added model outer given keys a assoc own true second_not)))
+      (λ (first_one : assoc.first.mult ≡ One). with_added false first_one (added_for false first_one))
       (λ (first_not : assoc.first.mult ≢ One).
       alone first_not second_not
       (both_are ∙ ap (λ rest. own ++ (rest ++ more false)) (none_added model outer given keys a assoc own true second_not)
       ∙ ap (λ rest. own ++ rest) (none_added model outer given keys a assoc own false first_not) ∙ append-nil own))
       (so_or_not (is_one assoc.first.mult) (Decides-one assoc.first.mult)))
       (so_or_not (is_one assoc.second.mult) (Decides-one assoc.second.mult))
-    where
-      many_not_one : Many ≡ One → ⊥
-      many_not_one never = cc
-
-  -- where the other end is `1`, links are added for this one alone
-  added_for : (first : Bool) → (end_of (not first) assoc).mult ≡ One → linked ≡ own ++ more first
-  added_for true one =
-      let none : more false ≡ [] = none_added model outer given keys a assoc own false (λ also. (let never : Many ≡ One = sym (opposite true one) ∙ also in cc)) in
-      both_are ∙ ap (λ rest. own ++ (more true ++ rest)) none ∙ ap (λ rest. own ++ rest) (append-nil (more true))
-  added_for false one =
-      let none : more true ≡ [] = none_added model outer given keys a assoc own true (λ also. (let never : Many ≡ One = sym (opposite false one) ∙ also in cc)) in
-      both_are ∙ ap (λ rest. own ++ (rest ++ more false)) none
 
   -- the entity that has the number of an end stands there
   number_at_end : (first : Bool) → StandsAtEnd model outer given keys (end_of first assoc) (numbered_key model outer (end_of first assoc).set (end_number first a))

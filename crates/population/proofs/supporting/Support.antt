@@ -1,9 +1,8 @@
 -- The support of wanted keys: the least list that is closed under steps, and it fits the given entities.
-use Rattle.std.proofs.Common.{◌≡◌, ◌≢◌, ◌↔◌, ◌⊎◌, ⊎_elim, inl, inr, ℕ, zero, suc, ◌+◌, ◌<◌, ◌≤◌, ◌==◌, ◌&&◌, List, [], ◌∷◌, ◌++◌, map, filter, flat_map, length, slice_get, get_or, All, AllPairs, Any, Contains, Option, Some, None, Bool, true, false, not, Decides, refl, sym, ap, subst, ◌∙◌, arith}
-use Rattle.std.specs.List.{list_any}
+use Rattle.std.proofs.Common.{◌≡◌, ◌≢◌, ⊎_elim, inl, inr, ℕ, zero, suc, ◌+◌, ◌<◌, ◌==◌, List, [], ◌++◌, map, filter, flat_map, length, get_or, Any, Contains, Bool, not, Decides, refl, sym, subst, ◌∙◌, arith}
 use Rattle.std.specs.Option.{option_map_or}
-use Rattle.std.proofs.lemmas.Bool.{not-true, not_from_false}
-use Rattle.std.proofs.lemmas.Bool.Decides.{Decides-and, Decides-like, Decides-not, not_from_Decides}
+use Rattle.std.proofs.lemmas.Bool.{not-true}
+use Rattle.std.proofs.lemmas.Bool.Decides.{Decides-like, Decides-not, not_from_Decides}
 use Rattle.std.proofs.lemmas.List.Elements.{Contains-append_cases, Contains-append_left, Contains-append_right, Contains-get_or}
 use Rattle.std.proofs.lemmas.List.Kept.{AllPairs-filter}
 use Rattle.emc_base.specs.Lists.{AreApart}
@@ -13,7 +12,6 @@ use Rattle.emc_base.proofs.Mapped.{contains_filter, contains_map}
 use Rattle.emc_base.proofs.Numbered.{all_pairs_map, filter_contains, map_contains}
 use Rattle.round_trip.specs.Words.{SetId, Value, EntityModel, EntitySet, Entity, At, key_of}
 use Rattle.schema_laws.specs.short_values.Numbers.{numbers_from}
-use Rattle.schema_laws.specs.state_demand.MadeTables.{distinct}
 use Rattle.schema_laws.specs.state_demand.Selecting.{same_key}
 use Rattle.schema_laws.proofs.state_demand.lists.Distinct.{contains_distinct, distinct_apart, member_of_distinct}
 use Rattle.schema_laws.proofs.state_demand.lists.Ids.{Decides-set}
@@ -24,13 +22,13 @@ use Rattle.population.specs.Given.{AreGiven, AreKeys, AreWanted, HasNumbers, Has
 use Rattle.population.specs.Numbered.{number_count, numbered, numbered_key}
 use Rattle.population.specs.Plain.{plain}
 use Rattle.population.specs.Principals.{AsksFor, PlacedKey, principals}
-use Rattle.population.specs.Support.{IsClosedFor, IsLeastFor, IsTaken, free_keys, is_taken, levels, same_placed, step_count, steps, support}
+use Rattle.population.specs.Support.{IsLeastFor, IsTaken, free_keys, is_taken, levels, same_placed, step_count, steps, support}
 use Rattle.population.specs.Supported.{Placed, given_in, keys_in, stands_in}
 use Rattle.population.proofs.supporting.Arrows.{IsReached, reached_few, reached_first, reached_then, step_arrow, step_within}
 use Rattle.population.proofs.principals.Asked.{asked_of}
 use Rattle.population.proofs.principals.Matched.{sound_constraint}
 use Rattle.population.proofs.supporting.Entities.{given_stands, key_stands, number_stands, smaller, smaller_there}
-use Rattle.population.proofs.plain.Numbered.{asked_concrete, asked_under, number_small, numbered_has, set_key_is}
+use Rattle.population.proofs.plain.Numbered.{asked_concrete, asked_under, number_small, numbered_has}
 use Rattle.population.proofs.plain.Placed.{Decides-placed}
 use Rattle.population.proofs.plain.Plain.{has_key}
 use Rattle.population.proofs.plain.Shortness.{step_short}

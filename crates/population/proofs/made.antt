@@ -1,0 +1,4 @@
+pub mod Filters
+pub mod Picked
+pub mod Linked
+pub mod Parts
