@@ -8,3 +8,5 @@ pub mod Order
 pub mod Gathering
 pub mod Once
 pub mod Stepping
+pub mod Beside
+pub mod Walking

@@ -5,17 +5,17 @@ use Rattle.std.specs.Borrow.{Bor}
 use Rattle.emc_base.specs.Lists.{AreApart, At}
 use Rattle.round_trip.specs.Words.{EntityModel, State, IsLegal}
 use Rattle.population.specs.declared.placed.Supporting.{Supporting}
-use Rattle.population.specs.Given.{AreKeys, HasNumbers}
+use Rattle.population.specs.Given.{HasNumbers}
 use Rattle.population.specs.declared.placed.PlacedKey.{PlacedKey}
 use Rattle.population.specs.Kept.{needed_keys}
-use Rattle.population.specs.Made.{needs_of, state_of}
+use Rattle.population.specs.Made.{AreWhole, needs_of, state_of}
 use Rattle.supported_states.specs.declared.small.Found.{Found}
 use Rattle.supported_states.specs.Spots.{HoldsJust}
 
--- the state that is made of these is legal, and their keys fit
+-- the state that is made of these is legal, and their keys have a part for each property
 pub record IsSupported (model : EntityModel) (outer : ℕ) (one : Supporting) : Type 0 where
   pub numbers : HasNumbers model outer
-  pub keys : AreKeys model outer one.given one.keys
+  pub whole : AreWhole model one.keys
   pub legal : IsLegal model (state_of model outer one)
 
 -- the same of several

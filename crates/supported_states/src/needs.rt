@@ -189,13 +189,30 @@ fn add_added_partners(
     ensures { IfOk result (λ _. needs.new ≡ needs.old ++ added_partners seat.now side.now.first side.now.id side.now.assoc.now seat.now.entities.now) }
 {
     for entity in seat.entities {
-        if lacks_link(seat.model, side, seat.one.links.as_slice(), entity) {
-            let set = end_of(!side.first, side.assoc).set;
-            let key = far_key(alloc, seat.model, seat.row, side)?;
-            needs.push(PlacedKey { set, key })?;
-        }
+        add_added_partner(alloc, seat, side, entity, needs)?;
     }
     Ok(())
+}
+
+// Adds the partner to which a link leads that is added for an entity, if one is.
+fn add_added_partner(
+    alloc: Global,
+    seat: &Seat<'_>,
+    side: &Side<'_>,
+    entity: &Entity,
+    needs: &mut Seq<PlacedKey>,
+) -> Result<(), Memory>
+    requires { seat.now.row ≤ 4 }
+    ensures { IfOk result (λ _. needs.new ≡ needs.old ++ added_partners seat.now side.now.first side.now.id side.now.assoc.now (entity.now ∷ [])) }
+{
+    if !lacks_link(seat.model, side, seat.one.links.as_slice(), entity) {
+        return Ok(());
+    }
+    let key = far_key(alloc, seat.model, seat.row, side)?;
+    needs.push(PlacedKey {
+        set: end_of(!side.first, side.assoc).set,
+        key,
+    })
 }
 
 /// The key at the other side of a link that is added. `Memory` comes where memory ran out.

@@ -221,11 +221,26 @@ fn add_lacking(
     ensures { IfOk result (λ _. links.new ≡ links.old ++ links_lacking sought.now side.now.first side.now.id side.now.assoc.now entities.now) }
 {
     for entity in entities {
-        if lacks_link(sought.model, side, sought.one.links.as_slice(), entity) {
-            links.push(added_link(alloc, sought.model, sought.row, side, entity)?)?;
-        }
+        add_lacking_one(alloc, sought, side, entity, links)?;
     }
     Ok(())
+}
+
+// Adds a link for an entity, if it lacks one.
+fn add_lacking_one(
+    alloc: Global,
+    sought: &Sought<'_>,
+    side: &Side<'_>,
+    entity: &Entity,
+    links: &mut Seq<Link>,
+) -> Result<(), Memory>
+    requires { sought.now.row ≤ 4 }
+    ensures { IfOk result (λ _. links.new ≡ links.old ++ links_lacking sought.now side.now.first side.now.id side.now.assoc.now (entity.now ∷ [])) }
+{
+    if !lacks_link(sought.model, side, sought.one.links.as_slice(), entity) {
+        return Ok(());
+    }
+    links.push(added_link(alloc, sought.model, sought.row, side, entity)?)
 }
 
 // The link from an entity to the one that has the number of the other side.
