@@ -10,3 +10,4 @@ pub mod Once
 pub mod Stepping
 pub mod Beside
 pub mod Walking
+pub mod Kept

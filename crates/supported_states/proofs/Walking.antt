@@ -59,7 +59,7 @@ module _ (before after : Found) (placed : PlacedKey) (found : IsFound before) (u
       (contains_cons_cases placed old other has))
       (λ has. ⊎_elim
       (λ (earlier : Contains old other). contains_tail placed old other earlier)
-      (λ (last : other ≡ placed). subst (Contains (placed ∷ old)) (sym last) (contains_head placed old))
+      (λ (last : placed ≡ other). subst (Contains (placed ∷ old)) last (contains_head placed old))
       (Contains-push_cases old placed other has)) in
       let apart_all : AreApart (old ++ placed ∷ []) = apart-append (λ x y. x ≢ y) old (placed ∷ []) found.once (λ i j d below within. absurd (omega (arith, below, within)))
       (all_from_members (λ x. All (λ y. x ≢ y) (placed ∷ [])) old (λ x has. all_from_members (λ y. x ≢ y) (placed ∷ []) (λ y is_last alike. none (subst (Contains old) (alike ∙ only y is_last) has)))) in
