@@ -1,20 +1,19 @@
 -- What the entities of a key need, and the links between those that are looked for, are what the definitions say.
-use Rattle.std.proofs.Common.{◌≡◌, ◌++◌, ◌&&◌, ℕ, List, [], map, filter, flat_map, length, slice_get, unwrap_or, not, Bool, true, false, if◌then◌else◌, append_assoc, sym, ap, ◌∙◌, ◌≤◌}
+use Rattle.std.proofs.Common.{◌≡◌, ◌++◌, ℕ, List, [], map, filter, flat_map, length, slice_get, unwrap_or, not, Bool, true, false, if◌then◌else◌, sym, ap, ◌∙◌}
 use Rattle.std.specs.List.{enumerate_from}
 use Rattle.std.specs.Option.{option_map_or}
 use Rattle.std.proofs.lemmas.List.{map-append}
 use Rattle.std.proofs.lemmas.Option.{slice_get_past}
-use Rattle.round_trip.specs.Words.{SetId, AssocId, EntityModel, EntitySet, Assoc, Entity, Link}
-use Rattle.schema_laws.specs.short_values.Numbers.{numbers_from}
+use Rattle.round_trip.specs.Words.{SetId, AssocId, Assoc, Entity, Link}
 use Rattle.schema_laws.specs.state_demand.Selecting.{same_key}
 use Rattle.population.specs.Kept.{key_at_end}
-use Rattle.population.specs.Made.{entities_at, links_from, needed_entities, needed_in, needs_of, partners_from, partners_of}
+use Rattle.population.specs.Made.{entities_at, needed_in, needs_of, partners_from, partners_of}
 use Rattle.population.specs.Principals.{principals}
 use Rattle.population.specs.Supported.{added_link, end_key, lacks_link, links_of}
 use Rattle.population.specs.declared.placed.PlacedKey.{PlacedKey}
 use Rattle.population.proofs.plain.Lists.{made_at}
 use Rattle.supported_states.specs.Parts.{are_sought}
-use Rattle.supported_states.specs.Sides.{added_partners, given_partners, is_asking, needs_beside, partners_at_side, partners_beside, partners_of_assoc}
+use Rattle.supported_states.specs.Sides.{is_asking, needs_beside, partners_at_side, partners_of_assoc}
 use Rattle.supported_states.specs.Sought.{sought_in}
 use Rattle.supported_states.specs.Spots.{passes}
 use Rattle.supported_states.specs.declared.needs.Seat.{Seat}

@@ -1,9 +1,9 @@
 -- The ends of associations by their places, and the types that numbers ask for.
-use Rattle.std.proofs.Common.{◌≡◌, ◌≢◌, ◌==◌, ◌+◌, ◌-◌, ◌*◌, ◌/◌, ◌%◌, ◌<◌, ℕ, zero, suc, List, [], ◌∷◌, slice_get, option_map, Option, None, Some, Bool, true, false, refl, sym, ap, ◌∙◌, arith, mod-lt}
+use Rattle.std.proofs.Common.{◌≡◌, ◌≢◌, ◌==◌, ◌+◌, ◌-◌, ◌*◌, ◌/◌, ◌%◌, ◌<◌, ℕ, zero, suc, List, [], ◌∷◌, slice_get, option_map, Option, Bool, true, false, refl, ap, ◌∙◌, arith, mod-lt}
 use Rattle.std.specs.Option.{option_map_or}
 use Rattle.std.proofs.Math.Nat.{div-add-mod}
 use Rattle.std.proofs.lemmas.Bool.Decides.{Decides-eqb, not_from_Decides}
-use Rattle.round_trip.specs.Words.{SetId, TypeId, EntityModel, EntitySet, Assoc, End}
+use Rattle.round_trip.specs.Words.{SetId, EntityModel, EntitySet, Assoc, End}
 use Rattle.population.specs.Numbered.{asked_type, end_of, ends_of, twice, type_at_end}
 use Rattle.population.proofs.plain.Numbered.{twice_is}
 

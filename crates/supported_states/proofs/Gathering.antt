@@ -1,6 +1,6 @@
 -- One key more is gathered, or found.
-use Rattle.std.proofs.Common.{◌≡◌, ◌≢◌, ◌||◌, List, [], ◌∷◌, ◌++◌, reverse, Bool, true, false, not, cond, All, Contains, Decides, inl, inr, ⊎_elim, refl, sym, ap, subst, ◌∙◌}
-use Rattle.std.specs.BTreeSet.{BTreeSet, Updates, contains}
+use Rattle.std.proofs.Common.{◌≡◌, ◌||◌, List, [], ◌∷◌, ◌++◌, Bool, true, false, not, cond, refl, sym, ap, ◌∙◌}
+use Rattle.std.specs.BTreeSet.{BTreeSet, Updates}
 use Rattle.std.specs.BTreeMap.{is_at}
 use Rattle.std.specs.List.{list_any}
 use Rattle.std.proofs.lemmas.Bool.{cond-true, cond-false}
@@ -8,7 +8,6 @@ use Rattle.std.proofs.lemmas.List.{reverse-append}
 use Rattle.schema_laws.specs.state_demand.MadeTables.{distinct}
 use Rattle.population.specs.Support.{same_placed}
 use Rattle.population.specs.declared.placed.PlacedKey.{PlacedKey}
-use Rattle.population.proofs.plain.Placed.{Decides-placed}
 use Rattle.supported_states.specs.Gathered.{IsGathered}
 use Rattle.supported_states.specs.Spots.{HoldsJust, holds, spot_cmp, spot_of}
 use Rattle.supported_states.specs.declared.spots.Spot.{Spot}

@@ -1,5 +1,5 @@
 -- The order of keys in sets tells different ones apart.
-use Rattle.std.proofs.Common.{◌≡◌, ◌==◌, ◌&&◌, ◌||◌, ℕ, List, Bool, true, false, Decides, cond, refl, sym, ap, ◌∙◌}
+use Rattle.std.proofs.Common.{◌≡◌, Decides, refl, sym, ap, ◌∙◌}
 use Rattle.std.specs.BTreeMap.{is_at}
 use Rattle.std.specs.Cmp.{IsTotalOrder}
 use Rattle.std.specs.Cmp.Lexicographic.{slice_cmp}
@@ -16,7 +16,6 @@ use Rattle.population.specs.Support.{same_placed}
 use Rattle.population.specs.declared.placed.PlacedKey.{PlacedKey}
 use Rattle.population.proofs.plain.Placed.{Decides-placed}
 use Rattle.supported_states.specs.Spots.{spot_cmp, spot_of}
-use Rattle.supported_states.specs.declared.spots.Spot.{Spot}
 use Rattle.supported_states.specs.contracts.spots.SpotOrd.TheImpl.Laws.{total-law}
 
 -- the order is total

@@ -1,5 +1,5 @@
 -- Levels of steps that hold each key once: they hold together what all levels hold.
-use Rattle.std.proofs.Common.{◌≡◌, ℕ, zero, suc, List, [], ◌∷◌, ◌++◌, append_assoc, filter, flat_map, Bool, not, refl, sym, ap, ◌∙◌}
+use Rattle.std.proofs.Common.{◌≡◌, ℕ, zero, suc, List, ◌++◌, append_assoc, flat_map, not, sym, ap, ◌∙◌}
 use Rattle.round_trip.specs.Words.{EntityModel}
 use Rattle.schema_laws.specs.state_demand.MadeTables.{distinct}
 use Rattle.population.specs.Support.{free_keys, is_taken, levels, same_placed, step_count, steps, support}

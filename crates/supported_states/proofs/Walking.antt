@@ -1,7 +1,7 @@
 -- A walk from keys to what they need: it finds what is needed, and nothing else.
-use Rattle.std.proofs.Common.{◌≡◌, ◌≢◌, ◌||◌, ◌⊎◌, ⊎_elim, inl, inr, ℕ, ◌+◌, ◌-◌, ◌<◌, ◌≤◌, List, [], ◌∷◌, ◌++◌, append_assoc, map, flat_map, length, slice_get, All, AllPairs, Contains, Bool, true, false, Decides, refl, sym, ap, subst, ◌∙◌, arith}
+use Rattle.std.proofs.Common.{◌≡◌, ◌≢◌, ◌⊎◌, ⊎_elim, inl, inr, ℕ, ◌+◌, ◌<◌, ◌≤◌, List, [], ◌∷◌, ◌++◌, append_assoc, length, All, Contains, Bool, true, false, sym, ap, subst, ◌∙◌, arith}
 use Rattle.std.specs.BTreeMap.{is_at}
-use Rattle.std.specs.BTreeSet.{BTreeSet, Updates}
+use Rattle.std.specs.BTreeSet.{Updates}
 use Rattle.std.specs.Borrow.{Bor}
 use Rattle.std.specs.List.{list_any}
 use Rattle.std.proofs.lemmas.Bool.{cases_lt}
@@ -25,10 +25,9 @@ use Rattle.population.proofs.made.Linked.{needs_made}
 use Rattle.population.proofs.plain.Placed.{Decides-placed, place_of}
 use Rattle.population.proofs.pruning.Needed.{needed_keys_least}
 use Rattle.population.proofs.supporting.Least.{Decides-among, no_more}
-use Rattle.supported_states.specs.Small.{AreSupported, Finds, IsFound, IsSupported, IsWalked, all_needs, states_of}
+use Rattle.supported_states.specs.Small.{AreSupported, Finds, IsFound, IsWalked, all_needs, states_of}
 use Rattle.supported_states.specs.Spots.{HoldsJust, holds, spot_cmp, spot_of}
 use Rattle.supported_states.specs.declared.small.Found.{Found}
-use Rattle.supported_states.specs.declared.spots.Spot.{Spot}
 use Rattle.supported_states.proofs.Gathering.{known_more}
 
 -- lists with the same members pass the same test
@@ -90,9 +89,9 @@ module _ (before after : Found) (placed : PlacedKey) (found : IsFound before) (u
         behind = is ∙ sym (append-nil old);
         from = λ other has. absurd (contains_nil other has);
         all = λ other has. subst (λ list. Contains list other) (sym is) (⊎_elim
-        (λ (here : other ≡ placed). subst (Contains old) (sym here) has_it)
-        (λ (later : Contains [] other). absurd (contains_nil other later))
-        (contains_cons_cases placed [] other has));
+            (λ (here : other ≡ placed). subst (Contains old) (sym here) has_it)
+            (λ (later : Contains [] other). absurd (contains_nil other later))
+            (contains_cons_cases placed [] other has));
       }
 
 -- nothing is found by no keys

@@ -2,7 +2,7 @@
 -- Source: this project's.
 use Rattle.std.specs.Prelude.{◌==◌, ◌&&◌, ℕ, List, [], ◌++◌, map, filter, flat_map, Bool, true, false, not, if◌then◌else◌}
 use Rattle.std.specs.List.{enumerate_from}
-use Rattle.round_trip.specs.Words.{SetId, AssocId, Value, EntityModel, Assoc, Entity, Link, key_of}
+use Rattle.round_trip.specs.Words.{SetId, AssocId, Value, EntityModel, Assoc, Entity, key_of}
 use Rattle.schema_laws.specs.state_demand.Selecting.{same_key}
 use Rattle.population.specs.declared.placed.PlacedKey.{PlacedKey}
 use Rattle.population.specs.declared.placed.PlacedLink.{PlacedLink}

@@ -97,6 +97,11 @@ fn principal_by(
     let end = principal_end(assoc, constraint);
     let values = values_of(alloc, model, entity, constraint.dependent.as_slice())?;
     let wanted = key_props(model, end.ty);
-    let key = values_beside(alloc, wanted, constraint.principal.as_slice(), values.as_slice())?;
+    let key = values_beside(
+        alloc,
+        wanted,
+        constraint.principal.as_slice(),
+        values.as_slice(),
+    )?;
     Ok(PlacedKey { set: end.set, key })
 }

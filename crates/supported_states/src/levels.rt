@@ -8,11 +8,11 @@ ghost use Rattle.population.specs.Numbered.{number_count, numbered_key};
 ghost use Rattle.population.specs.Support.{free_keys, is_taken, same_placed, steps, support};
 ghost use Rattle.population.specs.Supported.{given_in};
 
+use crate::asking::add_principals;
 use crate::declared::has_key;
 use crate::distinct::{append, distinct};
 use crate::numbers::{number_count, numbered_key};
 use crate::plain::plain_entity;
-use crate::asking::add_principals;
 use crate::spots::copy_placed;
 use edm_types::EntityModel;
 use emc_base::{Memory, Seq};
@@ -153,9 +153,7 @@ fn is_numbered(
 fn is_given(model: &EntityModel, given: &[Placed], placed: &PlacedKey) -> bool
     ensures { result ≡ list_any (same_key placed.now.key) (map (key_of model.now) (given_in given.now placed.now.set)) }
 {
-    given
-        .iter()
-        .any(|one| is_given_at(model, one, placed))
+    given.iter().any(|one| is_given_at(model, one, placed))
 }
 
 // Whether a given entity stands in the set and has the key.

@@ -3,9 +3,9 @@ ghost use Rattle.population.specs.Made.{needs_of};
 ghost use Rattle.population.specs.Supported.{has_own_link, lacks_link, links_of};
 ghost use Rattle.supported_states.specs.Sides.{added_partners, far_key, given_partners, is_asking, is_own_link, needs_beside, partners_at_side, partners_beside, partners_of_assoc};
 
+use crate::asking::add_principals;
 use crate::declared::{derives, end_key, end_of, has_key, is_independent, is_one};
 use crate::numbers::{end_number, numbered_key};
-use crate::asking::add_principals;
 use crate::sought::{Sought, entities_sought};
 use crate::spots::Pick;
 use edm_types::{Assoc, Entity, EntityModel};
@@ -74,11 +74,7 @@ fn needs_at(alloc: Global, seat: &Seat<'_>) -> Result<Seq<PlacedKey>, Memory>
 }
 
 // Adds the partners that are asked of them.
-fn add_partners(
-    alloc: Global,
-    seat: &Seat<'_>,
-    needs: &mut Seq<PlacedKey>,
-) -> Result<(), Memory>
+fn add_partners(alloc: Global, seat: &Seat<'_>, needs: &mut Seq<PlacedKey>) -> Result<(), Memory>
     requires { seat.now.row ≤ 4 }
     ensures { IfOk result (λ _. needs.new ≡ needs.old ++ partners_beside seat.now) }
 {
@@ -129,7 +125,13 @@ fn add_at_side(
     if !is_asking(side, seat.placed.set) {
         return Ok(());
     }
-    add_given_partners(alloc, side, seat.one.links.as_slice(), &seat.placed.key, needs)?;
+    add_given_partners(
+        alloc,
+        side,
+        seat.one.links.as_slice(),
+        &seat.placed.key,
+        needs,
+    )?;
     add_added_partners(alloc, seat, side, needs)
 }
 
@@ -226,7 +228,13 @@ pub(crate) fn far_key(
     ensures { IfOk result (λ key. key ≡ far_key side.now.first side.now.id side.now.assoc.now model.now row) }
 {
     let number = end_number(!side.first, side.id)?;
-    numbered_key(alloc, model, row, end_of(!side.first, side.assoc).set, number)
+    numbered_key(
+        alloc,
+        model,
+        row,
+        end_of(!side.first, side.assoc).set,
+        number,
+    )
 }
 
 /// Whether an entity is to have a link at a side, and none of these is its own.
@@ -243,12 +251,7 @@ pub(crate) fn lacks_link(
 }
 
 // Whether one of these links is an entity's own.
-fn has_own_link(
-    model: &EntityModel,
-    side: &Side<'_>,
-    links: &[PlacedLink],
-    entity: &Entity,
-) -> bool
+fn has_own_link(model: &EntityModel, side: &Side<'_>, links: &[PlacedLink], entity: &Entity) -> bool
     ensures { result ≡ has_own_link model.now side.now.first (links_of links.now side.now.id) entity.now }
 {
     links
@@ -257,14 +260,8 @@ fn has_own_link(
 }
 
 // Whether a link is one of the association, and an entity's own.
-fn is_own_link(
-    model: &EntityModel,
-    side: &Side<'_>,
-    placed: &PlacedLink,
-    entity: &Entity,
-) -> bool
+fn is_own_link(model: &EntityModel, side: &Side<'_>, placed: &PlacedLink, entity: &Entity) -> bool
     ensures { result ≡ is_own_link side.now.first side.now.id side.now.assoc.now model.now entity.now placed.now }
 {
-    placed.assoc.index == side.id.index
-        && has_key(model, entity, end_key(side.first, &placed.link))
+    placed.assoc.index == side.id.index && has_key(model, entity, end_key(side.first, &placed.link))
 }

@@ -118,8 +118,20 @@ fn add_links(
         assoc,
     };
     add_given_links(alloc, sought, id, assoc, links)?;
-    add_added_links(alloc, sought, &first, entities_at(entities, assoc.first.set), links)?;
-    add_added_links(alloc, sought, &second, entities_at(entities, assoc.second.set), links)
+    add_added_links(
+        alloc,
+        sought,
+        &first,
+        entities_at(entities, assoc.first.set),
+        links,
+    )?;
+    add_added_links(
+        alloc,
+        sought,
+        &second,
+        entities_at(entities, assoc.second.set),
+        links,
+    )
 }
 
 // Adds the given links of an association between entities that are looked for.

@@ -1,12 +1,12 @@
-use Rattle.std.proofs.Common.{◌≡◌, List, sym, ◌∙◌, ap}
+use Rattle.std.proofs.Common.{List, sym, ◌∙◌, ap}
 use Rattle.std.proofs.lemmas.Bool.Decides.{same_from_decides}
-use Rattle.round_trip.specs.Words.{PropId, Value, key_of, values_of}
+use Rattle.round_trip.specs.Words.{PropId, key_of, values_of}
 use Rattle.schema_laws.specs.state_demand.Selecting.{same_key}
 use Rattle.schema_laws.proofs.state_demand.writings.Selecting.{Decides-key}
 use Rattle.supported_states.proofs.declared.has_key.Goals as goal
 
 pub returns : goal.returns
-returns c = 
+returns c =
     let model = c.args.model.now in
     let entity = c.args.entity.now in
     let key = c.args.key.now in

@@ -1,4 +1,4 @@
-use Rattle.std.proofs.Common.{◌≡◌, List, [], ◌∷◌, ◌++◌, not, true, false, sym, ap, subst, ◌∙◌}
+use Rattle.std.proofs.Common.{◌≡◌, List, ◌∷◌, not, true, sym, ap, subst, ◌∙◌}
 use Rattle.std.specs.BTreeSet.{Updates, contains}
 use Rattle.std.proofs.lemmas.Bool.{not-true}
 use Rattle.population.specs.declared.placed.PlacedKey.{PlacedKey}
@@ -9,7 +9,7 @@ use Rattle.supported_states.proofs.Gathering.{gathers_new, gathers_old, not-no}
 use Rattle.supported_states.proofs.distinct.add_new.Goals as goal
 
 pub returns-in_ok-push : goal.returns-in_ok-push
-returns-in_ok-push c =  λ behind gathered. (
+returns-in_ok-push c = λ behind gathered. (
     let spot = c.in_ok-spot_of.field-0 in
     let is : spot ≡ spot_of c.args.placed = c.in_ok-spot_of.ensures in
     let before = c.args.spots.now in
@@ -22,7 +22,7 @@ returns-in_ok-push c =  λ behind gathered. (
     (gathers_new behind before after c.args.kept.now.items c.args.placed gathered updates (not-true (holds before c.args.placed) (told ∙ c.if-branch.true))))
 
 pub returns-else-branch : goal.returns-else-branch
-returns-else-branch c =  λ behind gathered. (
+returns-else-branch c = λ behind gathered. (
     let spot = c.in_ok-spot_of.field-0 in
     let is : spot ≡ spot_of c.args.placed = c.in_ok-spot_of.ensures in
     let before = c.args.spots.now in

@@ -9,7 +9,7 @@ use Rattle.supported_states.proofs.Lists.{any-map, any_of_some}
 use Rattle.supported_states.proofs.levels.is_given.Goals as goal
 
 pub returns : goal.returns
-returns c = 
+returns c =
     let placed = c.args.placed.now in
     let own : Placed → Bool = λ one. one.set.index == placed.set.index in
     let keyed : Entity → Bool = λ entity. same_key placed.key (key_of c.args.model.now entity) in

@@ -1,11 +1,11 @@
-use Rattle.std.proofs.Common.{◌≡◌, ◌+◌, ◌-◌, ◌++◌, List, flat_map, suc, arith, sym, ap, ◌∙◌}
+use Rattle.std.proofs.Common.{◌≡◌, ◌+◌, ◌-◌, ◌++◌, flat_map, suc, arith, sym, ap, ◌∙◌}
 use Rattle.schema_laws.specs.state_demand.MadeTables.{distinct}
 use Rattle.population.specs.Support.{free_keys, levels, same_placed, step_count, steps}
 use Rattle.supported_states.proofs.Stepping.{first_turn, next_turn}
 use Rattle.supported_states.proofs.levels.support.Goals as goal
 
 pub loop-init : goal.loop-init
-loop-init c = 
+loop-init c =
     let model = c.args.model.now in
     let row = c.args.row in
     let given = c.args.given.now in
@@ -18,7 +18,7 @@ loop-init c =
     ∙ (λ k. distinct same_placed (sym c.empty-all.ensures k ++ levels model row given (steps_left k) level))
 
 pub loop-preserved : goal.loop-preserved
-loop-preserved c = 
+loop-preserved c =
     let model = c.args.model.now in
     let row = c.args.row in
     let given = c.args.given.now in

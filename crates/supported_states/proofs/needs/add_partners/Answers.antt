@@ -1,4 +1,4 @@
-use Rattle.std.proofs.Common.{◌++◌, ◌∷◌, [], refl, sym, ap, flat_map, ◌∙◌}
+use Rattle.std.proofs.Common.{◌++◌, refl, sym, ap, flat_map, ◌∙◌}
 use Rattle.std.specs.List.{enumerate_from}
 use Rattle.std.proofs.lemmas.Option.{slice_get_read}
 use Rattle.std.proofs.lemmas.List.{append-nil}
@@ -10,7 +10,7 @@ use Rattle.supported_states.proofs.Turns.{joins-flat_map, one_more}
 use Rattle.supported_states.proofs.needs.add_partners.Goals as goal
 
 pub loop-index-preserved : goal.loop-index-preserved
-loop-index-preserved c = 
+loop-index-preserved c =
     let i = c.loop-index.index in
     let items = c.as_slice-assoc-items.result.now in
     let assoc = c.assoc-item.result in
@@ -20,7 +20,7 @@ loop-index-preserved c =
     c.loop-index.invariant (c.in_ok-add_both.ensures ∙ ap (λ found. c.loop-index.needs ++ found) (sym (append-nil (made (i, assoc)))))
 
 pub returns : goal.returns
-returns c = 
+returns c =
     let items = c.as_slice-assoc-items.result.now in
     let made = partners_of_assoc c.args.seat.now in
     c.loop-index.invariant

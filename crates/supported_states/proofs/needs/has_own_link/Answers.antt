@@ -1,4 +1,4 @@
-use Rattle.std.proofs.Common.{◌==◌, ◌&&◌, rules, tests, Bool, ◌∙◌}
+use Rattle.std.proofs.Common.{◌==◌, rules, tests, Bool, ◌∙◌}
 use Rattle.std.proofs.lemmas.Iterator.{YieldsList-from_slice}
 use Rattle.std.proofs.lemmas.Iterator.Search.{any_from_yields_List}
 use Rattle.round_trip.specs.Words.{Link, key_of}
@@ -10,7 +10,7 @@ use Rattle.supported_states.proofs.Lists.{any_of_some}
 use Rattle.supported_states.proofs.needs.has_own_link.Goals as goal
 
 pub returns : goal.returns
-returns c = 
+returns c =
     let side = c.args.side.now in
     let model = c.args.model.now in
     let own : PlacedLink → Bool = λ placed. placed.assoc.index == side.id.index in

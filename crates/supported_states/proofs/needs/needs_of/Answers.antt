@@ -6,7 +6,7 @@ use Rattle.supported_states.proofs.Beside.{needs_are}
 use Rattle.supported_states.proofs.needs.needs_of.Goals as goal
 
 pub returns : goal.returns
-returns c = 
+returns c =
     let seat : Seat = record { model = c.args.model; row = c.args.row; one = c.args.one; placed = c.args.placed; entities = c.as_slice.result } in
     let all : seat.entities.now ≡ entities_at seat.model.now seat.row seat.one.now seat.placed.now = c.as_slice.ensures.items ∙ c.in_ok-entities.ensures in
     IfOk-weaker c.needs_at.result _ _ (λ needs is. is ∙ needs_are seat all) c.needs_at.ensures

@@ -5,7 +5,7 @@ use Rattle.supported_states.proofs.Ends.{asked_some}
 use Rattle.supported_states.proofs.numbers.asked_type.Goals as goal
 
 pub returns-in-Some : goal.returns-in-Some
-returns-in-Some c = 
+returns-in-Some c =
     let model = c.args.model.now in
     let set = c.args.entry.now in
     c.type_at_end.ensures model

@@ -6,7 +6,7 @@ use Rattle.supported_states.proofs.Beside.{list_is}
 use Rattle.supported_states.proofs.part.add_links.Goals as goal
 
 pub returns : goal.returns
-returns c = 
+returns c =
     let sought = c.args.sought.now in
     let id = c.args.id in
     let assoc = c.args.assoc.now in

@@ -3,7 +3,7 @@ use Rattle.edm_types.proofs.Beside.{none_beside_first, none_beside_second}
 use Rattle.supported_states.proofs.plain.value_beside.Goals as goal
 
 pub returns : goal.returns
-returns c = 
+returns c =
     let rest = c.loop-other.other-iterator in
     ⊎_elim
     (λ first. none_beside_first c.args.prop rest.a.rest.now rest.b.rest.now first.1.0)

@@ -1,4 +1,4 @@
-use Rattle.std.proofs.Common.{◌≡◌, [], ◌∷◌, ◌++◌, not, true, false, refl, sym, ap, subst, ◌∙◌}
+use Rattle.std.proofs.Common.{◌≡◌, [], ◌∷◌, ◌++◌, not, true, refl, sym, ap, subst, ◌∙◌}
 use Rattle.std.specs.BTreeSet.{Updates, contains}
 use Rattle.std.proofs.lemmas.Bool.{not-true}
 use Rattle.supported_states.specs.Spots.{holds, spot_cmp, spot_of}
@@ -9,7 +9,7 @@ use Rattle.supported_states.proofs.Walking.{finds_new, finds_old}
 use Rattle.supported_states.proofs.small.add.Goals as goal
 
 pub returns-in_ok-push : goal.returns-in_ok-push
-returns-in_ok-push c =  λ found. (
+returns-in_ok-push c = λ found. (
     let spot = c.in_ok-spot_of.field-0 in
     let placed = c.args.placed.now in
     let is : spot ≡ spot_of placed = c.in_ok-spot_of.ensures in
@@ -22,7 +22,7 @@ returns-in_ok-push c =  λ found. (
     finds_new before now placed found updates (not-true (holds before.spots placed) (told ∙ c.if-branch.true)) (c.in_ok-push.ensures.items ∙ ap (λ one. before.keys.items ++ one ∷ []) c.in_ok-copy_placed.ensures))
 
 pub returns-else-branch : goal.returns-else-branch
-returns-else-branch c =  λ found. (
+returns-else-branch c = λ found. (
     let spot = c.in_ok-spot_of.field-0 in
     let placed = c.args.placed.now in
     let is : spot ≡ spot_of placed = c.in_ok-spot_of.ensures in

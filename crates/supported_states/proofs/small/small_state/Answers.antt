@@ -1,4 +1,4 @@
-use Rattle.std.proofs.Common.{◌≡◌, List, [], ◌∷◌, subst, ◌∙◌}
+use Rattle.std.proofs.Common.{List, [], ◌∷◌, subst, ◌∙◌}
 use Rattle.std.proofs.lemmas.Result.{IfOk-weaker}
 use Rattle.population.specs.Kept.{needed_keys}
 use Rattle.population.specs.Made.{state_of}
@@ -8,7 +8,7 @@ use Rattle.supported_states.proofs.Kept.{part_kept}
 use Rattle.supported_states.proofs.small.small_state.Goals as goal
 
 pub returns : goal.returns
-returns c = 
+returns c =
     let model = c.args.model.now in
     let row = c.args.row in
     let one = c.args.one.now in

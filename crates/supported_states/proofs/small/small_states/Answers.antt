@@ -8,7 +8,7 @@ use Rattle.supported_states.proofs.Kept.{part_kept}
 use Rattle.supported_states.proofs.small.small_states.Goals as goal
 
 pub returns-clause-one : goal.returns-clause-one
-returns-clause-one c = 
+returns-clause-one c =
     let model = c.args.model.now in
     let row = c.args.row in
     let one = c.args.one.now in
@@ -21,7 +21,7 @@ returns-clause-one c =
     (λ pair is. is.0 ∙ c.in_ok-first.ensures ∙ part_kept model row one c.requires.one states c.args.roots.now found holds) c.beside.ensures
 
 pub returns-clause-two : goal.returns-clause-two
-returns-clause-two c = 
+returns-clause-two c =
     let model = c.args.model.now in
     let row = c.args.row in
     let one = c.args.one.now in

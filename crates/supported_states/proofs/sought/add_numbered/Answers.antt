@@ -1,13 +1,13 @@
-use Rattle.std.proofs.Common.{◌≤◌, ℕ, List, Bool, map, filter, arith}
+use Rattle.std.proofs.Common.{ℕ, Bool, filter, arith}
 use Rattle.round_trip.specs.Words.{Entity}
 use Rattle.population.specs.Numbered.{number_count, numbered, numbered_key}
 use Rattle.supported_states.specs.Sought.{numbers_sought}
 use Rattle.supported_states.specs.Spots.{passes}
-use Rattle.supported_states.proofs.Turns.{Joins, joins-filter, map-joins, one_number, same_number}
+use Rattle.supported_states.proofs.Turns.{joins-filter, map-joins, one_number, same_number}
 use Rattle.supported_states.proofs.sought.add_numbered.Goals as goal
 
 pub loop-number-preserved : goal.loop-number-preserved
-loop-number-preserved c = 
+loop-number-preserved c =
     let sought = c.args.sought.now in
     let set = c.args.set in
     let entry = c.args.entry.now in
@@ -17,7 +17,7 @@ loop-number-preserved c =
     c.loop-number.invariant c.in_ok-add_number.ensures
 
 pub returns : goal.returns
-returns c = 
+returns c =
     let count = number_count c.args.sought.now.model.now in
     let end = c.in_ok-number-end.ensures in
     let up = c.loop-number.auto.number-end in
