@@ -1,0 +1,13 @@
+pub mod Turns
+pub mod Concrete
+pub mod Asked
+pub mod Bases
+pub mod Ends
+pub mod Lists
+pub mod Order
+pub mod Gathering
+pub mod Once
+pub mod Stepping
+pub mod Beside
+pub mod Walking
+pub mod Kept

@@ -1,0 +1,6 @@
+pub mod Spots
+pub mod Gathered
+pub mod Sought
+pub mod Sides
+pub mod Parts
+pub mod Small
