@@ -1,3 +1,4 @@
 pub mod LinkRows
 pub mod LinkHides
 pub mod LinkFails
+pub mod TwoLinks
