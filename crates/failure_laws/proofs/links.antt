@@ -4,3 +4,4 @@ pub mod LinkFails
 pub mod TwoLinks
 pub mod Unmapped
 pub mod SmallLinks
+pub mod LinkFacts

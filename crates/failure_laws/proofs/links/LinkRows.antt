@@ -82,7 +82,8 @@ module _ (basis : Basis) (is : IsBasis basis) (t : TableId) (fragment : LinkFrag
         (contains_map (λ (pair : Pair). pair.col) (fragment.first ++ fragment.second) from.pair among)) in
         let alone = end_cell basis is fragment.assoc (record { t = t; col = col; cell = cell; has = here }) key in
         let other : symbol.End a first p ≡ symbol.End fragment.assoc alone.first alone.pair.prop = only_member cell (symbol.End fragment.assoc alone.first alone.pair.prop) (symbol.End a first p) alone.is listed in
-        alone.is ∙ (λ k. sym other k ∷ [])
+        let P : Symbol → Type 0 = λ one. cell ≡ one ∷ [] in
+        subst P (sym other) alone.is
 
     -- a symbol can have one value alone, or it is the only one of its cell
     value_or_alone : (one : Symbol) → Contains cell one → HasOneValue basis one ⊎ (cell ≡ one ∷ [])
@@ -143,7 +144,7 @@ module _ (basis : Basis) (is : IsBasis basis) (t : TableId) (fragment : LinkFrag
         subst P is_one (symbol_possible basis is told_link t col one lists)
 
     -- two symbols that clash have two values
-    two_values : (col : ColId) (one two : Symbol) → IsClash basis LinkFocus t col one two → value_under link_values one ≢ value_under link_values two
+    pub two_values : (col : ColId) (one two : Symbol) → IsClash basis LinkFocus t col one two → value_under link_values one ≢ value_under link_values two
     two_values col one two clash same =
         let cell : List Symbol = clash.lists_one.0 in
         let here : HasCell (pattern_of basis LinkFocus) t col cell = clash.lists_one.1 in
@@ -161,7 +162,7 @@ module _ (basis : Basis) (is : IsBasis basis) (t : TableId) (fragment : LinkFrag
 
     module _ (col : ColId) (table : Table) (column : Column) (has_column : HasColumn basis.schema t table col column) where
       -- so the state clashes in the link's row
-      pub row_clashes : (one two : Symbol) → IsClash basis LinkFocus t col one two → Clashes basis.schema state (place_at table.name link_key column.name)
+      abbrev pub row_clashes : (one two : Symbol) → IsClash basis LinkFocus t col one two → Clashes basis.schema state (place_at table.name link_key column.name)
       row_clashes one two clash = record {
         t = t;
         table = table;
@@ -203,11 +204,11 @@ module _ (basis : Basis) (is : IsBasis basis) (t : TableId) (fragment : LinkFrag
 
       -- where a symbol stands for null, and the column isn't nullable, the state leaves null in the link's row
       module _ (none : NoneFailsBy basis.schema kind.Clash) (one : Symbol) (fact : IsTrue (is_null_in basis LinkFocus t col one)) where
-        null_parts : IsTrue (has_row (pattern_of basis LinkFocus) t) × IsTrue (is_required basis.schema.store t col)
+        pub null_parts : IsTrue (has_row (pattern_of basis LinkFocus) t) × IsTrue (is_required basis.schema.store t col)
             × IsTrue (stands_for_null basis LinkFocus (listed_in (pattern_of basis LinkFocus) t col) one)
         null_parts = let last = and_parts _ _ fact in let first = and_parts _ _ last.0 in (first.0, first.1, last.1)
 
-        no_value : (value : Value) → DemandsCell basis.schema state t link_key col value → value ≡ Null
+        pub no_value : (value : Value) → DemandsCell basis.schema state t link_key col value → value ≡ Null
         no_value value demand = by (listed_of col value demand)
           where
             by : ListsValue (pattern_of basis LinkFocus) link_values t col value → value ≡ Null
@@ -218,7 +219,7 @@ module _ (basis : Basis) (is : IsBasis basis) (t : TableId) (fragment : LinkFrag
                 let null : value_under link_values one ≡ Null = value_is col one lists_one Null (null_is_one col cell here one stands_null.0 stands_null.1) in
                 beside_null none value (subst (DemandsCell basis.schema state t link_key col) null (demanded col one lists_one)) demand
 
-        pub row_leaves : LeavesNull basis.schema state (place_at table.name link_key column.name)
+        abbrev pub row_leaves : LeavesNull basis.schema state (place_at table.name link_key column.name)
         row_leaves = record {
           t = t;
           table = table;
