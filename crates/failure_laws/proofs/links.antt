@@ -5,3 +5,5 @@ pub mod TwoLinks
 pub mod Unmapped
 pub mod SmallLinks
 pub mod LinkFacts
+pub mod LinkThere
+pub mod LinkTold
