@@ -1,0 +1,4 @@
+pub mod LinkRows
+pub mod LinkHides
+pub mod LinkFails
+pub mod TwoLinks
