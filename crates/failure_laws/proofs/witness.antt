@@ -1,0 +1,5 @@
+pub mod facts
+pub mod regions
+pub mod Computed
+pub mod Links
+pub mod Shown
