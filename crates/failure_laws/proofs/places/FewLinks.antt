@@ -3,7 +3,7 @@ use Rattle.std.proofs.Common.{◌≡◌, ◌≢◌, ◌⊎◌, ⊎_elim, inl, in
 use Rattle.emc_base.proofs.Lists.{at_once, only_member}
 use Rattle.emc_base.proofs.Numbered.{filter_contains}
 use Rattle.edm_types.specs.declared.model.Mult.TheVariants.{One, ZeroOrOne, Many}
-use Rattle.round_trip.specs.Words.{SetId, Value, Assoc, Entity, EntitySet, Link, Mult, State, At, IsLegal, entities_in, key_of, links_in}
+use Rattle.round_trip.specs.Words.{SetId, AssocId, Value, Assoc, Entity, EntitySet, Link, Mult, State, At, IsLegal, entities_in, key_of, links_in}
 use Rattle.schema_laws.specs.state_demand.Selecting.{same_key}
 use Rattle.schema_laws.proofs.state_demand.lists.Lists.{any_or_none}
 use Rattle.schema_laws.proofs.state_demand.writings.Selecting.{Decides-key}
@@ -13,17 +13,13 @@ use Rattle.regions.specs.region_laws.Partners.{HasFewPartners}
 use Rattle.regions.specs.region_laws.RegionAt.{links_at}
 use Rattle.regions.proofs.region_laws.entities.Hosting.{one_link}
 use Rattle.region_states.specs.conflicts.There.{HasFewLinks}
+use Rattle.failure_laws.specs.Facts.{HasManyPartners}
 
 -- a multiplicity is any number, or it isn't
 pub many_or_not : (mult : Mult) → (mult ≡ Many) ⊎ (mult ≢ Many)
 many_or_not One = inr (λ same. cc)
 many_or_not ZeroOrOne = inr (λ same. cc)
 many_or_not Many = inl refl
-
--- an association that is hosted at the set lets an entity have any number of partners
-pub record HasManyPartners (basis : Basis) (s : SetId) : Type 0 where
-  pub at : HostedAssoc basis s
-  pub many : (partner_end at.host.first_hosts at.assoc).mult ≡ Many
 
 module _ (basis : Basis) (is : IsBasis basis) (s : SetId) where
   abbrev IsMany : Host → Type 0
@@ -40,11 +36,12 @@ module _ (basis : Basis) (is : IsBasis basis) (s : SetId) where
           (ap (λ (one : Assoc). (partner_end host.first_hosts one).mult) (at_once basis.schema.model.assocs host.assoc.index assoc many.0 here many.1) ∙ many.2)))
           (many_or_not (partner_end host.first_hosts assoc).mult)
 
-  -- some hosted association does, or none does
-  pub many_or_few : HasManyPartners basis s ⊎ HasFewPartners basis s
+  -- some association that is hosted at the set lets an entity have any number of partners, or none does
+  pub many_or_few : ((a : AssocId) × HasManyPartners basis a) ⊎ HasFewPartners basis s
   many_or_few = ⊎_elim
       (λ (found : (host : Host) × Contains (basis.hosts s) host × IsMany host).
-      inl (record { at = record { host = found.0; hosts = found.1; assoc = found.2.0; is_assoc = found.2.1 }; many = found.2.2 }))
+      let at : HostedAssoc basis s = record { host = found.0; hosts = found.1; assoc = found.2.0; is_assoc = found.2.1 } in
+      inl (found.0.assoc, record { s = s; at = at; of_assoc = refl; many = found.2.2 }))
       (λ (none : (host : Host) → Contains (basis.hosts s) host → ¬ IsMany host). inr (λ host has assoc here many. none host has (assoc, here, many)))
       (any_or_none IsMany is_many_or_not (basis.hosts s))
 

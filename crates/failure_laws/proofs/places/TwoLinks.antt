@@ -22,6 +22,7 @@ use Rattle.regions.specs.region_laws.RegionAt.{links_at}
 use Rattle.regions.proofs.region_laws.entities.Hosting.{independent}
 use Rattle.regions.proofs.region_laws.writings.Owned.{row_writings}
 use Rattle.region_states.specs.conflicts.There.{AreTwoLinks, LinksFailThere}
+use Rattle.failure_laws.specs.Facts.{HasManyPartners}
 use Rattle.population.specs.Given.{HasNumbers}
 use Rattle.population.specs.LinkStates.{HoldsTwoLinks, at_end, entity_at, key_at, other_link, plain_link, two_links_state}
 use Rattle.population.specs.Numbered.{end_of}
@@ -29,7 +30,6 @@ use Rattle.population.specs.Supported.{end_key}
 use Rattle.population.proofs.supporting.Links.{near_key}
 use Rattle.population.proofs.supporting.LinkStates.{two_hold}
 use Rattle.population.proofs.plain.Numbered.{sound_end}
-use Rattle.failure_laws.proofs.places.FewLinks.{HasManyPartners}
 use Rattle.host_states.proofs.FewPartners.{column, pair, pairs_of, part, the_owner}
 use Rattle.host_states.proofs.focus.HostEnds.{host_key_is, host_side, partner_side}
 
@@ -196,11 +196,13 @@ module _ (basis : Basis) (is : IsBasis basis) (limits : IsWithinLimits basis.sch
       fails = (clashes, inr two_links);
     }
 
--- so it is where a set hosts such an association
-module _ (basis : Basis) (is : IsBasis basis) (limits : IsWithinLimits basis.schema) (s : SetId) where
-  pub many_partners_fail : (many : HasManyPartners basis s) → LinksFailThere basis many.at.host.assoc kind.Clash
-  many_partners_fail many =
-      let host : Host = many.at.host in
-      let by : IsHostOf basis.schema s host = (is.hosts s host).0 many.at.hosts in
-      let same : by.assoc ≡ many.at.assoc = at_once basis.schema.model.assocs host.assoc.index by.assoc many.at.assoc by.is_assoc many.at.is_assoc in
-      two_links_fail basis is limits s host many.at.hosts (ap (λ (one : Assoc). (partner_end host.first_hosts one).mult) same ∙ many.many)
+-- so it is with each association that lets an entity have any number of partners
+module _ (basis : Basis) (is : IsBasis basis) (limits : IsWithinLimits basis.schema) where
+  pub many_partners_fail : (a : AssocId) → HasManyPartners basis a → LinksFailThere basis a kind.Clash
+  many_partners_fail a of =
+      let host : Host = of.at.host in
+      let by : IsHostOf basis.schema of.s host = (is.hosts of.s host).0 of.at.hosts in
+      let same : by.assoc ≡ of.at.assoc = at_once basis.schema.model.assocs host.assoc.index by.assoc of.at.assoc by.is_assoc of.at.is_assoc in
+      let P : AssocId → Type 0 = λ one. LinksFailThere basis one kind.Clash in
+      subst P of.of_assoc
+      (two_links_fail basis is limits of.s host of.at.hosts (ap (λ (one : Assoc). (partner_end host.first_hosts one).mult) same ∙ of.many))
