@@ -1,7 +1,7 @@
 -- A legal state that fails does so at a set, or at the links of an association.
-use Rattle.std.proofs.Common.{◌≡◌, ◌≢◌, ◌⊎◌, ◌<◌, ⊎_elim, inl, inr, List, [], ◌++◌, if◌then◌else◌, Bool, true, false, Contains, refl, sym, ap, subst, arith}
+use Rattle.std.proofs.Common.{◌≡◌, ◌≢◌, ◌⊎◌, ⊎_elim, inl, inr, List, [], if◌then◌else◌, Bool, true, false, Contains, refl, subst, arith}
 use Rattle.emc_base.proofs.Lists.{item_at}
-use Rattle.round_trip.specs.Words.{Assoc, AssocId, At, DemandsRow, End, EntitySet, FailsAt, FailsBy, ForeignKey, IsLegal, LinkFragment, Place, SetId, State, TableId, Value, place_at}
+use Rattle.round_trip.specs.Words.{Assoc, AssocId, At, EntitySet, FailsAt, FailsBy, ForeignKey, IsLegal, LinkFragment, Place, SetId, State, TableId, Value, place_at}
 use Rattle.round_trip.specs.FailsAt.{Disagrees, IsHostedAt, IsSameAs}
 use Rattle.round_trip.specs.declared.FailKind.{FailKind}
 use Rattle.round_trip.specs.declared.FailKind.TheVariants as variant

@@ -1,5 +1,5 @@
 -- Where a hosted association lets an entity have any number of partners, two of its links clash in the entity's row.
-use Rattle.std.proofs.Common.{◌≡◌, ◌≢◌, inl, inr, List, ◌++◌, Contains, Bool, true, false, not, refl, sym, ap, subst, ◌∙◌, arith}
+use Rattle.std.proofs.Common.{◌≡◌, ◌≢◌, inl, inr, List, Contains, Bool, true, false, not, refl, sym, ap, subst, ◌∙◌, arith}
 use Rattle.std.proofs.lemmas.List.Elements.{Contains-append_left, Contains-append_right}
 use Rattle.emc_base.proofs.Lists.{at_once}
 use Rattle.emc_base.proofs.Mapped.{contains_at, contains_filter, contains_map}
@@ -15,7 +15,7 @@ use Rattle.schema_laws.specs.state_demand.Writings.{link_writing}
 use Rattle.schema_laws.proofs.sound_demand.owners.Pairing as pairing_of
 use Rattle.schema_laws.proofs.state_demand.writings.Selecting.{Decides-key}
 use Rattle.cells.specs.Limits.{IsWithinLimits}
-use Rattle.regions.specs.Basis.{Basis, Host, HostedAssoc, host_key, partner_end}
+use Rattle.regions.specs.Basis.{Basis, Host, host_key, partner_end}
 use Rattle.regions.specs.region_laws.Concrete.{WritesHosted}
 use Rattle.regions.specs.region_laws.IsBasis.{IsBasis, IsHostOf}
 use Rattle.regions.specs.region_laws.RegionAt.{links_at}
