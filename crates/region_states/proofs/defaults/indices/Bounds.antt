@@ -1,18 +1,11 @@
 -- Places of parts of keys and of properties, and the indices that they give.
-use Rattle.std.proofs.Common.{◌≡◌, ℕ, zero, suc, ◌<◌, ◌≤◌, List, [], length, slice_get, Contains, Option, Some, None, refl, sym, ap, subst, arith}
-use Rattle.std.specs.Bool.{⊤}
+use Rattle.std.proofs.Common.{◌≡◌, ◌<◌, ◌≤◌, [], length, slice_get, Contains, Option, Some, None, refl, arith}
 use Rattle.std.specs.Option.{option_map_or}
 use Rattle.std.proofs.lemmas.List.Elements.{All-contains}
-use Rattle.std.proofs.lemmas.Option.{MatchOption-at_none, MatchOption-at_some, slice_get_within}
+use Rattle.std.proofs.lemmas.Option.{slice_get_within}
 use Rattle.emc_base.proofs.Mapped.{contains_at}
-use Rattle.round_trip.specs.Words.{EntityModel, EntityType, PropId, TypeId, AssocId, Assoc, HasBase, At, key_props, props_of}
-use Rattle.edm_types.specs.IsA.{base}
-use Rattle.round_trip.specs.soundness.models.Inheritance.{IsRootKey}
+use Rattle.round_trip.specs.Words.{EntityModel, EntityType, PropId, TypeId, AssocId, Assoc, At, key_props, props_of}
 use Rattle.round_trip.specs.soundness.models.Models.{IsSoundModel}
-use Rattle.graphs.proofs.base_chains.Chains.{Ends}
-use Rattle.edm_types.proofs.Lookups.{key_at}
-use Rattle.schema_laws.proofs.sound_types.BasePlaces.{base_ends, base_here, base_place}
-use Rattle.schema_laws.proofs.state_demand.lists.Lists.{member_cases, none_in_nil}
 use Rattle.schema_laws.proofs.sound_demand.Keys.{keys_few}
 use Rattle.schema_laws.proofs.short_values.Places.{place_within}
 use Rattle.cells.specs.Limits.{IsSmallModel, most_props}
