@@ -1,12 +1,10 @@
 -- Where no legal state fails, legal states with the same tables are the same.
-use Rattle.std.proofs.Common.{◌≡◌, ⊎_elim, inl, ◌<◌, ◌≤◌, [], length, Contains, IsPermutation, refl}
+use Rattle.std.proofs.Common.{⊎_elim, inl, ◌<◌, ◌≤◌, [], length, Contains, IsPermutation, refl}
 use Rattle.std.proofs.lemmas.Bool.{cases_lt}
-use Rattle.std.proofs.lemmas.List.Elements.{All-contains}
 use Rattle.std.proofs.lemmas.List.Sorted.{IsPermutation-sym, Contains-permutation}
 use Rattle.emc_base.proofs.Lists.{item_at}
 use Rattle.emc_base.proofs.facts.Pairs.{both_none}
-use Rattle.emc_base.proofs.facts.Standing.{none_stands}
-use Rattle.round_trip.specs.Words.{AreSameTables, Assoc, AssocId, At, Entity, EntitySet, IsIndependent, IsLegal, IsLink, IsSameState, Keeps, RoundTrips, Schema, SetId, State, Tables, TablesAre, entities_in, key_of, links_in, place_at, rows_in}
+use Rattle.round_trip.specs.Words.{AreSameTables, At, Entity, EntitySet, IsLegal, IsSameState, Keeps, RoundTrips, Schema, SetId, State, Tables, TablesAre, entities_in, key_of, place_at, rows_in}
 use Rattle.round_trip.specs.declared.FailKind.TheVariants as kind
 use Rattle.round_trip.specs.soundness.mappings.Mappings.{IsSoundSchema}
 use Rattle.schema_laws.proofs.sound_demand.Kept.{all_stored}

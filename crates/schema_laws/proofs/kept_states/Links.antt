@@ -1,6 +1,6 @@
 -- Where no legal state fails, legal states with the same tables have the same links: those of mapped associations are told by the tables, and where nothing maps an
 -- association two such states would fail.
-use Rattle.std.proofs.Common.{◌≡◌, ◌≢◌, ◌⊎◌, ⊎_elim, inl, inr, ◌<◌, ◌≤◌, ◌==◌, List, [], map, length, take, drop, AllPairs, Contains, IsPermutation, Option, Some, None, refl, sym, ap, subst, ◌∙◌}
+use Rattle.std.proofs.Common.{◌≡◌, ◌≢◌, ◌⊎◌, ⊎_elim, inl, inr, ◌<◌, ◌≤◌, ◌==◌, List, [], map, length, take, drop, Contains, IsPermutation, Option, Some, None, refl, sym, ap, subst, ◌∙◌}
 use Rattle.std.proofs.lemmas.Bool.{cases_lt}
 use Rattle.std.proofs.lemmas.List.Elements.{All-contains}
 use Rattle.std.proofs.lemmas.List.Sorted.{IsPermutation-sym, Contains-permutation}
@@ -8,7 +8,7 @@ use Rattle.emc_base.proofs.Lists.{all_from_members, at_once, item_at}
 use Rattle.emc_base.proofs.facts.Pairs.{both_none}
 use Rattle.emc_base.proofs.facts.Standing.{none_stands}
 use Rattle.round_trip.specs.Words.{AreSameTables, AreSameTuples, Assoc, AssocId, At, Constraint, FailsAt, IsIndependent, IsLegal, IsLink, IsSameState, IsShownLinkTuple, IsWrittenLinkTuple, Link, LinkFragment, Place, RoundTrips, Satisfies, Schema, State, Tables, TablesAre, Value, link_cells, links_in, place_at, rows_in}
-use Rattle.round_trip.specs.FailsAt.{IsUnmapped, key_in_tuple}
+use Rattle.round_trip.specs.FailsAt.{key_in_tuple}
 use Rattle.round_trip.specs.declared.FailKind.TheVariants as kind
 use Rattle.round_trip.specs.soundness.mappings.Mappings.{IsSoundSchema}
 use Rattle.schema_laws.specs.sound_demand.Deriving.{derives}
