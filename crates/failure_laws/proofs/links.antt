@@ -1,0 +1,9 @@
+pub mod LinkRows
+pub mod LinkHides
+pub mod LinkFails
+pub mod TwoLinks
+pub mod Unmapped
+pub mod SmallLinks
+pub mod LinkFacts
+pub mod LinkThere
+pub mod LinkTold
