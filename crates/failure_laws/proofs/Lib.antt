@@ -1,2 +1,3 @@
 pub mod links
 pub mod witness
+pub mod places

@@ -6,7 +6,7 @@ use Rattle.regions.specs.region_laws.IsBasis.{IsBasis, IsHostOf}
 use Rattle.region_states.specs.NoAssociations.{HasNoAssociationSets}
 
 -- no association stands at any place
-pub no_assoc : (model : EntityModel) → HasNoAssociationSets model → (i : ℕ) (assoc : Assoc) → At model.assocs i assoc → ⊥
+no_assoc : (model : EntityModel) → HasNoAssociationSets model → (i : ℕ) (assoc : Assoc) → At model.assocs i assoc → ⊥
 no_assoc model none i assoc here = let never : None ≡ Some assoc = ap (λ list. slice_get list i) (sym none) ∙ here in cc
 
 module _ (basis : Basis) (is : IsBasis basis) where

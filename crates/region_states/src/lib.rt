@@ -1,9 +1,8 @@
-//! That cells are a basis of the regions of their mapping; conflicts, and legal states that hold an entity of a region: what they demand by its pattern, which values it may have, which states there are, and at which set a state fails.
+//! That cells are a basis of the regions of their mapping; conflicts, and legal states that hold an entity of a region: what they demand by its pattern, which values it may have, and which states there are.
 #![tactic(auto)]
 
 mod conflicts;
 mod default_values;
-mod failure_places;
 mod focus_laws;
 pub mod joined_laws;
 pub mod region_basis;
@@ -30,7 +29,6 @@ pub use default_values::{
     joined_values_fit, properties_can_differ, some_candidates_are_left,
     untested_properties_have_two_values,
 };
-pub use failure_places::{a_mapping_round_trips_set_by_set, each_failure_is_at_a_set};
 pub use focus_laws::{
     a_pattern_is_the_demand, a_pattern_is_the_facts, agreement_is_by_the_pattern, flags_tell_links,
     no_other_row_is_demanded,

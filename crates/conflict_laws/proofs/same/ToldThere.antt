@@ -3,10 +3,10 @@ use Rattle.std.proofs.Common.{◌≡◌, ◌⊎◌, inl, inr, [], List, Contains
 use Rattle.round_trip.specs.Words.{SetId, AssocId, Assoc, EntitySet, IsLegal, Link, LinkFragment, Place, State, Tables, Value, At, links_in, place_at}
 use Rattle.round_trip.specs.FailsAt.{DifferAt, HasEntityOnly, HasHostedLinkOnly, IsSameAs}
 use Rattle.round_trip.specs.declared.FailKind.TheVariants as kind
+use Rattle.schema_laws.proofs.kept_states.Links.{link_too}
 use Rattle.regions.specs.Basis.{Basis}
 use Rattle.regions.specs.region_laws.IsBasis.{IsHostOf}
 use Rattle.region_states.specs.conflicts.There.{FailsThere, NoneFailsBy}
-use Rattle.conflict_laws.proofs.same.states.Links.{link_too}
 use Rattle.conflict_laws.proofs.same.Names.{no_assoc, one_set}
 use Rattle.conflict_laws.proofs.same.rows.Rows.{HaveSameTables, turned}
 use Rattle.conflict_laws.proofs.same.rows.Together.{HasLinksToo}

@@ -1,5 +1,4 @@
 pub mod Legal
-pub mod Links
 pub mod Entities
 pub mod HostedAt
 pub mod Moved

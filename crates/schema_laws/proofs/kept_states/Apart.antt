@@ -1,17 +1,16 @@
--- Where no legal state fails and no association is independent, legal states with the same tables are the same.
-use Rattle.std.proofs.Common.{◌≡◌, ⊎_elim, inl, ◌<◌, ◌≤◌, [], length, Contains, IsPermutation, refl}
+-- Where no legal state fails, legal states with the same tables are the same.
+use Rattle.std.proofs.Common.{⊎_elim, inl, ◌<◌, ◌≤◌, [], length, Contains, IsPermutation, refl}
 use Rattle.std.proofs.lemmas.Bool.{cases_lt}
-use Rattle.std.proofs.lemmas.List.Elements.{All-contains}
 use Rattle.std.proofs.lemmas.List.Sorted.{IsPermutation-sym, Contains-permutation}
 use Rattle.emc_base.proofs.Lists.{item_at}
 use Rattle.emc_base.proofs.facts.Pairs.{both_none}
-use Rattle.emc_base.proofs.facts.Standing.{none_stands}
-use Rattle.round_trip.specs.Words.{AreSameTables, Assoc, AssocId, At, Entity, EntitySet, IsIndependent, IsLegal, IsLink, IsSameState, Keeps, RoundTrips, Schema, SetId, State, Tables, TablesAre, entities_in, key_of, links_in, place_at, rows_in}
+use Rattle.round_trip.specs.Words.{AreSameTables, At, Entity, EntitySet, IsLegal, IsSameState, Keeps, RoundTrips, Schema, SetId, State, Tables, TablesAre, entities_in, key_of, place_at, rows_in}
 use Rattle.round_trip.specs.declared.FailKind.TheVariants as kind
 use Rattle.round_trip.specs.soundness.mappings.Mappings.{IsSoundSchema}
 use Rattle.schema_laws.proofs.sound_demand.Kept.{all_stored}
 use Rattle.schema_laws.proofs.state_demand.lists.Permutations.{same_members_permute}
 use Rattle.schema_laws.proofs.kept_states.Entities.{apart_by_key, past_none, stands_or_not}
+use Rattle.schema_laws.proofs.kept_states.Links.{same_links}
 
 module _ (schema : Schema) (round_trips : RoundTrips schema) where
   -- a set of the model holds each entity of the one state in the other too
@@ -34,40 +33,33 @@ module _ (schema : Schema) (round_trips : RoundTrips schema) where
       })))
       (stands_or_not (entities_in d u) entity)
 
-  module _ (no_links : (a : AssocId) (assoc : Assoc) → At schema.model.assocs a.index assoc → ¬ IsIndependent assoc) where
-    -- a legal state has no links
-    links_none : (state : State) → IsLegal schema.model state → (a : AssocId) → links_in state a ≡ []
-    links_none state legal a = ⊎_elim
-        (λ (within : a.index < length schema.model.assocs).
-        let found = item_at schema.model.assocs a.index within in
-        none_stands (links_in state a) (λ link has.
-        no_links a found.0 found.1 (All-contains (IsLink schema.model found.0) (links_in state a) link (legal.shape.links a found.0 found.1) has).independent))
-        (λ (past : length schema.model.assocs ≤ a.index). past_none state.links (length schema.model.assocs) a.index legal.shape.assocs past)
-        (cases_lt a.index (length schema.model.assocs))
+  module _ (c d : State) (s t : Tables) (is_c : IsLegal schema.model c) (is_d : IsLegal schema.model d)
+      (are_c : TablesAre schema c s) (are_d : TablesAre schema d t) (same : AreSameTables s t) where
+    -- a set of the model holds the same entities in both
+    same_in_set : (u : SetId) (set : EntitySet) → At schema.model.sets u.index set → IsPermutation (entities_in c u) (entities_in d u)
+    same_in_set u set is_set = same_members_permute (entities_in c u) (entities_in d u)
+        (apart_by_key (key_of schema.model) (entities_in c u) (is_c.sets u set is_set).keys)
+        (apart_by_key (key_of schema.model) (entities_in d u) (is_d.sets u set is_set).keys)
+        (stands_too c d s t is_c is_d are_c are_d same u set is_set)
+        (stands_too d c t s is_d is_c are_d are_c (λ table. IsPermutation-sym (rows_in s table) (rows_in t table) (same table)) u set is_set)
 
-    module _ (c d : State) (s t : Tables) (is_c : IsLegal schema.model c) (is_d : IsLegal schema.model d)
-        (are_c : TablesAre schema c s) (are_d : TablesAre schema d t) (same : AreSameTables s t) where
-      -- a set of the model holds the same entities in both
-      same_in_set : (u : SetId) (set : EntitySet) → At schema.model.sets u.index set → IsPermutation (entities_in c u) (entities_in d u)
-      same_in_set u set is_set = same_members_permute (entities_in c u) (entities_in d u)
-          (apart_by_key (key_of schema.model) (entities_in c u) (is_c.sets u set is_set).keys)
-          (apart_by_key (key_of schema.model) (entities_in d u) (is_d.sets u set is_set).keys)
-          (stands_too c d s t is_c is_d are_c are_d same u set is_set)
-          (stands_too d c t s is_d is_c are_d are_c (λ table. IsPermutation-sym (rows_in s table) (rows_in t table) (same table)) u set is_set)
+    -- and past these both hold none
+    same_entities : (u : SetId) → IsPermutation (entities_in c u) (entities_in d u)
+    same_entities u = ⊎_elim
+        (λ (within : u.index < length schema.model.sets). let found = item_at schema.model.sets u.index within in same_in_set u found.0 found.1)
+        (λ (past : length schema.model.sets ≤ u.index). both_none (entities_in c u) (entities_in d u)
+        (past_none c.entities (length schema.model.sets) u.index is_c.shape.sets past)
+        (past_none d.entities (length schema.model.sets) u.index is_d.shape.sets past))
+        (cases_lt u.index (length schema.model.sets))
 
-      -- and past these both hold none
-      same_entities : (u : SetId) → IsPermutation (entities_in c u) (entities_in d u)
-      same_entities u = ⊎_elim
-          (λ (within : u.index < length schema.model.sets). let found = item_at schema.model.sets u.index within in same_in_set u found.0 found.1)
-          (λ (past : length schema.model.sets ≤ u.index). both_none (entities_in c u) (entities_in d u)
-          (past_none c.entities (length schema.model.sets) u.index is_c.shape.sets past)
-          (past_none d.entities (length schema.model.sets) u.index is_d.shape.sets past))
-          (cases_lt u.index (length schema.model.sets))
+module _ (schema : Schema) (sound : IsSoundSchema schema) (round_trips : RoundTrips schema) where
+  -- legal states with the same tables are the same
+  pub same_state : (c d : State) (s t : Tables) → IsLegal schema.model c → IsLegal schema.model d → TablesAre schema c s → TablesAre schema d t → AreSameTables s t → IsSameState c d
+  same_state c d s t is_c is_d are_c are_d same = record {
+    entities = same_entities schema round_trips c d s t is_c is_d are_c are_d same;
+    links = same_links schema sound round_trips c d s t is_c is_d are_c are_d same;
+  }
 
-      -- legal states with the same tables are the same
-      pub same_state : IsSameState c d
-      same_state = record { entities = same_entities; links = λ a. both_none (links_in c a) (links_in d a) (links_none c is_c a) (links_none d is_d a) }
-
-    -- each legal state is stored, and told apart from the others by its tables
-    pub keeps : IsSoundSchema schema → Keeps schema
-    keeps sound = record { round_trips = round_trips; every_state = record { stored = all_stored schema sound round_trips; told_apart = same_state } }
+  -- each legal state is stored, and told apart from the others by its tables
+  pub keeps : Keeps schema
+  keeps = record { round_trips = round_trips; every_state = record { stored = all_stored schema sound round_trips; told_apart = same_state } }

@@ -2,4 +2,4 @@ use Rattle.schema_laws.proofs.kept_states.Apart.{keeps}
 use Rattle.schema_laws.proofs.kept_states.every_state_is_kept.Goals as goal
 
 pub returns : goal.returns
-returns c = record { keeps = λ schema sound round_trips no_links. keeps schema round_trips no_links sound }
+returns c = record { keeps = keeps }

@@ -1,5 +1,5 @@
-use Rattle.region_states.proofs.failure_places.There.{none_dangles, none_fails}
-use Rattle.region_states.proofs.failure_places.a_mapping_round_trips_set_by_set.Goals as goal
+use Rattle.failure_laws.proofs.places.There.{none_dangles, none_fails}
+use Rattle.failure_laws.proofs.failure_places.a_mapping_round_trips_place_by_place.Goals as goal
 
 pub returns-clause-dangling : goal.returns-clause-dangling
 returns-clause-dangling c = none_dangles

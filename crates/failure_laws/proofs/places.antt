@@ -1,0 +1,3 @@
+pub mod FewLinks
+pub mod TwoLinks
+pub mod There
