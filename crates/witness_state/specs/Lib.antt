@@ -2,4 +2,5 @@ pub mod Failures
 pub mod FirstConflict
 pub mod CellPlaces
 pub mod Shown
+pub mod Small
 pub mod region_values
