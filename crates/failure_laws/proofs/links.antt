@@ -7,3 +7,4 @@ pub mod SmallLinks
 pub mod LinkFacts
 pub mod LinkThere
 pub mod LinkTold
+pub mod LinkExact

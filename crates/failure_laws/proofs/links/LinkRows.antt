@@ -69,6 +69,9 @@ module _ (basis : Basis) (is : IsBasis basis) (t : TableId) (fragment : LinkFrag
   listed_table u col one lists = sym lists.1.of_table ∙ row_joined basis is t fragment assoc joined lists.1.row lists.1.is_row
 
   module _ (col : ColId) (cell : List Symbol) (here : HasCell (pattern_of basis LinkFocus) t col cell) where
+    is_it : (one other : Symbol) → cell ≡ one ∷ [] → other ≡ one → cell ≡ other ∷ []
+    is_it one other alone same = let P : Symbol → Type 0 = λ it. cell ≡ it ∷ [] in subst P (sym same) alone
+
     -- an end is the only symbol of its cell, since it is in the primary key
     end_alone : (a : AssocId) (first : Bool) (p : PropId) → Contains cell (symbol.End a first p) → cell ≡ symbol.End a first p ∷ []
     end_alone a first p listed =
@@ -82,8 +85,7 @@ module _ (basis : Basis) (is : IsBasis basis) (t : TableId) (fragment : LinkFrag
         (contains_map (λ (pair : Pair). pair.col) (fragment.first ++ fragment.second) from.pair among)) in
         let alone = end_cell basis is fragment.assoc (record { t = t; col = col; cell = cell; has = here }) key in
         let other : symbol.End a first p ≡ symbol.End fragment.assoc alone.first alone.pair.prop = only_member cell (symbol.End fragment.assoc alone.first alone.pair.prop) (symbol.End a first p) alone.is listed in
-        let P : Symbol → Type 0 = λ one. cell ≡ one ∷ [] in
-        subst P (sym other) alone.is
+        is_it (symbol.End fragment.assoc alone.first alone.pair.prop) (symbol.End a first p) alone.is other
 
     -- a symbol can have one value alone, or it is the only one of its cell
     value_or_alone : (one : Symbol) → Contains cell one → HasOneValue basis one ⊎ (cell ≡ one ∷ [])

@@ -17,7 +17,7 @@ use Rattle.regions.specs.region_laws.IsBasis.{IsBasis, IsHostOf}
 use Rattle.regions.proofs.region_laws.entities.Hosting.{independent}
 use Rattle.regions.proofs.region_laws.pattern.Cells.{cell_of as made_cell}
 use Rattle.regions.proofs.region_laws.pattern.symbols.Hosting.{one_link}
-use Rattle.region_states.specs.conflicts.Conflicts.{IsTableOf}
+use Rattle.region_states.specs.conflicts.Conflicts.{IsLinkOf, IsTableOf}
 use Rattle.region_states.specs.conflicts.Facts.{disagrees_at, has_row, is_clash, is_many_links, is_null_in, is_required, is_unmapped, shows_link_pattern}
 use Rattle.region_states.specs.conflicts.There.{LinksFailThere, NoneFailsBy}
 use Rattle.region_states.specs.focus.Held.{HasRow}
@@ -162,8 +162,8 @@ module _ (basis : Basis) (is : IsBasis basis) (limits : IsWithinLimits basis.sch
     many_at = two_links_there basis is host.assoc shared_place shared_cell (two_links_state basis.schema.model 0 host.assoc host.first_hosts assoc_of) two_held many
 
   module _ (a : AssocId) where
-    pub many_there : IsTrue (is_many_links basis a) → LinksFailThere basis a kind.Clash
-    many_there fact =
+    many_found : IsTrue (is_many_links basis a) → LinksFailThere basis a kind.Clash
+    many_found fact =
         let has : HasManyPartners basis a = (Decides-many_links basis a is).0 fact in
         let host : Host = has.at.host in
         let same : has.at.assoc ≡ hosted_assoc basis is limits has.s host has.at.hosts =
@@ -172,28 +172,34 @@ module _ (basis : Basis) (is : IsBasis basis) (limits : IsWithinLimits basis.sch
         subst (λ b. LinksFailThere basis b kind.Clash) has.of_assoc
         (many_at has.s host has.at.hosts (subst (λ (one : Assoc). (partner_end host.first_hosts one).mult ≡ Many) same has.many))
 
+    pub many_there : (b : AssocId) → b ≡ a → IsTrue (is_many_links basis b) → LinksFailThere basis a kind.Clash
+    many_there b same fact = many_found (subst (λ c. IsTrue (is_many_links basis c)) same fact)
+
     -- two states with the same tables, where nothing maps the association
-    pub unmapped_fails : NoneFailsBy basis.schema kind.Clash → IsTrue (is_unmapped basis a) → LinksFailThere basis a kind.Same
-    unmapped_fails none fact =
+    unmapped_found : NoneFailsBy basis.schema kind.Clash → IsTrue (is_unmapped basis a) → LinksFailThere basis a kind.Same
+    unmapped_found none fact =
         let found = (Decides-unmapped basis a).0 fact in
         let unmapped : IsUnmapped basis.schema a found.0 = found.1 in
         unmapped_there basis is none a found.0 unmapped (link_state basis.schema.model 0 a found.0) (unlinked_state basis.schema.model 0 a found.0)
         (links_differ basis.schema.model 0 numbers a found.0 unmapped.is_assoc unmapped.independent)
 
-    -- a table of the association's own
-    module _ (t : TableId) (of : IsTableOf basis a t) where
-      pub clashes_there : (u : TableId) (col : ColId) (one two : Symbol) → IsTrue (is_clash basis (focus.Link a) u col one two) → LinksFailThere basis a kind.Clash
-      clashes_there u col one two =
-          let P : AssocId → Type 0 = λ b. IsTrue (is_clash basis (focus.Link b) u col one two) → LinksFailThere basis b kind.Clash in
-          subst P of.of_assoc (clash_there t of.fragment of.assoc of.joined u col one two)
+    pub unmapped_fails : NoneFailsBy basis.schema kind.Clash → (b : AssocId) → b ≡ a → IsTrue (is_unmapped basis b) → LinksFailThere basis a kind.Same
+    unmapped_fails none b same fact = unmapped_found none (subst (λ c. IsTrue (is_unmapped basis c)) same fact)
 
-      pub nulls_there : NoneFailsBy basis.schema kind.Clash → (u : TableId) (col : ColId) (one : Symbol) → IsTrue (is_null_in basis (focus.Link a) u col one)
+    -- the focus is a link of the association, which has a table of its own
+    module _ (b : AssocId) (of : IsLinkOf basis a (focus.Link b)) where
+      own : b ≡ of.2.fragment.assoc
+      own = of.0 ∙ sym of.2.of_assoc
+
+      pub clashes_there : (u : TableId) (col : ColId) (one two : Symbol) → IsTrue (is_clash basis (focus.Link b) u col one two) → LinksFailThere basis a kind.Clash
+      clashes_there u col one two fact = subst (λ c. LinksFailThere basis c kind.Clash) of.2.of_assoc
+          (clash_there of.1 of.2.fragment of.2.assoc of.2.joined u col one two (subst (λ c. IsTrue (is_clash basis (focus.Link c) u col one two)) own fact))
+
+      pub nulls_there : NoneFailsBy basis.schema kind.Clash → (u : TableId) (col : ColId) (one : Symbol) → IsTrue (is_null_in basis (focus.Link b) u col one)
           → LinksFailThere basis a kind.Null
-      nulls_there none u col one =
-          let P : AssocId → Type 0 = λ b. IsTrue (is_null_in basis (focus.Link b) u col one) → LinksFailThere basis b kind.Null in
-          subst P of.of_assoc (null_there t of.fragment of.assoc of.joined none u col one)
+      nulls_there none u col one fact = subst (λ c. LinksFailThere basis c kind.Null) of.2.of_assoc
+          (null_there of.1 of.2.fragment of.2.assoc of.2.joined none u col one (subst (λ c. IsTrue (is_null_in basis (focus.Link c) u col one)) own fact))
 
-      pub disagrees_there : NoneFailsBy basis.schema kind.Clash → (name : List ℕ) → IsTrue (disagrees_at basis (focus.Link a) name) → LinksFailThere basis a kind.Disagrees
-      disagrees_there none name =
-          let P : AssocId → Type 0 = λ b. IsTrue (disagrees_at basis (focus.Link b) name) → LinksFailThere basis b kind.Disagrees in
-          subst P of.of_assoc (disagreement_there t of.fragment of.assoc of.joined none name)
+      pub disagrees_there : NoneFailsBy basis.schema kind.Clash → (name : List ℕ) → IsTrue (disagrees_at basis (focus.Link b) name) → LinksFailThere basis a kind.Disagrees
+      disagrees_there none name fact = subst (λ c. LinksFailThere basis c kind.Disagrees) of.2.of_assoc
+          (disagreement_there of.1 of.2.fragment of.2.assoc of.2.joined none name (subst (λ c. IsTrue (disagrees_at basis (focus.Link c) name)) own fact))

@@ -115,7 +115,7 @@ module _ (basis : Basis) (is : IsBasis basis) (state : State) (legal : IsLegal b
           let needed : IsTrue (is_required basis.schema.store t leaves.col) =
           required_told basis.schema t leaves.col leaves.table leaves.column has_column leaves.not_nullable in
           let fact : IsTrue (is_null_in basis (focus.Link a) t leaves.col found.0) = λ k. is_there k && needed k && stands k in
-          (conflict.NullIn (focus.Link a) t leaves.col found.0, record { of_kind = refl; of_links = (refl, t, table_of); holds = fact })
+          (conflict.NullIn (focus.Link a) t leaves.col found.0, record { of_kind = refl {a = kind.Null}; of_links = (refl, t, table_of); holds = fact })
 
   module _ (a : AssocId) where
     -- at a row of the association's own table
@@ -153,7 +153,7 @@ module _ (basis : Basis) (is : IsBasis basis) (state : State) (legal : IsLegal b
           let keys : List Value = keys_in_tuple basis.schema.model own.assoc at.fragment fails.tuple in
           let found = ((tuples_of_links basis.schema is.sound state fails.tables (record { legal = legal; are = fails.defined }) own.assoc at.fragment
           (joined_table basis is at.fragment own.assoc joined none state legal).0 (to_joined basis is at.fragment own.assoc joined none state legal)).tuples keys).0
-          (fails.tuple, only, refl) in
+          (fails.tuple, only, refl {a = keys}) in
           let hides : ¬ IsTrue (shows_link_pattern basis (focus.Link at.fragment.assoc) at.fragment) =
           pattern_hides basis is at.fragment own.assoc joined none state legal fails.tables fails.defined found.0 found.1 found.2 in
           let Hides : AssocId → Type 0 = λ b. ¬ IsTrue (shows_link_pattern basis (focus.Link b) at.fragment) in (
