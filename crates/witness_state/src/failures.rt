@@ -1,34 +1,38 @@
 ghost use Rattle.std.specs.Prelude.{◌≡◌, IfOk};
-ghost use Rattle.cells.specs.Parts.{AreParts, schema_in};
+ghost use Rattle.cells.specs.Parts.{schema_in};
 ghost use Rattle.region_states.specs.region_basis.BasisOf.{basis_of};
-ghost use Rattle.region_states.specs.NoAssociations.{HasNoAssociationSets};
-ghost use Rattle.regions.specs.declared.pattern.Focus.TheVariants as focus;
-ghost use Rattle.regions.specs.Basis.{Basis};
-ghost use Rattle.round_trip.specs.Words.{SetId};
-ghost use Rattle.region_states.specs.conflicts.Conflicts.{IsConflictAt, IsRegionOf, kind_of};
-ghost use Rattle.region_states.specs.conflicts.There.{NoneFailsBefore};
 ghost use Rattle.witness_state.specs.Failures.{IsFailureOf};
+ghost use Rattle.witness_state.specs.FirstConflict.{IsFirstConflict};
+ghost use Rattle.witness_state.specs.Shown.{IsShownOf};
 
 use crate::failure::Failure;
+use crate::link_failures::{many_failure, unmapped_failure};
 use crate::one_state::{clash_failure, disagreement_failure, null_failure};
 use crate::two_states::{absence_failure, lost_failure, rival_failure};
 use cells::Parts;
 use emc_base::Memory;
+use failure_laws::witnesses_fail;
 use region_states::{Conflict, parts_are_a_basis};
-use regions::{Focus, Region};
 use std::alloc::Global;
 
-/// A legal state that fails by a conflict: the entity of its region with the usual values, changed as far as the failure needs; for the kind `Same` the
-/// other state with the same tables besides. No legal state may fail by a kind that is told before the conflict's. `Memory` comes where memory ran out.
+/// A legal state that fails by a conflict, and for the kind `Same` the other state with the same tables besides. What the conflict tells must be so, and no
+/// legal state may fail by a kind that is told before its own. The states are small: they hold what the failure needs, principals and partners included, and
+/// nothing else. `Memory` comes where memory ran out.
 pub fn build(alloc: Global, parts: &Parts<'_>, conflict: &Conflict) -> Result<Failure, Memory>
-    requires parts { AreParts parts.now }
-    requires alone { HasNoAssociationSets (schema_in parts.now).model }
-    requires conflict { (s : SetId) × IsConflictAt (basis_of parts.now) s (kind_of conflict.now) conflict.now }
-    requires earlier { NoneFailsBefore (schema_in parts.now) (kind_of conflict.now) }
+    requires { IsFirstConflict parts.now conflict.now }
     ensures failure { IfOk result (IsFailureOf (schema_in parts.now)) }
-    ensures kind { IfOk result (λ failure. failure.kind ≡ kind_of conflict.now) }
+    ensures shown { IfOk result (IsShownOf (basis_of parts.now) conflict.now) }
 {
     parts_are_a_basis();
+    witnesses_fail();
+    shown_of(alloc, parts, conflict)
+}
+
+// The states that are shown of a conflict.
+fn shown_of(alloc: Global, parts: &Parts<'_>, conflict: &Conflict) -> Result<Failure, Memory>
+    requires { IsFirstConflict parts.now conflict.now }
+    ensures { IfOk result (IsShownOf (basis_of parts.now) conflict.now) }
+{
     match conflict {
         Conflict::Clash {
             focus,
@@ -36,29 +40,18 @@ pub fn build(alloc: Global, parts: &Parts<'_>, conflict: &Conflict) -> Result<Fa
             col,
             one,
             two,
-        } => clash_failure(alloc, parts, region_in(focus), *table, *col, one, two),
+        } => clash_failure(alloc, parts, focus, *table, *col, one, two),
+        Conflict::ManyLinks(assoc) => many_failure(alloc, parts, *assoc),
         Conflict::NullIn {
             focus,
             table,
             col,
-            ..
-        } => null_failure(alloc, parts, region_in(focus), *table, *col),
-        Conflict::Disagree { focus, place } => {
-            disagreement_failure(alloc, parts, region_in(focus), place)
-        }
+            symbol,
+        } => null_failure(alloc, parts, focus, *table, *col, symbol),
+        Conflict::Disagree { focus, place } => disagreement_failure(alloc, parts, focus, place),
         Conflict::Absent(region) => absence_failure(alloc, parts, region),
         Conflict::Rival { one, two } => rival_failure(alloc, parts, one, two),
         Conflict::Lost { region, prop } => lost_failure(alloc, parts, region, *prop),
-    }
-}
-
-// The region of a focus that is one of a set.
-fn region_in(of: &Focus) -> &Region
-    requires { (basis : Basis) × (s : SetId) × IsRegionOf basis s of.now }
-    ensures { of.now ≡ focus.Entity result.now }
-{
-    match of {
-        Focus::Entity(region) => region,
-        Focus::Link(_) => unreachable!(),
+        Conflict::Unmapped(assoc) => unmapped_failure(alloc, parts, *assoc),
     }
 }

@@ -33,7 +33,7 @@ use Rattle.conflict_laws.proofs.rival.Rivals.{one_focus_key}
 use Rattle.conflict_laws.specs.States.{RivalStates}
 use Rattle.conflict_laws.proofs.clash.Clear.{region_clear}
 use Rattle.conflict_laws.specs.Told.{LostProp}
-use Rattle.conflict_laws.specs.rival.Alike.{AreTwins, HaveOneKey}
+use Rattle.conflict_laws.specs.rival.Alike.{AreComparable, AreTwins, HaveOneKey}
 
 -- what may have several values, by the fact
 several_of : (can : Possible) → is_multi can ≡ true → (nullable : Bool) × (can ≡ multi nullable)
@@ -95,12 +95,29 @@ module _ (basis : Basis) (given : RivalStates basis) (s : SetId) (set : EntitySe
   FailsWith one two = FailsAt basis.schema kind.Same (place_at set.name (key_of basis.schema.model (focus_entity basis region one)) [])
       (given.rivals region one region two).0 (given.rivals region one region two).1
 
-  -- values that differ in the property alone
+  -- the region is comparable with itself
+  comparable : AreComparable basis s region region
+  comparable =
+      let clear_region = region_clear basis given.clear s region listed in
+      record { is_one = listed; is_two = listed; linked = refl; clear_one = clear_region; clear_two = clear_region }
+
+  -- values that differ in the property alone give one key
+  keyed : (base one two : Valuation) → DifferAt base one two p → HaveOneKey basis region one two
+  keyed base one two differ = record {
+    keys = λ q key.
+        let other : q ≢ p = λ same. lost.no_key (subst (Contains (key_props basis.schema.model region.ty)) same key) in
+        differ.one_others q other ∙ sym (differ.two_others q other);
+    parts = differ.one_parts ∙ sym differ.two_parts;
+  }
+
+  one_key : (base one two : Valuation) → DifferAt base one two p → key_of basis.schema.model (focus_entity basis region one) ≡ key_of basis.schema.model (focus_entity basis region two)
+  one_key base one two differ = one_focus_key basis given.clear.given.is_basis s region region comparable one two (keyed base one two differ)
+
+  -- and the states with them fail
   differ_fails : (base one two : Valuation) → IsAdmissible basis 0 region one → IsAdmissible basis 0 region two → DifferAt base one two p → FailsWith one two
   differ_fails base one two admissible_one admissible_two differ =
-      let clear_region = region_clear basis given.clear s region listed in
       let twins : AreTwins basis s region region one two = record {
-        comparable = record { is_one = listed; is_two = listed; linked = refl; clear_one = clear_region; clear_two = clear_region };
+        comparable = comparable;
         allowed = admissible_one.allowed;
         others_allowed = admissible_two.allowed;
         alike = record {
@@ -109,12 +126,6 @@ module _ (basis : Basis) (given : RivalStates basis) (s : SetId) (set : EntitySe
               same_value basis region p lost base one two differ t col cell has_cell
               ∙ ap (value_in two) (one_cell basis given.clear.given.is_basis (focus.Entity region) t col cell other has_cell too);
         };
-      } in
-      let keyed : HaveOneKey basis region one two = record {
-        keys = λ q key.
-            let other : q ≢ p = λ same. lost.no_key (subst (Contains (key_props basis.schema.model region.ty)) same key) in
-            differ.one_others q other ∙ sym (differ.two_others q other);
-        parts = differ.one_parts ∙ sym differ.two_parts;
       } in
       let hold : HoldRivals basis region region one two (given.rivals region one region two).0 (given.rivals region one region two).1 =
       given.hold.hold given.few (record {
@@ -129,16 +140,20 @@ module _ (basis : Basis) (given : RivalStates basis) (s : SetId) (set : EntitySe
         admissible = admissible_one;
         others_admissible = admissible_two;
         partners = differ.one_parts ∙ sym differ.two_parts;
-        keys = one_focus_key basis given.clear.given.is_basis s region region twins.comparable one two keyed;
+        keys = one_key base one two differ;
       }) in
-      twins_fail basis given.clear.given.is_basis given.clear.no_clash s set is_set region region one two twins keyed
+      twins_fail basis given.clear.given.is_basis given.clear.no_clash s set is_set region region one two twins (keyed base one two differ)
       (given.rivals region one region two).0 (given.rivals region one region two).1 hold
       (λ same. differ.different (sym (has_value basis region one p lost.among) ∙ ap (λ (e : Entity). value_of basis.schema.model e p) same
       ∙ has_value basis region two p lost.among))
 
-  -- and so the states with these fail
-  the_lost_fail : FailsWith (with_one basis region p) (with_other basis region p)
-  the_lost_fail =
+  -- admissible values that differ in the property alone
+  abbrev pub Differing : Valuation → Valuation → Type 0
+  Differing one two = IsAdmissible basis 0 region one × IsAdmissible basis 0 region two × DifferAt (default_valuation basis 0 region) one two p
+
+  -- such are the usual ones with the one value, and with the other
+  pub lost_differ : Differing (with_one basis region p) (with_other basis region p)
+  lost_differ =
       let found = prop_there basis given.clear.given.is_basis region.ty p lost.among in
       let declared : Prop = found.0 in
       let several : SeveralOf basis = record {
@@ -160,9 +175,15 @@ module _ (basis : Basis) (given : RivalStates basis) (s : SetId) (set : EntitySe
       ap (λ there. option_map_or (λ (d : Prop). changed (default_valuation basis 0 region) (alone p (one_value basis p d))) there (default_valuation basis 0 region)) found.1 in
       let second : with_other basis region p ≡ changed base (alone p (other_value basis p declared)) =
       ap (λ there. option_map_or (λ (d : Prop). changed (default_valuation basis 0 region) (alone p (other_value basis p d))) there (default_valuation basis 0 region)) found.1 in
-      subst (FailsWith (with_one basis region p)) (sym second)
-      (subst (λ one. FailsWith one (changed base (alone p (other_value basis p declared)))) (sym first)
-      (differ_fails base (changed base (alone p (one_value basis p declared))) (changed base (alone p (other_value basis p declared))) differ.0 differ.1 differ.2))
+      subst (Differing (with_one basis region p)) (sym second)
+      (subst (λ one. Differing one (changed base (alone p (other_value basis p declared)))) (sym first) differ)
+
+  pub lost_keys : key_of basis.schema.model (focus_entity basis region (with_one basis region p)) ≡ key_of basis.schema.model (focus_entity basis region (with_other basis region p))
+  lost_keys = one_key (default_valuation basis 0 region) (with_one basis region p) (with_other basis region p) lost_differ.2
+
+  -- and so the states with these fail
+  the_lost_fail : FailsWith (with_one basis region p) (with_other basis region p)
+  the_lost_fail = differ_fails (default_valuation basis 0 region) (with_one basis region p) (with_other basis region p) lost_differ.0 lost_differ.1 lost_differ.2
 
 pub lost_fails : (basis : Basis) (given : RivalStates basis) (at : LostProp basis) (set : EntitySet) → At basis.schema.model.sets at.s.index set
     → FailsAt basis.schema kind.Same (place_at set.name (key_of basis.schema.model (focus_entity basis at.region (with_one basis at.region at.p))) [])

@@ -52,7 +52,7 @@ module _ (basis : Basis) (given : RivalStates basis) (at : RivalRegions basis) w
   parts = and_parts (not (same_region at.one at.two) && links_match) (patterns_match basis at.one at.two) at.rivals
 
   -- the same links are there
-  linked : at.one.linked ≡ at.two.linked
+  pub linked : at.one.linked ≡ at.two.linked
   linked = match_same (λ (a b : AssocId). a.index == b.index) (λ a b. (Decides-assoc a b).0) at.one.linked at.two.linked (and_parts (not (same_region at.one at.two)) links_match parts.0).1
 
   -- the regions are different
@@ -62,7 +62,7 @@ module _ (basis : Basis) (given : RivalStates basis) (at : RivalRegions basis) w
       true≢false (sym (subst (λ r. IsTrue (same_region at.one r)) same (told_one at.one)) ∙ not_same)
 
   -- and comparable
-  comparable : AreComparable basis at.s at.one at.two
+  pub comparable : AreComparable basis at.s at.one at.two
   comparable = record {
     is_one = at.is_one;
     is_two = at.is_two;
@@ -85,11 +85,11 @@ module _ (basis : Basis) (given : RivalStates basis) (at : RivalRegions basis) w
   d = (given.rivals at.one (first_values basis at.one at.two) at.two (second_values basis at.one at.two)).1
 
   -- the values are admissible
-  admissible : IsAdmissible basis 0 at.one values × IsAdmissible basis 0 at.two others
+  pub admissible : IsAdmissible basis 0 at.one values × IsAdmissible basis 0 at.two others
   admissible = rivals_admissible basis given.clear.given.is_basis at.s at.one at.two comparable given.clear.given.limits parts.1
 
   -- give the entities one key
-  keyed : HaveOneKey basis at.one values others
+  pub keyed : HaveOneKey basis at.one values others
   keyed = rival_keys basis given.clear.given.is_basis at.s at.one at.two comparable
 
   -- and write entities of both regions alike
