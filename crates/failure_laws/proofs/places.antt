@@ -1,3 +1,2 @@
 pub mod FewLinks
-pub mod TwoLinks
 pub mod There

@@ -23,8 +23,9 @@ use Rattle.region_states.proofs.focus.Demanded.{row_of_one}
 use Rattle.host_states.specs.Hosting.{HaveFewPartners}
 use Rattle.host_states.proofs.FewPartners.{few_by_clear}
 use Rattle.failure_laws.specs.Facts.{HasManyPartners}
+use Rattle.failure_laws.proofs.links.LinkFacts.{Decides-many_links}
+use Rattle.failure_laws.proofs.links.LinkThere.{many_there}
 use Rattle.failure_laws.proofs.places.FewLinks.{few_links, many_or_few}
-use Rattle.failure_laws.proofs.places.TwoLinks.{many_partners_fail}
 
 -- some set of the model fails by the kind, or the links of some association do
 abbrev pub IsSomewhere : Basis → FailKind → Type 0
@@ -63,7 +64,7 @@ module _ (basis : Basis) (is : IsBasis basis) where
       by (inl (s, entity, at)) = ⊎_elim
           (λ (many : (a : AssocId) × HasManyPartners basis a).
           let P : AssocId → Type 0 = λ a. At basis.schema.model.assocs a.index many.1.at.assoc in
-          inr (many.0, many.1.at.assoc, subst P many.1.of_assoc many.1.at.is_assoc, many_partners_fail basis is limits many.0 many.1))
+          inr (many.0, many.1.at.assoc, subst P many.1.of_assoc many.1.at.is_assoc, many_there basis is limits many.0 ((Decides-many_links basis many.0 is).1 many.1)))
           (λ (few : HasFewPartners basis s). at_set variant.Clash place c d legal s at.owned.set at.owned.is_set (fails, row_of c legal fails.t fails.key s entity at few))
           (many_or_few basis is s)
       by (inr (fragment, assoc, link, at)) =
