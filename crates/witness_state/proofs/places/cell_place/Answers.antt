@@ -1,4 +1,4 @@
-use Rattle.std.proofs.Common.{◌<◌, length, inl, sym, ap, subst, ◌∙◌}
+use Rattle.std.proofs.Common.{◌<◌, length, sym, ap, subst, ◌∙◌}
 use Rattle.std.proofs.lemmas.Option.{slice_get_within}
 use Rattle.emc_base.proofs.Lists.{at_once}
 use Rattle.round_trip.specs.Words.{Table, values_of}
@@ -21,12 +21,12 @@ pairing-pairing-requires c = subst (λ n. c.args.table.index < n) (sym c.require
     (slice_get_within c.args.parts.now.store.now.tables c.args.table.index c.requires.column.0 c.requires.column.2.is_table)
 
 pub returns : goal.returns
-returns c = λ s pairs writes.
+returns c = λ s pairs owns.
     let schema = schema_in c.args.parts.now in
-    let own = owned schema c.requires.parts.sound c.args.table s pairs (inl writes) in
+    let own = owned schema c.requires.parts.sound c.args.table s pairs owns in
     let told = c.requires.parts.cells.pairings.each c.args.table c.pairing-pairing.result.now c.pairing-pairing.ensures in
     let key = c.in_ok-values_of.ensures ∙ ap (values_of schema.model c.args.entity.now) c.as_slice.ensures.items
-    ∙ key_told schema c.args.table s pairs writes own.0 own.1 c.pairing-pairing.result.now told c.args.entity.now in
+    ∙ key_told schema c.args.table s own.0 own.1 c.pairing-pairing.result.now told (pairs, owns) c.args.entity.now in
     record {
       table = c.at-declared.result.now;
       column = c.at-column.result.now;
