@@ -1,5 +1,5 @@
 -- What the answers on many links of one entity and on an association without a mapping tell.
-use Rattle.std.proofs.Common.{◌≡◌, ◌≢◌, ◌⊎◌, ⊎_elim, inl, inr, ◌&&◌, ◌||◌, ◌==◌, List, slice_get, Contains, Bool, true, false, not, Option, Some, None, Decides, IsTrue, All, refl, sym, ap, subst, ◌∙◌}
+use Rattle.std.proofs.Common.{◌≡◌, ◌≢◌, ◌⊎◌, inl, inr, ◌&&◌, ◌||◌, ◌==◌, slice_get, Contains, Bool, true, false, not, Option, Some, None, Decides, All, refl, sym, subst, ◌∙◌}
 use Rattle.std.specs.List.{list_any}
 use Rattle.std.specs.Option.{option_map_or}
 use Rattle.std.proofs.lemmas.Bool.Decides.{Decides-and, Decides-like, Decides-not, Decides-or}
@@ -9,7 +9,7 @@ use Rattle.round_trip.specs.Words.{AssocId, SetId, Assoc, LinkFragment, Mult, At
 use Rattle.round_trip.specs.FailsAt.{IsUnmapped}
 use Rattle.edm_types.specs.declared.model.Mult.TheVariants.{One, ZeroOrOne, Many}
 use Rattle.schema_laws.proofs.state_demand.lists.Ids.{Decides-assoc}
-use Rattle.regions.specs.Basis.{Basis, Host, HostedAssoc, host_end, partner_end}
+use Rattle.regions.specs.Basis.{Basis, Host, host_end, partner_end}
 use Rattle.regions.specs.region_laws.IsBasis.{IsBasis}
 use Rattle.regions.proofs.region_laws.entities.Hosting.{at_set}
 use Rattle.region_states.specs.conflicts.Facts.{has_many_at, is_independent, is_many, is_many_links, is_unmapped}

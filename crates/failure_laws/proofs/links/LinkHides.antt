@@ -1,7 +1,7 @@
 -- The fragment of a joined association and the rows of its links: it hides them all where it hides the pattern's row, and none else.
-use Rattle.std.proofs.Common.{◌≡◌, ◌↔◌, ◌==◌, ◌&&◌, ◌++◌, ℕ, List, [], Contains, Decides, not, IsTrue, refl, sym, subst}
+use Rattle.std.proofs.Common.{◌≡◌, ◌↔◌, ◌==◌, ◌&&◌, ◌++◌, ℕ, List, [], Contains, Decides, not, IsTrue, sym, subst}
 use Rattle.std.specs.Str.{bytes_eq}
-use Rattle.std.proofs.lemmas.Bool.Decides.{Decides-and, Decides-like, Decides-not}
+use Rattle.std.proofs.lemmas.Bool.Decides.{Decides-and, Decides-not}
 use Rattle.std.proofs.lemmas.Slice.Eq.{bytes_eq-Decides}
 use Rattle.emc_base.proofs.Lists.{item_at, only_stands}
 use Rattle.round_trip.specs.Words.{IsLegal, Assoc, AssocId, Link, LinkFragment, Row, ShowsLink, State, Table, TableId, Tables, TablesAre, At, links_in, place_at, rows_in}
@@ -17,9 +17,7 @@ use Rattle.schema_laws.proofs.sound_demand.Kept.{tables_there}
 use Rattle.schema_laws.proofs.sound_demand.ReadBack.{rows_of_links}
 use Rattle.schema_laws.proofs.sound_demand.tuples.Disagreeing.{tuples_of_links}
 use Rattle.schema_laws.proofs.state_demand.lists.Ids.{Decides-assoc}
-use Rattle.regions.specs.declared.pattern.Focus.{Focus}
 use Rattle.regions.specs.declared.pattern.Focus.TheVariants as focus
-use Rattle.regions.specs.declared.pattern.PatternRow.{PatternRow}
 use Rattle.regions.specs.Basis.{Basis}
 use Rattle.regions.specs.Patterns.{pattern_of}
 use Rattle.regions.specs.Shown.{shows_link_row}

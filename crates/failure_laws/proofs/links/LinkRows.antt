@@ -3,21 +3,15 @@ use Rattle.std.proofs.Common.{◌≡◌, ◌≢◌, ◌⊎◌, ⊎_elim, inl, in
 use Rattle.std.proofs.lemmas.Bool.{and_parts}
 use Rattle.std.proofs.lemmas.List.Elements.{All-contains}
 use Rattle.graphs.proofs.base_chains.orders.Orders.{place_of_member}
-use Rattle.emc_base.proofs.Lists.{all_from_members, item_at, only_member}
+use Rattle.emc_base.proofs.Lists.{all_from_members, only_member}
 use Rattle.emc_base.proofs.Mapped.{contains_map}
-use Rattle.emc_base.proofs.facts.Tests.{fails_by, not_true}
-use Rattle.round_trip.specs.Words.{ColId, Column, DemandsCell, DemandsRow, IsLegal, Assoc, AssocId, Link, LinkFragment, Null, Pair, PropId, Row, ShowsLink, State, Table, TableId, Tables, Value, At, key_columns, links_in, place_at, rows_in, written_key}
-use Rattle.round_trip.specs.FailsAt.{Clashes, Disagrees, HasColumn, LeavesNull}
+use Rattle.emc_base.proofs.facts.Tests.{fails_by}
+use Rattle.round_trip.specs.Words.{ColId, Column, DemandsCell, IsLegal, Assoc, AssocId, Link, LinkFragment, Null, Pair, PropId, State, Table, TableId, Value, key_columns, links_in, place_at, written_key}
+use Rattle.round_trip.specs.FailsAt.{Clashes, HasColumn, LeavesNull}
 use Rattle.round_trip.specs.declared.FailKind.TheVariants as kind
 use Rattle.schema_laws.specs.state_demand.Owners.{IsJoinedTo}
 use Rattle.schema_laws.specs.state_demand.WellWritten.{cols_of}
 use Rattle.schema_laws.specs.state_demand.Writings.{link_writing}
-use Rattle.schema_laws.specs.sound_demand.Fragments.{IsJoinedFragment, IsStoredIn}
-use Rattle.schema_laws.specs.sound_demand.Made.{tables_for}
-use Rattle.schema_laws.proofs.sound_demand.Fitting.{link_ids}
-use Rattle.schema_laws.proofs.sound_demand.Kept.{tables_there}
-use Rattle.schema_laws.proofs.sound_demand.ReadBack.{rows_of_links}
-use Rattle.schema_laws.proofs.sound_demand.tuples.Disagreeing.{tuples_of_links}
 use Rattle.schema_laws.proofs.state_demand.writings.Decisions.{value_or_not}
 use Rattle.schema_laws.proofs.state_demand.writings.Selecting.{Decides-value}
 use Rattle.regions.specs.declared.pattern.Focus.{Focus}
@@ -27,34 +21,29 @@ use Rattle.regions.specs.declared.pattern.Symbol.{Symbol}
 use Rattle.regions.specs.declared.pattern.Symbol.TheVariants as symbol
 use Rattle.regions.specs.Basis.{Basis}
 use Rattle.regions.specs.Patterns.{Valuation, by_link, pattern_of, value_under, writings_of}
-use Rattle.regions.specs.Settled.{Possible, has_clash, multi, possible, single}
-use Rattle.regions.specs.Shown.{shows_link_row}
+use Rattle.regions.specs.Settled.{Possible, has_clash, possible, single}
 use Rattle.regions.specs.region_laws.Held.{LinkRow}
 use Rattle.regions.specs.region_laws.IsBasis.{IsBasis}
 use Rattle.regions.specs.region_laws.pattern.Allowed.{AllowedFocus, CanBe, IsAllowedLink}
-use Rattle.regions.specs.region_laws.pattern.Described.{HasNoClashes, HasTwoSymbols, IsClearRow}
+use Rattle.regions.specs.region_laws.pattern.Described.{HasTwoSymbols, IsClearRow}
 use Rattle.regions.specs.region_laws.pattern.Listed.{HasCell, Lists}
 use Rattle.regions.proofs.region_laws.pattern.Cells.{cell_of as made_cell}
 use Rattle.regions.proofs.region_laws.pattern.Keys.{end_cell}
 use Rattle.regions.proofs.region_laws.pattern.Laws.{listed_from, symbol_possible}
 use Rattle.regions.proofs.region_laws.pattern.Settled.{clash_decided}
-use Rattle.regions.proofs.region_laws.pattern.symbols.Hosting.{one_link, side_among}
+use Rattle.regions.proofs.region_laws.pattern.symbols.Hosting.{side_among}
 use Rattle.regions.proofs.region_laws.pattern.symbols.Standing.{end_of, link_no_prop}
 use Rattle.regions.proofs.region_laws.pattern.values.Allowed.{link_allowed}
-use Rattle.region_states.specs.conflicts.Facts.{can_be_null, has_row, hides_link, is_null_in, is_required, listed_in, shows_link_pattern, stands_for_null}
+use Rattle.region_states.specs.conflicts.Facts.{can_be_null, has_row, is_null_in, is_required, listed_in, stands_for_null}
 use Rattle.region_states.specs.conflicts.There.{NoneFailsBy}
-use Rattle.region_states.specs.focus.Held.{HasRow, ListsValue}
-use Rattle.region_states.proofs.focus.Agreeing.{joined_agrees}
+use Rattle.region_states.specs.focus.Held.{ListsValue}
 use Rattle.region_states.proofs.focus.Demanded.{link_cells, link_rows}
 use Rattle.region_states.proofs.focus.Listed.{row_joined}
-use Rattle.region_states.proofs.joined_laws.OneRow.{joined_row}
-use Rattle.conflict_laws.proofs.clash.Clashing.{AreOne, Decides-clash, IsClash}
+use Rattle.conflict_laws.proofs.clash.Clashing.{IsClash}
 use Rattle.conflict_laws.proofs.clash.Listed.{cell_is}
-use Rattle.conflict_laws.proofs.disagreement.PatternRows.{shown_by}
 use Rattle.conflict_laws.proofs.null.Listed.{Decides-row}
 use Rattle.conflict_laws.proofs.null.Nulls.{stands_listed}
 use Rattle.conflict_laws.proofs.null.Required.{told_needed}
-use Rattle.conflict_laws.proofs.same.states.Legal.{unclashed}
 
 -- the symbol can have one value alone
 abbrev pub HasOneValue : Basis → Symbol → Type 0
@@ -88,7 +77,7 @@ module _ (basis : Basis) (is : IsBasis basis) (t : TableId) (fragment : LinkFrag
         is_it (symbol.End fragment.assoc alone.first alone.pair.prop) (symbol.End a first p) alone.is other
 
     -- a symbol can have one value alone, or it is the only one of its cell
-    value_or_alone : (one : Symbol) → Contains cell one → HasOneValue basis one ⊎ (cell ≡ one ∷ [])
+    pub value_or_alone : (one : Symbol) → Contains cell one → HasOneValue basis one ⊎ (cell ≡ one ∷ [])
     value_or_alone symbol.Null listed = inl (Null, refl)
     value_or_alone (symbol.Const value) listed = inl (value, refl)
     value_or_alone (symbol.Prop p) listed =
@@ -96,7 +85,7 @@ module _ (basis : Basis) (is : IsBasis basis) (t : TableId) (fragment : LinkFrag
     value_or_alone (symbol.End a first p) listed = inr (end_alone a first p listed)
 
     -- one that can be null can have one value alone
-    null_is_one : (one : Symbol) → Contains cell one → IsTrue (can_be_null (possible basis.schema.model [] one)) → possible basis.schema.model [] one ≡ single Null
+    pub null_is_one : (one : Symbol) → Contains cell one → IsTrue (can_be_null (possible basis.schema.model [] one)) → possible basis.schema.model [] one ≡ single Null
     null_is_one symbol.Null listed told = refl
     null_is_one (symbol.Const value) listed told = ap single ((Decides-value value Null).0 told)
     null_is_one (symbol.Prop p) listed told =

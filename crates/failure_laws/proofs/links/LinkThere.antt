@@ -1,9 +1,8 @@
 -- Where there is a conflict of an association's links, some legal state fails there.
-use Rattle.std.proofs.Common.{◌≡◌, inl, inr, ℕ, ◌≤◌, ◌++◌, List, [], Contains, Bool, true, false, not, if◌then◌else◌, IsTrue, refl, sym, ap, subst, ◌∙◌, arith}
+use Rattle.std.proofs.Common.{◌≡◌, inl, ℕ, ◌++◌, List, [], Contains, Bool, true, false, not, IsTrue, refl, sym, ap, subst, ◌∙◌, arith}
 use Rattle.emc_base.proofs.Lists.{at_once}
-use Rattle.round_trip.specs.Words.{AssocId, ColId, SetId, TableId, Assoc, Column, End, IsIndependent, Link, LinkFragment, Pair, Place, State, Table, At, links_in, place_at}
+use Rattle.round_trip.specs.Words.{AssocId, ColId, SetId, TableId, Assoc, Column, End, Link, LinkFragment, Pair, Place, State, Table, place_at}
 use Rattle.round_trip.specs.FailsAt.{HasColumn, IsUnmapped}
-use Rattle.round_trip.specs.declared.FailKind.{FailKind}
 use Rattle.round_trip.specs.declared.FailKind.TheVariants as kind
 use Rattle.edm_types.specs.declared.model.Mult.TheVariants.{Many}
 use Rattle.schema_laws.specs.state_demand.Owners.{IsJoinedTo, IsOwned, paired_key}
@@ -25,7 +24,6 @@ use Rattle.region_states.proofs.focus.Listed.{row_joined}
 use Rattle.std.proofs.lemmas.Bool.{and_parts}
 use Rattle.population.specs.Given.{HasNumbers}
 use Rattle.population.specs.LinkStates.{HoldsLink, HoldsTwoLinks, link_state, plain_link, two_links_state, unlinked_state}
-use Rattle.population.specs.Numbered.{end_of}
 use Rattle.population.proofs.supporting.LinkStates.{link_holds, links_differ, two_hold}
 use Rattle.host_states.specs.ManyPartners.{shared_entity}
 use Rattle.host_states.proofs.FewPartners.{by as host_by, column as shared_column, pair as shared_pair, pairs_of, is_assoc as hosted_here, the_assoc as hosted_assoc, the_owner}

@@ -19,11 +19,11 @@ use Rattle.regions.specs.region_laws.pattern.Listed.{HasCell}
 use Rattle.regions.proofs.region_laws.pattern.Laws.{symbol_possible}
 use Rattle.regions.proofs.region_laws.pattern.symbols.Hosting.{one_link}
 use Rattle.region_states.specs.conflicts.Conflicts.{IsLinkConflictAt, IsTableOf}
-use Rattle.region_states.specs.conflicts.Facts.{can_be_null, has_row, is_null_in, is_required, listed_in, shows_link_pattern, stands_for_null}
+use Rattle.region_states.specs.conflicts.Facts.{has_row, is_null_in, is_required, listed_in, shows_link_pattern, stands_for_null}
 use Rattle.region_states.specs.conflicts.There.{AreTwoLinks, IsAtLinks, NoneFailsBy}
 use Rattle.region_states.specs.declared.conflicts.conflict.Conflict.{Conflict}
 use Rattle.region_states.specs.declared.conflicts.conflict.Conflict.TheVariants as conflict
-use Rattle.region_states.specs.focus.Held.{HasRow, ListsValue}
+use Rattle.region_states.specs.focus.Held.{HasRow}
 use Rattle.region_states.proofs.focus.Demanded.{link_rows}
 use Rattle.conflict_laws.proofs.clash.Clashing.{Decides-clash}
 use Rattle.conflict_laws.proofs.clash.Listed.{cell_is}

@@ -1,5 +1,5 @@
 -- What the entities at the ends of links need holds the links as the whole states do.
-use Rattle.std.proofs.Common.{◌≡◌, ◌≢◌, ◌&&◌, ⊎_elim, ℕ, List, [], ◌∷◌, filter, length, map, slice_get, Contains, Bool, true, false, not, Option, refl, sym, ap, subst, ◌∙◌}
+use Rattle.std.proofs.Common.{◌≡◌, ◌&&◌, ⊎_elim, ℕ, List, [], ◌∷◌, filter, length, slice_get, Contains, Bool, true, false, not, Option, refl, sym, ap, subst, ◌∙◌}
 use Rattle.std.specs.List.{list_any}
 use Rattle.std.specs.Option.{option_map_or}
 use Rattle.std.proofs.lemmas.Option.{slice_get_past}

@@ -1,8 +1,8 @@
 -- Two links of one entity clash in its row, in each column that holds a part of the partner's key.
-use Rattle.std.proofs.Common.{◌≡◌, ◌≢◌, inl, inr, List, ◌++◌, Contains, Bool, true, false, not, if◌then◌else◌, refl, sym, ap, subst, ◌∙◌}
+use Rattle.std.proofs.Common.{◌≡◌, ◌≢◌, inl, inr, List, Contains, Bool, true, false, not, if◌then◌else◌, refl, sym, ap, subst, ◌∙◌}
 use Rattle.std.proofs.lemmas.List.Elements.{Contains-append_left, Contains-append_right}
 use Rattle.emc_base.proofs.Mapped.{contains_at, contains_filter, contains_map}
-use Rattle.round_trip.specs.Words.{AssocId, ColId, PropId, Value, Assoc, DemandsCell, End, Entity, EntityModel, FailsAt, Fills, Link, LinkFragment, LinkWrites, Pair, Place, State, WritesRow, At, end_cells, entities_in, key_of, key_props, link_cells, links_in, place_at, value_beside}
+use Rattle.round_trip.specs.Words.{AssocId, ColId, PropId, Value, Assoc, DemandsCell, End, Entity, EntityModel, FailsAt, Fills, Link, LinkFragment, LinkWrites, Pair, Place, State, WritesRow, At, end_cells, entities_in, key_of, key_props, link_cells, links_in, value_beside}
 use Rattle.round_trip.specs.FailsAt.{Clashes}
 use Rattle.round_trip.specs.declared.FailKind.TheVariants as kind
 use Rattle.edm_types.specs.declared.model.Mult.TheVariants.{Many}
@@ -14,7 +14,7 @@ use Rattle.schema_laws.specs.state_demand.Writings.{link_writing}
 use Rattle.schema_laws.proofs.sound_demand.Fitting.{sound_link}
 use Rattle.schema_laws.proofs.sound_demand.owners.Pairing as pairing_of
 use Rattle.schema_laws.proofs.state_demand.writings.Selecting.{Decides-key}
-use Rattle.regions.specs.Basis.{Basis, Host, HostedAssoc, host_key, partner_end}
+use Rattle.regions.specs.Basis.{Basis, Host, host_key, partner_end}
 use Rattle.regions.specs.region_laws.Concrete.{WritesHosted}
 use Rattle.regions.specs.region_laws.Held.{IsAtRow}
 use Rattle.regions.specs.region_laws.IsBasis.{IsBasis}
@@ -22,7 +22,7 @@ use Rattle.regions.specs.region_laws.RegionAt.{links_at}
 use Rattle.regions.proofs.region_laws.entities.Hosting.{at_set}
 use Rattle.regions.proofs.region_laws.writings.Owned.{row_writings}
 use Rattle.region_states.specs.conflicts.There.{AreTwoLinks, LinksFailThere}
-use Rattle.population.specs.LinkStates.{HoldsTwoLinks, at_end, entity_at, key_at, other_at, other_link, plain_link}
+use Rattle.population.specs.LinkStates.{HoldsTwoLinks, at_end, key_at, other_at, other_link, plain_link}
 use Rattle.population.specs.Numbered.{end_of}
 use Rattle.population.specs.Supported.{end_key}
 use Rattle.population.proofs.plain.Numbered.{sound_end}

@@ -2,7 +2,7 @@
 use Rattle.std.proofs.Common.{◌≡◌, ◌≢◌, ⊎_elim, inl, inr, List, [], Contains, refl, sym, subst}
 use Rattle.std.proofs.lemmas.List.Elements.{All-contains}
 use Rattle.std.proofs.lemmas.List.Sorted.{Contains-permutation, IsPermutation-refl}
-use Rattle.round_trip.specs.Words.{AssocId, SetId, TableId, ColId, Value, Assoc, DemandsCell, DemandsRow, Entity, FailsAt, HasDemandedCells, IsSameState, Link, LinkFragment, Row, Schema, State, Table, Tables, TablesAre, Writes, Writing, WritesRow, At, cell_of, entities_in, links_in, place_at, row_key, rows_in}
+use Rattle.round_trip.specs.Words.{AssocId, SetId, TableId, Value, Assoc, DemandsCell, FailsAt, Link, LinkFragment, Schema, State, Table, Tables, TablesAre, Writes, Writing, WritesRow, cell_of, entities_in, links_in, place_at, row_key, rows_in}
 use Rattle.round_trip.specs.FailsAt.{IsSameAs, IsUnmapped}
 use Rattle.round_trip.specs.declared.FailKind.TheVariants as kind
 use Rattle.schema_laws.specs.sound_demand.Made.{tables_for}
