@@ -1,13 +1,10 @@
 pub mod Turns
+pub mod Lists
 pub mod Concrete
 pub mod Asked
 pub mod Bases
 pub mod Ends
-pub mod Lists
 pub mod Order
 pub mod Gathering
 pub mod Once
 pub mod Stepping
-pub mod Beside
-pub mod Walking
-pub mod Kept

@@ -1,6 +1,3 @@
 pub mod Spots
 pub mod Gathered
-pub mod Sought
-pub mod Sides
-pub mod Parts
-pub mod Small
+pub mod small_parts

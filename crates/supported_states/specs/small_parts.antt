@@ -1,0 +1,4 @@
+pub mod Sought
+pub mod Sides
+pub mod Parts
+pub mod Small
