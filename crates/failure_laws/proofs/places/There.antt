@@ -64,7 +64,7 @@ module _ (basis : Basis) (is : IsBasis basis) where
       by (inl (s, entity, at)) = ⊎_elim
           (λ (many : (a : AssocId) × HasManyPartners basis a).
           let P : AssocId → Type 0 = λ a. At basis.schema.model.assocs a.index many.1.at.assoc in
-          inr (many.0, many.1.at.assoc, subst P many.1.of_assoc many.1.at.is_assoc, many_there basis is limits many.0 ((Decides-many_links basis many.0 is).1 many.1)))
+          inr (many.0, many.1.at.assoc, subst P many.1.of_assoc many.1.at.is_assoc, many_there basis is limits many.0 many.0 refl ((Decides-many_links basis many.0 is).1 many.1)))
           (λ (few : HasFewPartners basis s). at_set variant.Clash place c d legal s at.owned.set at.owned.is_set (fails, row_of c legal fails.t fails.key s entity at few))
           (many_or_few basis is s)
       by (inr (fragment, assoc, link, at)) =

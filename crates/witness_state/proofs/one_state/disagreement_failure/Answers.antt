@@ -1,9 +1,0 @@
-use Rattle.cells.specs.Parts.{schema_in}
-use Rattle.witness_state.proofs.Disagreements.{disagreement_is}
-use Rattle.witness_state.proofs.Shown.{shown_is}
-use Rattle.witness_state.proofs.one_state.disagreement_failure.Goals as goal
-
-pub returns-clause-failure : goal.returns-clause-failure
-returns-clause-failure c = shown_is (schema_in c.args.parts.now) _
-    (disagreement_is c.args.parts.now c.args.region.now c.args.fragment.now c.requires c.in_ok-entity.entity c.in_ok-entity.ensures c.in_ok-place.place c.in_ok-place.ensures)
-    c.alone.result c.alone.ensures

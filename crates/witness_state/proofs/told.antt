@@ -1,0 +1,4 @@
+pub mod Listed
+pub mod Values
+pub mod Pairs
+pub mod Becomes
