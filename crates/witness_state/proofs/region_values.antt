@@ -9,4 +9,3 @@ pub mod Others
 pub mod Tried
 pub mod Lost
 pub mod Faced
-pub mod Lone

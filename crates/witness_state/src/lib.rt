@@ -4,11 +4,15 @@
 mod differing;
 mod failure;
 mod failures;
+mod fragment_places;
+mod link_failures;
 mod one_state;
 mod places;
 mod region_values;
+mod small_links;
+mod small_regions;
 mod two_states;
 
 pub use failure::Failure;
 pub use failures::build;
-pub use region_values::{clash_entity, lone_state, lost_entities, rival_entities, usual_entity};
+pub use region_values::{clash_entity, lost_entities, rival_entities, usual_entity};

@@ -9,9 +9,7 @@ mod free;
 mod fresh;
 mod rivals;
 mod shared;
-mod states;
 mod symbols;
 mod usual;
 
 pub use entities::{clash_entity, lost_entities, rival_entities, usual_entity};
-pub use states::lone_state;

@@ -1,20 +1,18 @@
--- The sets one after another: that none of them has a failing state.
+-- What is so one after another: of all items before one.
 use Rattle.std.proofs.Common.{◌≡◌, ◌<◌, ◌+◌, inl, inr, ℕ, subst, arith}
 use Rattle.std.proofs.lemmas.Bool.{cases_lt}
-use Rattle.round_trip.specs.Words.{SetId}
 
--- of the sets before this one it is so
-abbrev pub IsSoBefore : (SetId → Type 0) → ℕ → Type 0
-IsSoBefore IsSo i = (s : SetId) → s.index < i → IsSo s
+-- of those before this one it is so
+abbrev pub IsSoBefore : (ℕ → Type 0) → ℕ → Type 0
+IsSoBefore IsSo i = (n : ℕ) → n < i → IsSo n
 
-pub so_of_none : (IsSo : SetId → Type 0) → IsSoBefore IsSo 0
-so_of_none IsSo s before = absurd (omega arith)
+pub so_of_none : (IsSo : ℕ → Type 0) → IsSoBefore IsSo 0
+so_of_none IsSo n before = absurd (omega arith)
 
-pub so_of_one_more : (IsSo : SetId → Type 0) (i : ℕ) → IsSoBefore IsSo i → IsSo (record { index = i }) → IsSoBefore IsSo (i + 1)
-so_of_one_more IsSo i so is s before = elim (cases_lt s.index i) [
-  | inl earlier ↦ so s earlier
+pub so_of_one_more : (IsSo : ℕ → Type 0) (i : ℕ) → IsSoBefore IsSo i → IsSo i → IsSoBefore IsSo (i + 1)
+so_of_one_more IsSo i so is n before = elim (cases_lt n i) [
+  | inl earlier ↦ so n earlier
   | inr later ↦
-      let place : i ≡ s.index = omega arith in
-      let P : ℕ → Type 0 = λ n. IsSo (record { index = n }) in
-      subst P place is
+      let place : i ≡ n = omega arith in
+      subst IsSo place is
 ]
