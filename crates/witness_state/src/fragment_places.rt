@@ -1,4 +1,7 @@
-ghost use Rattle.std.specs.Prelude.{◌≡◌, IfOk};
+ghost use Rattle.std.specs.Prelude.{◌≡◌, IfOk, find};
+ghost use Rattle.std.specs.List.{list_any};
+ghost use Rattle.std.specs.Option.{option_copied};
+ghost use Rattle.std.specs.Str.{bytes_eq};
 ghost use Rattle.regions.specs.declared.pattern.Focus.TheVariants as focus;
 ghost use Rattle.region_states.specs.defaults.Defaults.{default_valuation};
 ghost use Rattle.region_states.specs.Entities.{focus_entity};
@@ -10,7 +13,7 @@ ghost use Rattle.witness_state.specs.FirstConflict.{IsFirstConflict};
 use crate::places::key_place;
 use crate::small_links::host_row_place;
 use cells::Parts;
-use edm_types::Entity;
+use edm_types::{Entity, LinkFragment, Mapping};
 use emc_base::{Memory, Place, Txt};
 use regions::Region;
 use std::alloc::Global;
@@ -29,12 +32,41 @@ pub fn fragment_place(
     requires usual { entity.now ≡ focus_entity (basis_of parts.now) region.now (default_valuation (basis_of parts.now) 0 region.now) }
     ensures { IfOk result (IsFragment (basis_of parts.now) (focus.Entity region.now) name.now) }
 {
-    if parts.mapping.fragments.as_slice().iter().any(|one| one.place == *name) {
+    if has_named(parts.mapping, name) {
         return key_place(alloc, parts.model, name, entity);
     }
-    let Some(fragment) = parts.mapping.links.as_slice().iter().find(|one| one.place == *name) else {
+    let Some(fragment) = named_links(parts.mapping, name) else {
         unreachable!()
     };
     let pattern = region_pattern(alloc, parts, region)?;
     host_row_place(alloc, parts, region, name, fragment, &pattern)
+}
+
+// Whether a fragment of entities has this name.
+fn has_named(mapping: &Mapping, name: &Txt) -> bool
+    ensures { result ≡ list_any (λ one. bytes_eq one.place name.now) mapping.now.fragments }
+{
+    mapping
+        .fragments
+        .as_slice()
+        .iter()
+        .any(|one| is_named(&one.place, name))
+}
+
+// The fragment of links that has this name.
+fn named_links<'m>(mapping: &'m Mapping, name: &Txt) -> Option<&'m LinkFragment>
+    ensures { option_copied result ≡ find (λ one. bytes_eq one.place name.now) mapping.now.links }
+{
+    mapping
+        .links
+        .as_slice()
+        .iter()
+        .find(|one| is_named(&one.place, name))
+}
+
+// Whether a place is this name.
+fn is_named(place: &Txt, name: &Txt) -> bool
+    ensures { result ≡ bytes_eq place.now name.now }
+{
+    place.as_str() == name.as_str()
 }
