@@ -7,8 +7,10 @@ mod failures;
 mod one_state;
 mod places;
 mod region_values;
+mod small_regions;
 mod two_states;
 
 pub use failure::Failure;
 pub use failures::build;
 pub use region_values::{clash_entity, lone_state, lost_entities, rival_entities, usual_entity};
+pub use small_regions::{leaving_states, pair_of_states, region_state};

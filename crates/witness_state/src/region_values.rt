@@ -13,5 +13,7 @@ mod states;
 mod symbols;
 mod usual;
 
+pub use declared::key_props;
 pub use entities::{clash_entity, lost_entities, rival_entities, usual_entity};
 pub use states::lone_state;
+pub use usual::default_part;
