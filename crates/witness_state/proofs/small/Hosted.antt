@@ -3,6 +3,7 @@ use Rattle.std.proofs.Common.{◌≡◌, ℕ, ◌+◌, ◌≤◌, List, [], ◌�
 use Rattle.std.specs.List.{cons_option, enumerate_from}
 use Rattle.std.proofs.lemmas.List.{map-append}
 use Rattle.std.proofs.lemmas.List.Elements.{filter-append}
+use Rattle.std.proofs.lemmas.List.Folds.{flat_map-map}
 use Rattle.emc_base.specs.Lists.{At}
 use Rattle.emc_base.proofs.Loops.{take-enumerated}
 use Rattle.emc_base.proofs.facts.Images.{one_more_gives}
@@ -11,7 +12,7 @@ use Rattle.table_owners.specs.declared.places.LinkPlace.{LinkPlace}
 use Rattle.table_owners.specs.declared.places.LinkPlace.TheVariants as place
 use Rattle.cells.specs.declared.parts.Parts.{Parts}
 use Rattle.regions.specs.declared.region.Region.{Region}
-use Rattle.regions.specs.Basis.{Host}
+use Rattle.regions.specs.Basis.{Basis, Host}
 use Rattle.regions.specs.Symbols.{is_linked}
 use Rattle.region_states.specs.region_basis.BasisOf.{basis_of, host_at, host_by, hosts_told}
 use Rattle.host_states.specs.FocusStates.{linked_hosts}
@@ -50,3 +51,9 @@ module _ (parts : Parts) (region : Region) where
   linked_here a assoc told end there is =
       ap (filter (λ (host : Host). is_linked (basis_of parts) region.linked host.assoc))
       (sym (ap (λ (o : Option LinkPlace). host_by region.set a assoc (unwrap_or o place.Unmapped)) there ∙ is a))
+
+-- what is made of them
+pub by_hosts : (basis : Basis) (region : Region) {X : Type 0} (make : Host → List X) (slice hosts : List Hosting) → slice ≡ hosts → map host_of hosts ≡ linked_hosts basis region
+    → flat_map (λ hosting. make (host_of hosting)) slice ≡ flat_map make (linked_hosts basis region)
+by_hosts basis region make slice hosts same are =
+    sym (flat_map-map make host_of slice) ∙ ap (λ list. flat_map make (map host_of list)) same ∙ ap (flat_map make) are

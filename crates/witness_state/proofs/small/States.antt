@@ -1,5 +1,5 @@
 -- What is made of entities of regions is a legal state with whole keys, and its small part is the one that is told.
-use Rattle.std.proofs.Common.{◌≡◌, ◌≤◌, List, [], ◌∷◌, ◌++◌, Contains, sym, ap, subst, ◌∙◌, arith}
+use Rattle.std.proofs.Common.{◌≡◌, ◌≤◌, List, [], ◌∷◌, ◌++◌, Contains, map, Result, Ok, Err, IfOk, sym, ap, subst, ◌∙◌, arith}
 use Rattle.round_trip.specs.Words.{SetId, EntityModel, Entity, State, key_of}
 use Rattle.cells.specs.declared.parts.Parts.{Parts}
 use Rattle.cells.specs.Parts.{AreParts}
@@ -20,7 +20,7 @@ use Rattle.population.specs.declared.placed.Supporting.{Supporting}
 use Rattle.supported_states.specs.Small.{IsSupported}
 use Rattle.host_states.specs.FocusStates.{given_by, linked_hosts, links_by, wanted_by, wanted_by_both}
 use Rattle.host_states.specs.Hosting.{HasOneEntityPerKey, HaveFewPartners}
-use Rattle.host_states.specs.SmallStates.{roots_of, small_focus, small_leaving, small_rivals}
+use Rattle.host_states.specs.SmallStates.{key_of_placed, roots_of, small_focus, small_leaving, small_rivals}
 use Rattle.host_states.proofs.Hosts.{states_leave}
 use Rattle.host_states.proofs.focus.Focus.{HasRegion, IsMade, numbers}
 use Rattle.host_states.proofs.focus.FocusLinks.{state_legal}
@@ -30,12 +30,20 @@ use Rattle.witness_state.specs.SmallRegions.{given_with, links_with, supporting}
 use Rattle.witness_state.proofs.small.Made.{given_is, links_are}
 use Rattle.witness_state.proofs.small.Whole.{support_whole}
 
+-- two facts on what came
+pub both_ok : {X Y : Type 0} (P Q R : X → Type 0) → ((x : X) → P x → Q x → R x) → (r : Result X Y) → IfOk r P → IfOk r Q → IfOk r R
+both_ok P Q R give (Ok x) p q = give x p q
+both_ok P Q R give (Err e) p q = tt
+
 -- what is added to nothing, and what is added to that
-pub added : {X Y : Type 0} (f : X → List Y) (before after : List Y) (x y : X) → before ≡ [] → after ≡ before ++ f x → x ≡ y → after ≡ f y
+added : {X Y : Type 0} (f : X → List Y) (before after : List Y) (x y : X) → before ≡ [] → after ≡ before ++ f x → x ≡ y → after ≡ f y
 added f before after x y none is same = is ∙ (λ i. none i ++ f (same i))
 
-pub added_more : {X Y : Type 0} (f : X → List Y) (before after first : List Y) (x y : X) → before ≡ first → after ≡ before ++ f x → x ≡ y → after ≡ first ++ f y
-added_more f before after first x y so_far is same = is ∙ (λ i. so_far i ++ f (same i))
+added_both : {X Y : Type 0} (f : X → List Y) (before so_far after : List Y) (x y u v : X) → before ≡ [] → so_far ≡ before ++ f x → after ≡ so_far ++ f u → x ≡ y → u ≡ v
+    → after ≡ f y ++ f v
+added_both f before so_far after x y u v none first second same also =
+    let one : so_far ≡ f y = added f before so_far x y none first same in
+    second ∙ (λ i. one i ++ f (also i))
 
 module _ (basis : Basis) (region : Region) (values : Valuation) where
   -- what the state with wanted keys is made of
@@ -78,6 +86,17 @@ module _ (parts : Parts) (are : AreParts parts) where
     pub focus_supported : IsSupported model 0 (made_by basis region values wanted_of)
     focus_supported = supported_by basis region values has.s wanted_of
         (focus_made basis 0 has.s region of_region values has.admissible wanted_of (focus_wants_short basis 0 has.s region of_region values has.admissible) (λ to there. there))
+
+    -- what is made of the entity, by what came of its given entities
+    module _ (slice given : List Placed) (same : slice ≡ given) (gives : given ≡ given_with basis region entity) (before : List PlacedKey) (none : before ≡ []) where
+      slice_is : slice ≡ given_by basis 0 (linked_hosts basis region) region values
+      slice_is = same ∙ gives ∙ given_is basis region entity values has
+
+      pub wanted_is : (wanted : List PlacedKey) → wanted ≡ before ++ wanted_by basis 0 slice → wanted ≡ wanted_of
+      wanted_is wanted is = added (wanted_by basis 0) before wanted slice (given_by basis 0 (linked_hosts basis region) region values) none is slice_is
+
+      pub roots_are : (roots : List PlacedKey) → roots ≡ before ++ map (key_of_placed basis 0) slice → roots ≡ roots_of basis 0 region values
+      roots_are roots is = added (map (key_of_placed basis 0)) before roots slice (given_by basis 0 (linked_hosts basis region) region values) none is slice_is
 
     pub focus_is : (one : Supporting) (roots : List PlacedKey) → one ≡ made_by basis region values wanted_of → roots ≡ roots_of basis 0 region values
         → part_of model (state_of model 0 one ∷ []) roots (state_of model 0 one) ≡ small_focus basis 0 region values
@@ -131,6 +150,24 @@ module _ (parts : Parts) (are : AreParts parts) where
     pub two_supported : IsSupported model 0 (made_by basis two others wanted_of_both)
     two_supported = supported_by basis two others s wanted_of_both
         (two_made basis 0 s one two of_one of_two pair.linked values others pair.one_has.admissible pair.two_has.admissible (pair.one_has.parts ∙ sym pair.two_has.parts) keys_are)
+
+    -- what is made of both entities, by what came of their given entities
+    module _ (slice given : List Placed) (same : slice ≡ given) (gives : given ≡ given_with basis one first) (other more : List Placed) (also : other ≡ more)
+        (gives_more : more ≡ given_with basis two second) (before : List PlacedKey) (none : before ≡ []) where
+      first_is : slice ≡ given_by basis 0 (linked_hosts basis one) one values
+      first_is = same ∙ gives ∙ given_is basis one first values pair.one_has
+
+      second_is : other ≡ given_by basis 0 (linked_hosts basis two) two others
+      second_is = also ∙ gives_more ∙ given_is basis two second others pair.two_has
+
+      pub both_wanted : (so_far wanted : List PlacedKey) → so_far ≡ before ++ wanted_by basis 0 slice → wanted ≡ so_far ++ wanted_by basis 0 other → wanted ≡ wanted_of_both
+      both_wanted so_far wanted is next = added_both (wanted_by basis 0) before so_far wanted slice (given_by basis 0 (linked_hosts basis one) one values)
+          other (given_by basis 0 (linked_hosts basis two) two others) none is next first_is second_is
+
+      pub both_roots : (so_far roots : List PlacedKey) → so_far ≡ before ++ map (key_of_placed basis 0) slice → roots ≡ so_far ++ map (key_of_placed basis 0) other
+          → roots ≡ roots_of basis 0 one values ++ roots_of basis 0 two others
+      both_roots so_far roots is next = added_both (map (key_of_placed basis 0)) before so_far roots slice (given_by basis 0 (linked_hosts basis one) one values)
+          other (given_by basis 0 (linked_hosts basis two) two others) none is next first_is second_is
 
     pub rivals_are : (near far : Supporting) (roots : List PlacedKey) → near ≡ made_by basis one values wanted_of_both → far ≡ made_by basis two others wanted_of_both
         → roots ≡ roots_of basis 0 one values ++ roots_of basis 0 two others

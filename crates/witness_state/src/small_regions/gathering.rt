@@ -22,7 +22,7 @@ pub struct Gathered {
 }
 
 /// The entity of a region with its partners, and its links to them. `Memory` comes where memory ran out.
-pub fn gathered(
+pub fn gather(
     alloc: Global,
     parts: &Parts<'_>,
     region: &Region,

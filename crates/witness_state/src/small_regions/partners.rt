@@ -20,11 +20,7 @@ use supported_states::plain_entity;
 
 /// The plain entity that is the partner by an association, with the usual key; none where there is no such association. `Memory` comes
 /// where memory ran out.
-pub fn partner_by(
-    alloc: Global,
-    parts: &Parts<'_>,
-    host: Hosting,
-) -> Result<Option<Placed>, Memory>
+pub fn partner_by(alloc: Global, parts: &Parts<'_>, host: Hosting) -> Result<Option<Placed>, Memory>
     ensures { IfOk result (λ found. cons_option found [] ≡ by_assoc (basis_of parts.now) (partner_of (basis_of parts.now) 0 (usual (basis_of parts.now))) (host_of host)) }
 {
     let Some(assoc) = parts.model.assocs.get(host.assoc.index as usize) else {
@@ -52,24 +48,13 @@ fn partner_of(
 }
 
 // The key that is told of a partner.
-fn told_key(
-    alloc: Global,
-    parts: &Parts<'_>,
-    host: Hosting,
-    assoc: &Assoc,
-) -> Result<Key, Memory>
+fn told_key(alloc: Global, parts: &Parts<'_>, host: Hosting, assoc: &Assoc) -> Result<Key, Memory>
     ensures { IfOk result (λ key. key ≡ told_key (basis_of parts.now) (usual (basis_of parts.now)) (host_of host) assoc.now) }
 {
     let end = partner_end(host.first_hosts, assoc);
     let mut key = Seq::empty(alloc);
     for property in key_props(parts.model, end.ty) {
-        key.push(default_part(
-            alloc,
-            parts,
-            host.assoc,
-            !host.first_hosts,
-            *property,
-        )?)?;
+        key.push(default_part(alloc, parts, host.assoc, !host.first_hosts, *property)?)?;
     }
     Ok(key)
 }

@@ -8,7 +8,7 @@ ghost use Rattle.witness_state.specs.Small.{ArePair, HasValues};
 ghost use Rattle.witness_state.specs.SmallRegions.{supporting};
 
 use crate::small_regions::asking::{Asked, ask};
-use crate::small_regions::gathering::{Gathered, gathered};
+use crate::small_regions::gathering::{Gathered, gather};
 use cells::Parts;
 use edm_types::{Entity, EntityModel};
 use emc_base::{Memory, Seq};
@@ -31,7 +31,7 @@ pub fn region_state(
     ensures { (values : Valuation) → HasValues (basis_of parts.now) region.now entity values
         → IfOk result (λ state. state ≡ small_focus (basis_of parts.now) 0 region.now values) }
 {
-    let made = gathered(alloc, parts, region, entity)?;
+    let made = gather(alloc, parts, region, entity)?;
     let mut asked = Asked::nothing(alloc);
     ask(alloc, parts.model, made.given.as_slice(), &mut asked)?;
     let one = with_support(alloc, parts.model, made, &asked.wanted)?;
@@ -55,8 +55,8 @@ pub fn pair_of_states(
         → IfOk result (λ both. (both.0 ≡ (small_rivals (basis_of parts.now) 0 one.now values two.now others).0)
         × (both.1 ≡ (small_rivals (basis_of parts.now) 0 one.now values two.now others).1)) }
 {
-    let made = gathered(alloc, parts, one, first)?;
-    let other = gathered(alloc, parts, two, second)?;
+    let made = gather(alloc, parts, one, first)?;
+    let other = gather(alloc, parts, two, second)?;
     let mut asked = Asked::nothing(alloc);
     ask(alloc, parts.model, made.given.as_slice(), &mut asked)?;
     ask(alloc, parts.model, other.given.as_slice(), &mut asked)?;
@@ -81,7 +81,7 @@ pub fn leaving_states(
         → IfOk result (λ both. (both.0 ≡ (small_leaving (basis_of parts.now) 0 region.now values).0)
         × (both.1 ≡ (small_leaving (basis_of parts.now) 0 region.now values).1)) }
 {
-    let made = gathered(alloc, parts, region, entity)?;
+    let made = gather(alloc, parts, region, entity)?;
     let mut asked = Asked::nothing(alloc);
     ask(alloc, parts.model, made.given.as_slice(), &mut asked)?;
     let with = with_support(alloc, parts.model, made, &asked.wanted)?;
