@@ -1,11 +1,10 @@
 -- What is made by the entity of a region alone is what its values tell.
-use Rattle.std.proofs.Common.{◌≡◌, Bool, List, ◌∷◌, flat_map, sym}
+use Rattle.std.proofs.Common.{◌≡◌, Bool, ◌∷◌, flat_map, sym}
 use Rattle.round_trip.specs.Words.{Assoc, AssocId, Entity, PropId, Value, key_of}
 use Rattle.regions.specs.declared.region.Region.{Region}
 use Rattle.regions.specs.Basis.{Basis, Host}
 use Rattle.regions.specs.Patterns.{Valuation}
 use Rattle.population.specs.Supported.{link_of}
-use Rattle.population.specs.declared.placed.Placed.{Placed}
 use Rattle.population.specs.declared.placed.PlacedLink.{PlacedLink}
 use Rattle.host_states.specs.FocusStates.{by_assoc, given_by, linked_hosts, links_by, partner_of, told_key}
 use Rattle.witness_state.specs.Small.{HasValues}

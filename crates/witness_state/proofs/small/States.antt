@@ -1,6 +1,6 @@
 -- What is made of entities of regions is a legal state with whole keys, and its small part is the one that is told.
-use Rattle.std.proofs.Common.{◌≡◌, ◌≤◌, List, [], ◌∷◌, ◌++◌, Contains, map, Result, Ok, Err, IfOk, sym, ap, subst, ◌∙◌, arith}
-use Rattle.round_trip.specs.Words.{SetId, EntityModel, Entity, State, key_of}
+use Rattle.std.proofs.Common.{◌≡◌, List, [], ◌∷◌, ◌++◌, Contains, map, Result, Ok, Err, IfOk, sym, ap, subst, ◌∙◌, arith}
+use Rattle.round_trip.specs.Words.{SetId, EntityModel, Entity, key_of}
 use Rattle.cells.specs.declared.parts.Parts.{Parts}
 use Rattle.cells.specs.Parts.{AreParts}
 use Rattle.regions.specs.declared.region.Region.{Region}

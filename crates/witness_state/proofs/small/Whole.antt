@@ -1,7 +1,7 @@
 -- Each key of a support has a part for each property of its set's key.
-use Rattle.std.proofs.Common.{◌≡◌, ℕ, List, length, Contains}
+use Rattle.std.proofs.Common.{ℕ, List, Contains}
 use Rattle.std.proofs.lemmas.Slice.Zip.{AllZip-long}
-use Rattle.round_trip.specs.Words.{SetId, Value, EntityModel}
+use Rattle.round_trip.specs.Words.{EntityModel}
 use Rattle.round_trip.specs.soundness.Lookups.{set_key}
 use Rattle.population.specs.Given.{HasNumbers, HasShortParts, IsShortFor}
 use Rattle.population.specs.Made.{AreWhole}

@@ -1,8 +1,8 @@
-use Rattle.std.proofs.Common.{◌≡◌, ◌∷◌, List, flat_map, map, ap, ◌∙◌}
+use Rattle.std.proofs.Common.{◌∷◌, ap, ◌∙◌}
 use Rattle.round_trip.specs.Words.{key_of}
 use Rattle.host_states.specs.FocusStates.{by_assoc, partner_of}
 use Rattle.region_states.specs.region_basis.BasisOf.{basis_of}
-use Rattle.witness_state.specs.SmallRegions.{host_of, link_with, usual}
+use Rattle.witness_state.specs.SmallRegions.{link_with, usual}
 use Rattle.witness_state.proofs.small.Hosted.{by_hosts}
 use Rattle.witness_state.proofs.small_regions.gathering.gather.Goals as goal
 

@@ -1,4 +1,4 @@
-use Rattle.std.proofs.Common.{◌≡◌, List, ◌∷◌, subst, sym, ◌∙◌}
+use Rattle.std.proofs.Common.{subst, sym, ◌∙◌}
 use Rattle.supported_states.specs.Small.{IsSupported}
 use Rattle.region_states.specs.region_basis.BasisOf.{basis_of}
 use Rattle.witness_state.proofs.small.States.{both_ok, focus_supported, leaving_is, left_is, left_supported, made_is, roots_are, wanted_is, wanted_of}
