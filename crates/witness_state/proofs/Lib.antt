@@ -1,3 +1,4 @@
 pub mod Pairing
 pub mod Written
 pub mod told
+pub mod small

@@ -16,3 +16,4 @@ mod two_states;
 pub use failure::Failure;
 pub use failures::build;
 pub use region_values::{clash_entity, lost_entities, rival_entities, usual_entity};
+pub use small_regions::{leaving_states, pair_of_states, region_state};

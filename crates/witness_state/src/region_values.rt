@@ -12,4 +12,6 @@ mod shared;
 mod symbols;
 mod usual;
 
+pub use declared::key_props;
 pub use entities::{clash_entity, lost_entities, rival_entities, usual_entity};
+pub use usual::default_part;

@@ -1,0 +1,4 @@
+pub mod Hosted
+pub mod Whole
+pub mod Made
+pub mod States
