@@ -5,3 +5,4 @@ pub mod Shown
 pub mod Cells
 pub mod Disagreements
 pub mod TwoStates
+pub mod links_small

@@ -4,3 +4,4 @@ pub mod CellPlaces
 pub mod Shown
 pub mod Small
 pub mod region_values
+pub mod SmallLinks

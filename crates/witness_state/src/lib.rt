@@ -7,8 +7,12 @@ mod failures;
 mod one_state;
 mod places;
 mod region_values;
+mod small_links;
 mod two_states;
 
 pub use failure::Failure;
 pub use failures::build;
 pub use region_values::{clash_entity, lone_state, lost_entities, rival_entities, usual_entity};
+pub use small_links::{
+    link_keys_place, link_state, pair_of_link_states, shared_state, unmapped_place,
+};
