@@ -1,1 +1,4 @@
 pub mod Supported
+pub mod Written
+pub mod HostRows
+pub mod Shared

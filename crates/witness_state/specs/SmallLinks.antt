@@ -1,7 +1,10 @@
 -- What states with links of an association are made of.
 -- Source: this project's choice of the states that it shows.
-use Rattle.std.specs.Prelude.{List, [], ◌∷◌, map, flat_map, Bool, not}
-use Rattle.round_trip.specs.Words.{AssocId, Assoc, EntityModel}
+use Rattle.std.specs.Prelude.{◌≡◌, ◌==◌, List, [], ◌∷◌, map, flat_map, find, Contains, Bool, not}
+use Rattle.std.specs.Option.{option_map_or}
+use Rattle.round_trip.specs.Words.{AssocId, Assoc, EntityModel, Null, Pair, PropId, Row, TableId, TypeId, Value, cell_of, key_props}
+use Rattle.regions.specs.declared.pattern.Pattern.{Pattern}
+use Rattle.regions.specs.declared.pattern.PatternRow.{PatternRow}
 use Rattle.population.specs.LinkStates.{PlainEnd, at_first, at_second, entity_at, key_at, of_assoc, other_at, other_link, placed_at, plain_link}
 use Rattle.population.specs.Principals.{principals}
 use Rattle.population.specs.Support.{support}
@@ -44,3 +47,16 @@ module _ (model : EntityModel) where
   abbrev pub shared : AssocId → Assoc → Bool → Supporting
   shared a assoc first =
       supporting (three_ends first assoc) (of_assoc model 0 a (plain_link model 0 assoc) ∷ (of_assoc model 0 a (other_link model 0 first assoc) ∷ []))
+
+-- the pattern has this row of the table
+pub record IsRowAt (pattern : Pattern) (t : TableId) (row : PatternRow) : Type 0 where
+  pub among : Contains pattern.rows row
+  pub of_table : row.table ≡ t
+
+-- the cell of a row where the first of these pairs writes the property; null where none does
+abbrev pub part_in_row : Row → List Pair → PropId → Value
+part_in_row row pairs p = option_map_or (λ pair. cell_of row pair.col) (find (λ pair. pair.prop.index == p.index) pairs) Null
+
+-- the key of a type as the cells hold it
+abbrev pub end_in_row : EntityModel → Row → TypeId → List Pair → List Value
+end_in_row model row ty pairs = map (part_in_row row pairs) (key_props model ty)

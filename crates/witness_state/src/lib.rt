@@ -14,5 +14,6 @@ pub use failure::Failure;
 pub use failures::build;
 pub use region_values::{clash_entity, lone_state, lost_entities, rival_entities, usual_entity};
 pub use small_links::{
-    link_keys_place, link_state, pair_of_link_states, shared_state, unmapped_place,
+    host_row_place, link_cell_place, link_keys_place, link_state, pair_of_link_states,
+    shared_cell_place, shared_state, unmapped_place,
 };

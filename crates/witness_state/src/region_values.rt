@@ -15,3 +15,4 @@ mod usual;
 
 pub use entities::{clash_entity, lost_entities, rival_entities, usual_entity};
 pub use states::lone_state;
+pub(crate) use symbols::value_under;

@@ -1,10 +1,10 @@
 ghost use Rattle.std.specs.Prelude.{◌≡◌, ◌∷◌, [], IfOk, not};
 ghost use Rattle.edm_types.specs.declared.model.Mult.TheVariants.{Many};
-ghost use Rattle.failure_laws.specs.SmallLinks.{both_ends, roots_at, small_link, small_pair, small_shared};
+ghost use Rattle.failure_laws.specs.SmallLinks.{roots_at, small_link, small_pair, small_shared};
 ghost use Rattle.population.specs.LinkStates.{of_assoc, other_link, plain_link};
 ghost use Rattle.population.specs.Numbered.{end_of};
 ghost use Rattle.witness_state.specs.Small.{IsLinkable};
-ghost use Rattle.witness_state.specs.SmallLinks.{linked, shared, three_ends, unlinked};
+ghost use Rattle.witness_state.specs.SmallLinks.{linked, shared, three_ends, two_ends, unlinked};
 
 use crate::small_links::ends::{at_first, at_second, other_at, other_link, plain_link};
 use crate::small_links::supporting::{roots_at, supporting};
@@ -158,7 +158,7 @@ fn both_roots(
     model: &EntityModel,
     declared: &Assoc,
 ) -> Result<Seq<PlacedKey>, Memory>
-    ensures { (assoc : AssocId) → IfOk result (λ roots. roots ≡ roots_at model.now 0 (both_ends model.now 0 assoc declared.now)) }
+    ensures { IfOk result (λ roots. roots ≡ roots_at model.now 0 (two_ends model.now declared.now)) }
 {
     roots_at(alloc, model, &[at_first(declared), at_second(declared)])
 }
