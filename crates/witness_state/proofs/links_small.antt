@@ -2,3 +2,4 @@ pub mod Supported
 pub mod Written
 pub mod HostRows
 pub mod Shared
+pub mod States

@@ -1,8 +1,9 @@
-use Rattle.std.proofs.Common.{[], ◌∷◌, sym, subst, ◌∙◌}
+use Rattle.std.proofs.Common.{◌≡◌, sym, subst, ◌∙◌}
 use Rattle.std.proofs.lemmas.Result.{IfOk-weaker}
-use Rattle.population.specs.Kept.{part_of}
-use Rattle.population.specs.Made.{state_of}
+use Rattle.failure_laws.specs.SmallLinks.{small_link}
+use Rattle.round_trip.specs.Words.{State}
 use Rattle.supported_states.specs.Small.{IsSupported}
+use Rattle.witness_state.proofs.links_small.States.{link_is, part}
 use Rattle.witness_state.proofs.links_small.Supported.{linked_supported}
 use Rattle.witness_state.proofs.small_links.states.link_state.Goals as goal
 
@@ -13,5 +14,6 @@ small_state-requires c =
 pub returns : goal.returns
 returns c =
     let model = c.args.model.now in
-    IfOk-weaker c.small_state.result _ _
-    (λ state is. is ∙ (λ k. part_of model (state_of model 0 (c.in_ok-one.ensures k) ∷ []) (c.in_ok-roots.ensures k) (state_of model 0 (c.in_ok-one.ensures k)))) c.small_state.ensures
+    let roots = c.in_ok-roots.roots in
+    IfOk-weaker c.small_state.result (λ (state : State). state ≡ part model roots c.in_ok-one.one) (λ (state : State). state ≡ small_link model 0 c.args.assoc c.args.declared.now)
+    (λ state is. is ∙ link_is model c.args.assoc c.args.declared.now roots c.in_ok-roots.ensures c.in_ok-one.one c.in_ok-one.ensures) c.small_state.ensures
