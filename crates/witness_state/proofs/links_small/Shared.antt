@@ -104,8 +104,11 @@ module _ (parts : Parts) (are : AreParts parts) (a : AssocId) (first_hosts : Boo
       is_host : IsHostOf schema s host
       is_host = record { assoc = assoc; fragment = fragment; is_assoc = here; is_fragment = mapped; of_assoc = of_assoc; hosted = hosted; at_set = refl }
 
+      pub hosts_there : Contains (basis.hosts s) host
+      hosts_there = ((basis_is parts are).hosts s host).1 is_host
+
       abbrev pub at_host : HostedAssoc basis s
-      at_host = record { host = host; hosts = ((basis_is parts are).hosts s host).1 is_host; assoc = assoc; is_assoc = here }
+      at_host = record { host = host; hosts = hosts_there; assoc = assoc; is_assoc = here }
 
       owns_by : (first : Bool) → IsHostedAt schema fragment.table (near_pairs first fragment) → Owns schema fragment.table (host_end first assoc).set (near_pairs first fragment)
       owns_by true at = inr (fragment, assoc, record { is_fragment = mapped; is_assoc = of_fragment; to_table = refl }, inl (at, refl, refl))
