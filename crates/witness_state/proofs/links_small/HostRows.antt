@@ -13,7 +13,6 @@ use Rattle.schema_laws.proofs.state_demand.lists.Places.{map_agree}
 use Rattle.regions.proofs.region_laws.pattern.Choices.{found_passes, none_passes}
 use Rattle.regions.specs.declared.pattern.Pattern.{Pattern}
 use Rattle.regions.specs.declared.pattern.PatternRow.{PatternRow}
-use Rattle.regions.specs.declared.pattern.Symbol.{Symbol}
 use Rattle.regions.specs.Patterns.{Valuation}
 use Rattle.regions.specs.region_laws.pattern.Described.{row_for, value_in}
 use Rattle.region_states.specs.focus.Held.{HasRow}

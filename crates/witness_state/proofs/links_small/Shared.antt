@@ -1,16 +1,16 @@
 -- The cell of a second partner in the row of the entity that has two.
-use Rattle.std.proofs.Common.{◌≡◌, ◌≢◌, ◌<◌, inl, inr, ⊎_elim, List, [], ◌∷◌, ◌++◌, map, length, All, Contains, Bool, true, false, not, if◌then◌else◌, refl, sym, ap, subst, ◌∙◌, arith}
+use Rattle.std.proofs.Common.{◌≡◌, ◌<◌, inl, inr, ⊎_elim, List, [], ◌∷◌, ◌++◌, map, length, All, Contains, Bool, true, false, not, if◌then◌else◌, refl, sym, ap, subst, ◌∙◌, arith}
 use Rattle.std.specs.List.{AllZip}
 use Rattle.std.proofs.lemmas.List.Elements.{All-contains, Contains-append_left, Contains-append_right}
 use Rattle.std.proofs.lemmas.Option.{slice_get_within}
 use mathlib.Core.List.{map-map}
-use Rattle.emc_base.proofs.Lists.{all_from_members, at_once, item_at}
+use Rattle.emc_base.proofs.Lists.{all_from_members, at_once}
 use Rattle.emc_base.proofs.Mapped.{contains_at}
 use Rattle.emc_base.proofs.Members.{contains_nil}
 use Rattle.emc_base.proofs.Numbered.{map_contains}
-use Rattle.round_trip.specs.Words.{Assoc, AssocId, At, ColId, Column, End, Entity, EntityModel, LinkFragId, LinkFragment, Pair, PropId, Schema, SetId, Table, TableId, key_props, value_of, values_of}
-use Rattle.round_trip.specs.FailsAt.{HasColumn, IsHostedAt}
-use Rattle.round_trip.specs.soundness.Lookups.{columns_of, set_key}
+use Rattle.round_trip.specs.Words.{Assoc, AssocId, At, Column, End, Entity, EntityModel, LinkFragId, LinkFragment, Pair, PropId, Schema, SetId, Table, key_props, value_of, values_of}
+use Rattle.round_trip.specs.FailsAt.{IsHostedAt}
+use Rattle.round_trip.specs.soundness.Lookups.{set_key}
 use Rattle.round_trip.specs.soundness.mappings.Fragments.{WritesEndKey}
 use Rattle.round_trip.specs.soundness.mappings.Mappings.{HasPairIds}
 use Rattle.round_trip.specs.soundness.mappings.Owners.{Owns}
@@ -27,7 +27,7 @@ use Rattle.schema_laws.proofs.sound_demand.owners.Owned.{owned}
 use Rattle.schema_laws.proofs.sound_demand.owners.Pairing as pairing_of
 use Rattle.schema_laws.proofs.state_demand.owners.Told.{told_props}
 use Rattle.regions.specs.Basis.{Basis, Host, HostedAssoc, host_end}
-use Rattle.regions.specs.region_laws.IsBasis.{IsBasis, IsHostOf}
+use Rattle.regions.specs.region_laws.IsBasis.{IsHostOf}
 use Rattle.region_states.specs.region_basis.BasisOf.{basis_of}
 use Rattle.region_states.proofs.region_basis.Bases.{basis_is}
 use Rattle.population.specs.Numbered.{end_of}

@@ -5,7 +5,7 @@ use Rattle.emc_base.proofs.Members.{contains_cons_cases, contains_nil}
 use Rattle.edm_types.specs.declared.model.Mult.TheVariants.{Many}
 use Rattle.round_trip.specs.Words.{AssocId, Assoc, EntityModel}
 use Rattle.round_trip.specs.soundness.models.Constraints.{IsSoundEnd}
-use Rattle.population.specs.LinkStates.{PlainEnd, at_first, at_second, other_at, placed_at}
+use Rattle.population.specs.LinkStates.{PlainEnd, at_first, at_second, other_at}
 use Rattle.population.specs.Made.{AreWhole}
 use Rattle.population.specs.Numbered.{end_of}
 use Rattle.population.proofs.made.Picked.{whole_keys}

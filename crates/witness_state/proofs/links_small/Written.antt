@@ -1,13 +1,12 @@
 -- What a link writes to a column, and which fragment writes an association's own table.
-use Rattle.std.proofs.Common.{◌≡◌, ◌==◌, List, [], ◌∷◌, ◌++◌, map, find, Contains, Option, Some, None, Bool, true, false, if◌then◌else◌, refl, sym, ap, ◌∙◌}
+use Rattle.std.proofs.Common.{◌≡◌, ◌==◌, List, [], ◌∷◌, ◌++◌, map, find, Option, Some, None, Bool, true, false, if◌then◌else◌, refl, sym, ap, ◌∙◌}
 use Rattle.std.specs.Option.{option_map_or}
 use Rattle.std.proofs.lemmas.Bool.Decides.{Decides-eqb}
 use Rattle.std.proofs.lemmas.List.Elements.{All-contains}
-use Rattle.round_trip.specs.Words.{ColId, Value, Null, Assoc, EntityModel, Link, LinkFragment, Pair, TableId, key_props, link_cells, value_beside, written_to}
+use Rattle.round_trip.specs.Words.{AssocId, ColId, Value, Null, Assoc, EntityModel, Link, LinkFragment, Pair, TableId, key_props, link_cells, value_beside, written_to}
 use Rattle.regions.proofs.region_laws.pattern.Choices.{found_passes, none_passes}
 use Rattle.regions.specs.Basis.{Basis}
 use Rattle.region_states.specs.conflicts.Conflicts.{IsTableOf}
-use Rattle.round_trip.specs.Words.{AssocId}
 
 module _ (value : Pair → Value) (col : ColId) where
   abbrev test : Pair → Bool

@@ -80,9 +80,7 @@ fn part_in_row(
 fn pair_of(pairs: &[Pair], property: PropId) -> Option<&Pair>
     ensures { option_copied result ≡ find (λ pair. pair.prop.index == property.index) pairs.now }
 {
-    pairs
-        .iter()
-        .find(|pair| pair.prop.index == property.index)
+    pairs.iter().find(|pair| pair.prop.index == property.index)
 }
 
 // What the row's cell holds.

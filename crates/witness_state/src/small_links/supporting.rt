@@ -26,11 +26,7 @@ pub(crate) fn supporting(
 }
 
 // The plain entities at these ends.
-fn given_at(
-    alloc: Global,
-    model: &EntityModel,
-    ends: &[EndAt<'_>],
-) -> Result<Seq<Placed>, Memory>
+fn given_at(alloc: Global, model: &EntityModel, ends: &[EndAt<'_>]) -> Result<Seq<Placed>, Memory>
     ensures { IfOk result (λ given. given ≡ map (λ one. placed_at model.now 0 (plain_end one)) ends.now) }
 {
     let mut given = Seq::empty(alloc);
@@ -41,11 +37,7 @@ fn given_at(
 }
 
 // The principals that these entities ask for.
-fn wanted_by(
-    alloc: Global,
-    model: &EntityModel,
-    given: &[Placed],
-) -> Result<Seq<PlacedKey>, Memory>
+fn wanted_by(alloc: Global, model: &EntityModel, given: &[Placed]) -> Result<Seq<PlacedKey>, Memory>
     ensures { IfOk result (λ keys. keys ≡ flat_map (λ placed. principals model.now placed.set placed.entity) given.now) }
 {
     let mut wanted = Seq::empty(alloc);

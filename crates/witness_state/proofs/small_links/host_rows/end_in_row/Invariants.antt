@@ -1,5 +1,4 @@
 use Rattle.std.proofs.Common.{◌≡◌, map, take}
-use Rattle.cells.specs.declared.parts.Parts.{Parts}
 use Rattle.region_states.specs.defaults.Defaults.{default_valuation}
 use Rattle.region_states.specs.region_basis.BasisOf.{basis_of}
 use Rattle.regions.specs.region_laws.pattern.Described.{row_for}

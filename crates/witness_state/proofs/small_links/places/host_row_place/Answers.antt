@@ -1,4 +1,4 @@
-use Rattle.std.proofs.Common.{◌≡◌, ◌++◌, inr, Contains, sym, ap, subst, ◌∙◌}
+use Rattle.std.proofs.Common.{◌++◌, inr, Contains, sym, ap, subst, ◌∙◌}
 use Rattle.std.proofs.lemmas.Option.{slice_get_within}
 use Rattle.round_trip.proofs.Lookups.{assoc_of}
 use Rattle.cells.specs.Parts.{schema_in}

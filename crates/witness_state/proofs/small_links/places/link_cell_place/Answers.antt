@@ -1,8 +1,8 @@
-use Rattle.std.proofs.Common.{◌≡◌, ◌<◌, [], List, map, length, Option, sym, ap, subst, ◌∙◌}
+use Rattle.std.proofs.Common.{◌≡◌, ◌<◌, [], map, length, Option, sym, ap, subst, ◌∙◌}
 use Rattle.std.specs.Option.{option_map_or}
 use Rattle.std.proofs.lemmas.Option.{slice_get_within}
 use Rattle.emc_base.proofs.Lists.{at_once}
-use Rattle.round_trip.specs.Words.{Assoc, AssocId, At, ColId, Table, key_columns, link_cells, written_to}
+use Rattle.round_trip.specs.Words.{AssocId, At, Table, key_columns, link_cells, written_to}
 use Rattle.cells.specs.Parts.{schema_in}
 use Rattle.population.specs.LinkStates.{plain_link}
 use Rattle.witness_state.proofs.small_links.places.link_cell_place.Goals as goal

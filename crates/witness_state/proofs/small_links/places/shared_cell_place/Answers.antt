@@ -1,4 +1,4 @@
-use Rattle.std.proofs.Common.{◌≡◌, ◌<◌, refl, sym, ap, subst, ◌∙◌}
+use Rattle.std.proofs.Common.{◌<◌, refl, sym, ap, subst, ◌∙◌}
 use Rattle.round_trip.specs.Words.{values_of}
 use Rattle.cells.specs.Parts.{schema_in}
 use Rattle.population.specs.LinkStates.{at_end, entity_at}
