@@ -2,3 +2,4 @@ pub mod Pairing
 pub mod Written
 pub mod told
 pub mod small
+pub mod links_small

@@ -5,3 +5,4 @@ pub mod Shown
 pub mod Small
 pub mod SmallRegions
 pub mod region_values
+pub mod SmallLinks

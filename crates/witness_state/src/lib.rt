@@ -16,4 +16,8 @@ mod two_states;
 pub use failure::Failure;
 pub use failures::build;
 pub use region_values::{clash_entity, lost_entities, rival_entities, usual_entity};
+pub use small_links::{
+    host_row_place, link_cell_place, link_keys_place, link_state, pair_of_link_states,
+    shared_cell_place, shared_state, unmapped_place,
+};
 pub use small_regions::{leaving_states, pair_of_states, region_state};

@@ -14,4 +14,5 @@ mod usual;
 
 pub use declared::key_props;
 pub use entities::{clash_entity, lost_entities, rival_entities, usual_entity};
+pub(crate) use symbols::value_under;
 pub use usual::default_part;

@@ -1,0 +1,10 @@
+use Rattle.std.proofs.Common.{ap, ◌∙◌}
+use Rattle.population.specs.LinkStates.{key_at}
+use Rattle.witness_state.proofs.small_links.ends.plain_link.Goals as goal
+
+pub returns : goal.returns
+returns c =
+    let model = c.args.model.now in
+    let first = c.in_ok-key_at.ensures ∙ ap (key_at model 0) (c.at_first.ensures model) in
+    let second = c.in_ok-key_at-2.ensures ∙ ap (key_at model 0) (c.at_second.ensures model) in
+    λ k. record { first = first k; second = second k }
