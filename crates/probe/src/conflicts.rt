@@ -1,5 +1,5 @@
-ghost use Rattle.std.specs.Prelude.{◌≡◌, ◌≢◌};
-ghost use Rattle.cells.specs.Parts.{AreParts};
+ghost use Rattle.std.specs.Prelude.{◌≡◌, ◌≢◌, ◌<◌, length};
+ghost use Rattle.cells.specs.Parts.{AreParts, schema_in};
 ghost use Rattle.region_states.specs.region_basis.BasisOf.{basis_of};
 ghost use Rattle.regions.specs.Regions.{regions_of};
 ghost use Rattle.round_trip.specs.declared.FailKind.TheVariants as fails;
@@ -9,15 +9,16 @@ mod all_pairs;
 use crate::region_counts::MOST_REGIONS;
 use all_pairs::has_same_tables;
 use cells::Parts;
-use containment::first_conflict;
-use emc_base::{Seq, SetId};
+use containment::{first_conflict, first_link_conflict};
+use emc_base::{AssocId, Seq, SetId};
 use region_partition::regions;
 use region_states::Conflict;
 use regions::Region;
 use round_trip::FailKind;
 use std::alloc::Global;
 
-/// Puts a line for each set, with the conflict of each kind at its regions, and whether all pairs of regions tell that two states have the same tables.
+/// Puts a line for each set, with the conflict of each kind at its regions, and whether all pairs of regions tell that two states have the same tables; and
+/// a line for each association, with the conflict of each kind at its links.
 pub fn put_conflicts(alloc: Global, text: &mut String, parts: &Parts<'_>) -> Option<()>
     requires { AreParts parts.now }
 {
@@ -31,7 +32,43 @@ pub fn put_conflicts(alloc: Global, text: &mut String, parts: &Parts<'_>) -> Opt
         put?;
         text.push_str("\n").ok()?;
     }
+    for place in 0..parts.model.assocs.len() {
+        let assoc = AssocId {
+            index: place as u32,
+        };
+        put_links(alloc, text, parts, assoc)?;
+    }
     Some(())
+}
+
+// Puts a line with the conflict of each kind at the links of an association.
+fn put_links(alloc: Global, text: &mut String, parts: &Parts<'_>, assoc: AssocId) -> Option<()>
+    requires parts { AreParts parts.now }
+    requires assoc { assoc.index < length (schema_in parts.now).model.assocs }
+{
+    put_link_conflict(alloc, text, parts, FailKind::Clash, assoc)?;
+    put_link_conflict(alloc, text, parts, FailKind::Null, assoc)?;
+    put_link_conflict(alloc, text, parts, FailKind::Disagrees, assoc)?;
+    put_link_conflict(alloc, text, parts, FailKind::Same, assoc)?;
+    text.push_str("\n").ok()
+}
+
+// Puts the conflict of a kind.
+fn put_link_conflict(
+    alloc: Global,
+    text: &mut String,
+    parts: &Parts<'_>,
+    kind: FailKind,
+    assoc: AssocId,
+) -> Option<()>
+    requires parts { AreParts parts.now }
+    requires kind { kind ≢ fails.Dangling }
+    requires assoc { assoc.index < length (schema_in parts.now).model.assocs }
+{
+    let found = first_link_conflict(alloc, parts, kind, assoc).ok()?;
+    let word = word_of(&found);
+    drop(found);
+    text.push_str(word).ok()
 }
 
 // Puts the conflict of each kind at the regions of a set, and what all pairs of these tell.
