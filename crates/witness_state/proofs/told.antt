@@ -2,3 +2,8 @@ pub mod Listed
 pub mod Values
 pub mod Pairs
 pub mod Becomes
+pub mod Cells
+pub mod Links
+pub mod Fragments
+pub mod Same
+pub mod Many

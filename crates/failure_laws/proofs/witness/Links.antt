@@ -102,7 +102,7 @@ module _ (basis : Basis) (is : IsBasis basis) (limits : IsWithinLimits basis.sch
         (λ one. Decides-and (one.assoc.index == a.index) one.first_hosts (Decides-assoc one.assoc a) ((λ so. so), λ so. so)) (basis.hosts at.assoc.first.set)
 
     -- whether its first end hosts is told by the set of this
-    first_is : hosts_first basis a at.assoc ≡ host.first_hosts
+    pub first_is : hosts_first basis a at.assoc ≡ host.first_hosts
     first_is = by host.first_hosts refl (at_set basis is s host at.hosts at.assoc at.is_assoc)
       where
         by : (first : Bool) → host.first_hosts ≡ first → (host_end first at.assoc).set ≡ s → hosts_first basis a at.assoc ≡ first

@@ -14,7 +14,7 @@ use Rattle.population.proofs.plain.Pairs.{pairs_three, pairs_two}
 use Rattle.population.proofs.supporting.Ends.{are_keys}
 use Rattle.population.proofs.supporting.LinkStates.{link_holds, links_differ, two_hold}
 use Rattle.population.specs.declared.placed.PlacedLink.{PlacedLink}
-use Rattle.supported_states.specs.Small.{IsSupported}
+use Rattle.supported_states.specs.small_parts.Small.{IsSupported}
 use Rattle.witness_state.specs.Small.{IsLinkable}
 use Rattle.witness_state.specs.SmallLinks.{linked, shared, supporting, three_ends, two_ends, unlinked}
 

@@ -17,7 +17,7 @@ use Rattle.population.specs.declared.placed.Placed.{Placed}
 use Rattle.population.specs.declared.placed.PlacedKey.{PlacedKey}
 use Rattle.population.specs.declared.placed.PlacedLink.{PlacedLink}
 use Rattle.population.specs.declared.placed.Supporting.{Supporting}
-use Rattle.supported_states.specs.Small.{IsSupported}
+use Rattle.supported_states.specs.small_parts.Small.{IsSupported}
 use Rattle.host_states.specs.FocusStates.{given_by, linked_hosts, links_by, wanted_by, wanted_by_both}
 use Rattle.host_states.specs.Hosting.{HasOneEntityPerKey, HaveFewPartners}
 use Rattle.host_states.specs.SmallStates.{key_of_placed, roots_of, small_focus, small_leaving, small_rivals}

@@ -37,9 +37,12 @@ two_by : (make : PropId → State × State) (both : State × State) (found : Opt
 two_by make both None = refl
 two_by make both (Some p) = refl
 
+none_given : IsSome {T = State} None → ⊥
+none_given some = let never = some in (let no : ⊥ = cc in no)
+
 -- where no other state is given, the kind isn't that of same tables
 no_other : (other : Option State) (how : FailKind) → other ≡ None → how ≢ kind.Same → IsSome other ↔ (how ≡ kind.Same)
-no_other other how none not_same = (λ some. absurd (let never : IsSome {State} None = subst (λ found. IsSome found) none some in cc), λ same. absurd (not_same same))
+no_other other how none not_same = (λ some. absurd (none_given (subst (λ (found : Option State). IsSome found) none some)), λ same. absurd (not_same same))
 
 module _ (basis : Basis) where
   of_focus_alone : (of : Focus) (values : Region → Valuation) → (of_focus basis of values).1 ≡ None

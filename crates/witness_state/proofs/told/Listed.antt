@@ -21,4 +21,4 @@ module _ (basis : Basis) where
   -- a link is that of an association with a table of its own
   pub link_joined : (a : AssocId) → IsOfOne (focus.Link a) → (t : TableId) × IsTableOf basis a t
   link_joined a (inl (s, never)) = absurd never
-  link_joined a (inr (b, is, t, of_table)) = (t, subst (λ c. IsTableOf basis c t) (sym is) of_table)
+  link_joined a (inr (b, (is, t, of_table))) = (t, subst (λ c. IsTableOf basis c t) (sym is) of_table)

@@ -2,7 +2,7 @@ use Rattle.std.proofs.Common.{◌≡◌, sym, subst, ◌∙◌}
 use Rattle.std.proofs.lemmas.Result.{IfOk-weaker}
 use Rattle.failure_laws.specs.SmallLinks.{small_pair}
 use Rattle.round_trip.specs.Words.{State}
-use Rattle.supported_states.specs.Small.{IsSupported}
+use Rattle.supported_states.specs.small_parts.Small.{IsSupported}
 use Rattle.witness_state.proofs.links_small.States.{one_is, part_beside, two_is}
 use Rattle.witness_state.proofs.links_small.Supported.{linked_supported, unlinked_supported}
 use Rattle.witness_state.proofs.small_links.states.pair_of_link_states.Goals as goal

@@ -2,7 +2,7 @@ use Rattle.std.proofs.Common.{◌≡◌, sym, subst, ◌∙◌}
 use Rattle.std.proofs.lemmas.Result.{IfOk-weaker}
 use Rattle.failure_laws.specs.SmallLinks.{small_shared}
 use Rattle.round_trip.specs.Words.{State}
-use Rattle.supported_states.specs.Small.{IsSupported}
+use Rattle.supported_states.specs.small_parts.Small.{IsSupported}
 use Rattle.witness_state.proofs.links_small.States.{part, shared_is}
 use Rattle.witness_state.proofs.links_small.Supported.{shared_supported}
 use Rattle.witness_state.proofs.small_links.states.shared_state.Goals as goal

@@ -1,5 +1,5 @@
 use Rattle.std.proofs.Common.{subst, sym, ◌∙◌}
-use Rattle.supported_states.specs.Small.{IsSupported}
+use Rattle.supported_states.specs.small_parts.Small.{IsSupported}
 use Rattle.region_states.specs.region_basis.BasisOf.{basis_of}
 use Rattle.witness_state.proofs.small.States.{both_ok, focus_supported, leaving_is, left_is, left_supported, made_is, roots_are, wanted_is, wanted_of}
 use Rattle.witness_state.proofs.small_regions.states.leaving_states.Goals as goal

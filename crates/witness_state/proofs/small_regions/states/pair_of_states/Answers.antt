@@ -1,5 +1,5 @@
 use Rattle.std.proofs.Common.{subst, sym, ◌∙◌}
-use Rattle.supported_states.specs.Small.{IsSupported}
+use Rattle.supported_states.specs.small_parts.Small.{IsSupported}
 use Rattle.region_states.specs.region_basis.BasisOf.{basis_of}
 use Rattle.witness_state.proofs.small.States.{both_ok, both_roots, both_wanted, made_is, one_supported, rivals_are, two_supported, wanted_of_both}
 use Rattle.witness_state.proofs.small_regions.states.pair_of_states.Goals as goal

@@ -1,6 +1,6 @@
 use Rattle.std.proofs.Common.{subst, sym, ◌∙◌}
 use Rattle.std.proofs.lemmas.Result.{IfOk-weaker}
-use Rattle.supported_states.specs.Small.{IsSupported}
+use Rattle.supported_states.specs.small_parts.Small.{IsSupported}
 use Rattle.region_states.specs.region_basis.BasisOf.{basis_of}
 use Rattle.witness_state.proofs.small.States.{focus_is, focus_supported, made_is, roots_are, wanted_is, wanted_of}
 use Rattle.witness_state.proofs.small_regions.states.region_state.Goals as goal
