@@ -63,10 +63,14 @@ module _ (parts : Parts) (are : AreParts parts) (a : AssocId) (assoc : Assoc) (h
   of_place (conflict.Clash of t col one two) tells fact = inl (joined_focus of tells)
   of_place (conflict.NullIn of t col one) tells fact = inl (joined_focus of tells)
   of_place (conflict.Disagree of name) tells fact = inl (joined_focus of tells)
-  of_place (conflict.ManyLinks b) tells fact = inr (inl (ap (λ c. conflict.ManyLinks c) tells,
-      many_only parts are a assoc here told at (subst (λ c. is_many_links basis c ≡ true) tells fact)))
-  of_place (conflict.Unmapped b) tells fact = inr (inr (ap (λ c. conflict.Unmapped c) tells,
-      unmapped_only parts are a assoc here told at (subst (λ c. is_unmapped basis c ≡ true) tells fact)))
+  of_place (conflict.ManyLinks b) tells fact = inr (inl (
+    ap (λ c. conflict.ManyLinks c) tells,
+    many_only parts are a assoc here told at (subst (λ c. is_many_links basis c ≡ true) tells fact),
+  ))
+  of_place (conflict.Unmapped b) tells fact = inr (inr (
+    ap (λ c. conflict.Unmapped c) tells,
+    unmapped_only parts are a assoc here told at (subst (λ c. is_unmapped basis c ≡ true) tells fact),
+  ))
   of_place (conflict.Absent region) tells fact = absurd tells
   of_place (conflict.Rival one two) tells fact = absurd tells
   of_place (conflict.Lost region p) tells fact = absurd tells

@@ -142,7 +142,6 @@ pub fn shows_link(
 {
     let atoms = atoms_of(of);
     pattern.rows.as_slice().iter().any(|row| {
-        row.table.index == fragment.table.index
-            && shows_link_row(parts.model, atoms, fragment, row)
+        row.table.index == fragment.table.index && shows_link_row(parts.model, atoms, fragment, row)
     })
 }

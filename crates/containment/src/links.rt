@@ -20,7 +20,7 @@ use cells::{LinkPlace, Parts};
 use edm_types::{LinkFragment, Mult};
 use emc_base::{AssocId, Memory};
 use failure_laws::link_conflicts_are_exact;
-use region_states::{Conflict, parts_are_a_basis, partner_end};
+use region_states::{Conflict, partner_end, parts_are_a_basis};
 use regions::{Focus, Pattern};
 use round_trip::FailKind;
 use std::alloc::Global;

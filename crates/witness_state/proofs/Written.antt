@@ -45,15 +45,29 @@ module _ (basis : Basis) (is : IsBasis basis) (region : Region) where
       side : (first_hosts : Bool) → host.first_hosts ≡ first_hosts → IsOwnedBy basis.schema t region.set
       side true at = (
         fragment.first,
-        inr (fragment, of.assoc, maps, inl (
-          subst (λ b. IsHostedAt basis.schema t (if b then fragment.first else fragment.second)) at hosted,
-          subst (λ b. (host_end b of.assoc).set ≡ region.set) at of.at_set, refl)),
+        inr (
+          fragment,
+          of.assoc,
+          maps,
+          inl (
+            subst (λ b. IsHostedAt basis.schema t (if b then fragment.first else fragment.second)) at hosted,
+            subst (λ b. (host_end b of.assoc).set ≡ region.set) at of.at_set,
+            refl,
+          ),
+        ),
       )
       side false at = (
         fragment.second,
-        inr (fragment, of.assoc, maps, inr (
-          subst (λ b. IsHostedAt basis.schema t (if b then fragment.first else fragment.second)) at hosted,
-          subst (λ b. (host_end b of.assoc).set ≡ region.set) at of.at_set, refl)),
+        inr (
+          fragment,
+          of.assoc,
+          maps,
+          inr (
+            subst (λ b. IsHostedAt basis.schema t (if b then fragment.first else fragment.second)) at hosted,
+            subst (λ b. (host_end b of.assoc).set ≡ region.set) at of.at_set,
+            refl,
+          ),
+        ),
       )
 
   -- what writes the table is a fragment of the set, or of links that are hosted at it

@@ -58,11 +58,7 @@ pub fn many_failure(alloc: Global, parts: &Parts<'_>, assoc: AssocId) -> Result<
 }
 
 /// The failure of an association that nothing maps: a link that is there or isn't. `Memory` comes where memory ran out.
-pub fn unmapped_failure(
-    alloc: Global,
-    parts: &Parts<'_>,
-    assoc: AssocId,
-) -> Result<Failure, Memory>
+pub fn unmapped_failure(alloc: Global, parts: &Parts<'_>, assoc: AssocId) -> Result<Failure, Memory>
     requires { IsFirstConflict parts.now (conflict.Unmapped assoc) }
     ensures { IfOk result (IsShownOf (basis_of parts.now) (conflict.Unmapped assoc)) }
 {

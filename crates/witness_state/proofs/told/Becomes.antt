@@ -60,14 +60,18 @@ module _ (basis : Basis) where
   other_given (conflict.ManyLinks a) so =
       no_other (witness_of basis (conflict.ManyLinks a)).1 kind.Clash
       (alone_by (λ assoc. small_shared basis.schema.model 0 a assoc (hosts_first basis a assoc)) (empty_state basis.schema.model) (slice_get basis.schema.model.assocs a.index)) (λ same. cc)
-  other_given (conflict.Absent region) so =
-      ((λ some. refl), (λ same. two_by (λ p. small_rivals basis 0 region (with_one basis region p) region (with_other basis region p))
-      (small_leaving basis 0 region (default_valuation basis 0 region)) (first_several basis region)))
+  other_given (conflict.Absent region) so = (
+    (λ some. refl),
+    (λ same. two_by (λ p. small_rivals basis 0 region (with_one basis region p) region (with_other basis region p))
+        (small_leaving basis 0 region (default_valuation basis 0 region)) (first_several basis region)),
+  )
   other_given (conflict.Rival one two) so = ((λ some. refl), (λ same. refl))
   other_given (conflict.Lost region p) so = ((λ some. refl), (λ same. refl))
-  other_given (conflict.Unmapped a) (assoc, unmapped) =
-      ((λ some. refl), (λ same. subst (λ (found : Option Assoc). IsSome (option_map_or (λ one. beside (small_pair basis.schema.model 0 a one)) found (alone (empty_state basis.schema.model))).1)
-      (sym unmapped.is_assoc) refl))
+  other_given (conflict.Unmapped a) (assoc, unmapped) = (
+    (λ some. refl),
+    (λ same. subst (λ (found : Option Assoc). IsSome (option_map_or (λ one. beside (small_pair basis.schema.model 0 a one)) found (alone (empty_state basis.schema.model))).1)
+        (sym unmapped.is_assoc) refl),
+  )
 
   module _ (told : Conflict) (none : NoneFailsBefore basis.schema (kind_of told)) (so : IsSo basis told)
       (fails : (place : Place) → IsPlaceOf basis told place → FailsAt basis.schema (kind_of told) place (witness_of basis told).0 (unwrap_or (witness_of basis told).1 (witness_of basis told).0)) where

@@ -46,7 +46,7 @@ module _ (parts : Parts) (are : AreParts parts) (a : AssocId) (many : HasManyPar
   pub told_there : AreToldHosted parts.cells.now.places a host.first_hosts
   told_there =
       let told = (told_hosted (schema_in parts) are.sound parts.cells.now.places are.cells.places host.assoc hosted.assoc hosted.is_assoc host.first_hosts).1
-          (record { fragment = hosted.fragment; is_fragment = hosted.is_fragment; of_assoc = hosted.of_assoc; hosted = hosted.hosted }) in
+      (record { fragment = hosted.fragment; is_fragment = hosted.is_fragment; of_assoc = hosted.of_assoc; hosted = hosted.hosted }) in
       subst (λ b. AreToldHosted parts.cells.now.places b host.first_hosts) many.of_assoc told
 
   -- it is told as hosted

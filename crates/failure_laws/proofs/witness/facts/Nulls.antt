@@ -111,7 +111,7 @@ module _ (basis : Basis) (is : IsBasis basis) where
   -- of a link it is null whatever the keys are
   pub link_null_so : IsWithinLimits basis.schema → (a : AssocId) (own : TableId) → IsTableOf basis a own → (t : TableId) (col : ColId) (one : Symbol)
       → IsTrue (is_null_in basis (focus.Link a) t col one) → LacksValue basis (focus.Link a) t col one
-  link_null_so limits a own of t col one = null_so (focus.Link a) t col one (λ listed null. 
+  link_null_so limits a own of t col one = null_so (focus.Link a) t col one (λ listed null.
       let values : Valuation = by_link basis.schema.model of.assoc (plain_link basis.schema.model 0 of.assoc) in
       let Can : Possible → Type 0 = λ can. IsTrue (can_be_null can) in
       record {

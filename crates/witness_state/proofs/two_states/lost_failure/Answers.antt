@@ -14,9 +14,11 @@ pair_of_states-requires-clause-few c = lost_few c.args.parts.now c.args.region.n
 
 pub pair_of_states-requires-clause-pair : goal.pair_of_states-requires-clause-pair
 pair_of_states-requires-clause-pair c =
-    let basis = basis_of c.args.parts.now in
-    (with_one basis c.args.region.now c.args.property, with_other basis c.args.region.now c.args.property,
-    lost_paired c.args.parts.now c.args.region.now c.args.property c.requires c.in_ok-one.one c.in_ok-one.two c.in_ok-one.ensures.one c.in_ok-one.ensures.other)
+    let basis = basis_of c.args.parts.now in (
+      with_one basis c.args.region.now c.args.property,
+      with_other basis c.args.region.now c.args.property,
+      lost_paired c.args.parts.now c.args.region.now c.args.property c.requires c.in_ok-one.one c.in_ok-one.two c.in_ok-one.ensures.one c.in_ok-one.ensures.other,
+    )
 
 pub returns : goal.returns
 returns c = subst (IsShownOf (basis_of c.args.parts.now) (conflict.Lost c.args.region.now c.args.property)) (sym c.beside.ensures)

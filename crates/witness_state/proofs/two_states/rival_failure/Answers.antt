@@ -14,9 +14,11 @@ pair_of_states-requires-clause-few c = rival_few c.args.parts.now c.args.one.now
 
 pub pair_of_states-requires-clause-pair : goal.pair_of_states-requires-clause-pair
 pair_of_states-requires-clause-pair c =
-    let basis = basis_of c.args.parts.now in
-    (first_values basis c.args.one.now c.args.two.now, second_values basis c.args.one.now c.args.two.now,
-    rivals_paired c.args.parts.now c.args.one.now c.args.two.now c.requires c.in_ok-first.first c.in_ok-first.second c.in_ok-first.ensures.first c.in_ok-first.ensures.second)
+    let basis = basis_of c.args.parts.now in (
+      first_values basis c.args.one.now c.args.two.now,
+      second_values basis c.args.one.now c.args.two.now,
+      rivals_paired c.args.parts.now c.args.one.now c.args.two.now c.requires c.in_ok-first.first c.in_ok-first.second c.in_ok-first.ensures.first c.in_ok-first.ensures.second,
+    )
 
 pub returns : goal.returns
 returns c = subst (IsShownOf (basis_of c.args.parts.now) (conflict.Rival c.args.one.now c.args.two.now)) (sym c.beside.ensures)
