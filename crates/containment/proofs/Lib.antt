@@ -7,5 +7,3 @@ pub mod Hosting
 pub mod OfKind
 pub mod OfSet
 pub mod Exact
-pub mod LinkPlaces
-pub mod LinkTelling

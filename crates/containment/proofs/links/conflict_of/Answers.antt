@@ -9,7 +9,7 @@ use Rattle.round_trip.specs.Words.{End}
 use Rattle.containment.specs.Found.{FindsOne}
 use Rattle.containment.specs.Places.{many_found}
 use Rattle.std.specs.Prelude.{None, Option, Some}
-use Rattle.containment.proofs.LinkTelling.{constrained_none, hosted_found, hosted_none, joined_found, joined_none, unmapped_none, unmapped_one}
+use Rattle.containment.proofs.links.Telling.{constrained_none, hosted_found, hosted_none, joined_found, joined_none, unmapped_none, unmapped_one}
 use Rattle.containment.proofs.links.conflict_of.Goals as goal
 
 pub returns-in-Joined-clause-told : goal.returns-in-Joined-clause-told

@@ -9,4 +9,4 @@ returns-clause-exact c before =
     let parts = c.args.parts.now in
     let basis = basis_of parts in
     found_exactly (IsLinkConflictAt basis c.args.assoc c.args.kind) (LinksFailThere basis c.args.assoc c.args.kind) c.conflict_of.result c.conflict_of.ensures.told c.conflict_of.ensures.free
-    (c.link_conflicts_are_exact.ensures basis (c.parts_are_a_basis.ensures parts c.requires.parts) c.requires.parts.limits c.args.kind before c.args.assoc)
+    (c.link_conflicts_are_exact.ensures.exact basis (c.parts_are_a_basis.ensures.basis parts c.requires.parts) c.requires.parts.limits c.args.kind before c.args.assoc)

@@ -19,7 +19,7 @@ use Rattle.region_states.specs.declared.conflicts.conflict.Conflict.{Conflict}
 use Rattle.region_states.specs.declared.conflicts.conflict.Conflict.TheVariants as conflict
 use Rattle.containment.specs.Found.{FindsOne, IsOneOf, focus_of}
 use Rattle.containment.specs.Places.{many_found, unmapped_found}
-use Rattle.containment.proofs.LinkPlaces.{joined_only, joined_table, many_only, many_told, unmapped_only, unmapped_told}
+use Rattle.containment.proofs.links.Places.{joined_only, joined_table, many_only, many_told, unmapped_only, unmapped_told}
 
 -- what is found of an association with such partners
 pub many_is : (asked : FailKind) (a : AssocId) (mult : Mult) (one : Conflict) → many_found asked a mult ≡ Some one → (asked ≡ kind.Clash) × (mult ≡ Many) × (one ≡ conflict.ManyLinks a)
