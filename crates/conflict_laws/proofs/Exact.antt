@@ -12,11 +12,8 @@ use Rattle.region_states.specs.conflicts.Conflicts.{IsConflictAt}
 use Rattle.region_states.specs.conflicts.There.{FailsThere, NoneFailsBefore, NoneFailsBy}
 use Rattle.host_states.specs.FocusStates.{focus_state, leaving_states, rival_states}
 use Rattle.host_states.specs.SmallStates.{small_focus, small_leaving, small_rivals}
-use Rattle.region_states.specs.NoAssociations.{HasNoAssociationSets}
-use Rattle.host_states.specs.LoneStates.{empty_state, lone_focus}
 use Rattle.host_states.proofs.FewPartners.{few_by_clear}
 use Rattle.host_states.proofs.Hosts.{states_host, states_leave, states_rival}
-use Rattle.host_states.proofs.lone.LoneHosts.{few_without, lone_hosts, lone_leaves, lone_rivals}
 use Rattle.host_states.proofs.small.SmallHosts.{small_host, small_leave, small_rival}
 use Rattle.conflict_laws.proofs.clash.Fails.{fails_there}
 use Rattle.conflict_laws.proofs.clash.Told.{clash_told}
@@ -86,21 +83,3 @@ module _ (basis : Basis) (is : IsBasis basis) (limits : IsWithinLimits basis.sch
   exact variant.Same before s =
       let all = states (before variant.Clash (omega (arith))) in
       (λ found. same_there basis all s found.0 found.1, same_told basis all (before variant.Disagrees (omega (arith))) s)
-
--- where no association set is declared, the states of one entity are such states
-module _ (basis : Basis) (is : IsBasis basis) (limits : IsWithinLimits basis.schema) (none : HasNoAssociationSets basis.schema.model) where
-  abbrev pub lone_focuses : FocusStates basis
-  lone_focuses = record { is_basis = is; limits = limits; state = lone_focus basis; hosts = lone_hosts basis is none limits 0 (omega (arith)) }
-
-  abbrev pub lone_clear : NoneFailsBy basis.schema variant.Clash → ClearStates basis
-  lone_clear clear = record { given = lone_focuses; no_clash = clear }
-
-  abbrev pub lone_states : NoneFailsBy basis.schema variant.Clash → RivalStates basis
-  lone_states clear = record {
-    clear = lone_clear clear;
-    rivals = λ one values two others. (lone_focus basis one values, lone_focus basis two others);
-    hold = lone_rivals basis is none limits 0 (omega (arith));
-    leaving = λ region values. (lone_focus basis region values, empty_state basis.schema.model);
-    leave = lone_leaves basis is none limits 0 (omega (arith));
-    few = few_without basis is none;
-  }

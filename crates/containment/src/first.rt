@@ -7,6 +7,7 @@ ghost use Rattle.region_states.specs.region_basis.BasisOf.{basis_of};
 ghost use Rattle.region_states.specs.conflicts.Conflicts.{IsConflictAt};
 ghost use Rattle.region_states.specs.conflicts.There.{FailsThere, NoneFailsBefore};
 ghost use Rattle.region_states.specs.declared.conflicts.conflict.Conflict.{Conflict};
+ghost use Rattle.failure_laws.specs.Facts.{IsSo};
 ghost use Rattle.containment.specs.Found.{FindsOne};
 
 use crate::clashes::clash_at;
@@ -23,8 +24,9 @@ use std::alloc::Global;
 use symbolic_rows::region_pattern;
 
 /// A conflict of this kind at the regions of a set, which are to be all of them, in their order; `None` exactly where there is none. Where no legal state
-/// fails by a kind that is told before this one, that is exactly where no legal state fails by it at the set. Keys that dangle aren't told set by set, so
-/// that kind isn't asked for. Which conflict it is, where there are several, no clause says. `Memory` comes where memory ran out.
+/// fails by a kind that is told before this one, that is exactly where no legal state fails by it at the set, and what a conflict tells is so in the words of
+/// the values that its regions allow. Keys that dangle aren't told set by set, so that kind isn't asked for. Which conflict it is, where there are several,
+/// no clause says. `Memory` comes where memory ran out.
 pub fn first_conflict(
     alloc: Global,
     parts: &Parts<'_>,
@@ -39,6 +41,8 @@ pub fn first_conflict(
     ensures free { IfOk result (λ found. found ≡ None → (conflict : Conflict) → ¬ IsConflictAt (basis_of parts.now) set kind conflict) }
     ensures exact { NoneFailsBefore (schema_in parts.now) kind
         → IfOk result (λ found. IsSome found ↔ FailsThere (basis_of parts.now) set kind) }
+    ensures so { NoneFailsBefore (schema_in parts.now) kind
+        → IfOk result (λ found. (conflict : Conflict) → found ≡ Some conflict → IsSo (basis_of parts.now) conflict) }
 {
     conflict_of(alloc, parts, kind, set, regions)
 }

@@ -9,6 +9,7 @@ ghost use Rattle.region_states.specs.conflicts.Conflicts.{IsLinkConflictAt};
 ghost use Rattle.region_states.specs.conflicts.Facts.{hides_link};
 ghost use Rattle.region_states.specs.conflicts.There.{LinksFailThere, NoneFailsBefore};
 ghost use Rattle.region_states.specs.declared.conflicts.conflict.Conflict.{Conflict};
+ghost use Rattle.failure_laws.specs.Facts.{IsSo};
 ghost use Rattle.containment.specs.Found.{FindsOne};
 ghost use Rattle.containment.specs.Places.{many_found, unmapped_found};
 
@@ -28,8 +29,8 @@ use symbolic_rows::link_pattern;
 
 /// A conflict of this kind at the links of an association: at the rows or the fragment of its own table, if it has one; by two partners of one entity, if its
 /// links are hosted and the partner's end is `*`; or by links that nothing maps. `None` exactly where there is none. Where no legal state fails by a kind
-/// that is told before this one, that is exactly where no legal state fails by it there. Keys that dangle aren't told so, and that kind isn't asked for.
-/// `Memory` comes where memory ran out.
+/// that is told before this one, that is exactly where no legal state fails by it there, and what a conflict tells is so in the words of the keys that its
+/// links allow. Keys that dangle aren't told association by association, and that kind isn't asked for. `Memory` comes where memory ran out.
 pub fn first_link_conflict(
     alloc: Global,
     parts: &Parts<'_>,
@@ -43,6 +44,8 @@ pub fn first_link_conflict(
     ensures free { IfOk result (λ found. found ≡ None → (conflict : Conflict) → ¬ IsLinkConflictAt (basis_of parts.now) assoc kind conflict) }
     ensures exact { NoneFailsBefore (schema_in parts.now) kind
         → IfOk result (λ found. IsSome found ↔ LinksFailThere (basis_of parts.now) assoc kind) }
+    ensures so { NoneFailsBefore (schema_in parts.now) kind
+        → IfOk result (λ found. (conflict : Conflict) → found ≡ Some conflict → IsSo (basis_of parts.now) conflict) }
 {
     parts_are_a_basis();
     link_conflicts_are_exact();

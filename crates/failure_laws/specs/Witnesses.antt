@@ -1,9 +1,9 @@
 -- The states that are shown of a conflict: small parts, which hold what the failure needs and nothing else.
 -- Source: this project's choice of the states that it shows.
-use Rattle.std.specs.Prelude.{◌==◌, ◌&&◌, slice_get, Option, None, Some, Bool}
+use Rattle.std.specs.Prelude.{◌==◌, ◌&&◌, [], map, slice_get, Option, None, Some, Bool}
 use Rattle.std.specs.List.{list_any}
 use Rattle.std.specs.Option.{option_map_or}
-use Rattle.round_trip.specs.Words.{AssocId, PropId, Assoc, State}
+use Rattle.round_trip.specs.Words.{AssocId, PropId, Assoc, EntityModel, State}
 use Rattle.regions.specs.declared.region.Region.{Region}
 use Rattle.regions.specs.declared.pattern.Focus.{Focus}
 use Rattle.regions.specs.declared.pattern.Focus.TheVariants as focus
@@ -12,12 +12,15 @@ use Rattle.regions.specs.Patterns.{Valuation}
 use Rattle.region_states.specs.defaults.Defaults.{default_valuation}
 use Rattle.region_states.specs.declared.conflicts.conflict.Conflict.{Conflict}
 use Rattle.region_states.specs.declared.conflicts.conflict.Conflict.TheVariants as conflict
-use Rattle.host_states.specs.LoneStates.{empty_state}
 use Rattle.host_states.specs.SmallStates.{small_focus, small_leaving, small_rivals}
 use Rattle.conflict_laws.specs.clash.ClashValues.{clash_values}
 use Rattle.conflict_laws.specs.rival.RivalValues.{first_values, second_values}
 use Rattle.conflict_laws.specs.same.SameValues.{first_several, with_one, with_other}
 use Rattle.failure_laws.specs.SmallLinks.{small_link, small_pair, small_shared}
+
+-- no entity and no link
+abbrev pub empty_state : EntityModel → State
+empty_state model = record { entities = map (λ set. []) model.sets; links = map (λ assoc. []) model.assocs }
 
 -- this state alone
 abbrev pub alone : State → State × Option State

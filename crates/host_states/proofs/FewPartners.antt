@@ -51,7 +51,7 @@ module _ (model : EntityModel) (fragment : LinkFragment) (assoc : Assoc) where
   writes_end false one two = two
 
   -- a link gives the column of a pair the part of the key at its end
-  gives_part : (first : Bool) (link : Link) (pair : Pair) → Contains (pairs_of first fragment) pair
+  pub gives_part : (first : Bool) (link : Link) (pair : Pair) → Contains (pairs_of first fragment) pair
       → Contains {X = ColId × Value} (link_cells model assoc fragment link) (pair.col, value_beside pair.prop (key_props model (end_of first assoc).ty) (end_key first link))
   gives_part true link pair has =
       let cell : Pair → ColId × Value = λ one. (one.col, value_beside one.prop (key_props model assoc.first.ty) link.first) in

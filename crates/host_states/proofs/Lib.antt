@@ -2,6 +2,5 @@ pub mod focus
 pub mod pairs
 pub mod bases
 pub mod small
-pub mod lone
 pub mod FewPartners
 pub mod Hosts

@@ -2,5 +2,4 @@ pub mod Hosting
 pub mod BaseStates
 pub mod FocusStates
 pub mod SmallStates
-pub mod LoneStates
 pub mod ManyPartners

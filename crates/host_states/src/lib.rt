@@ -3,7 +3,6 @@
 
 pub mod base_states;
 mod few_partners;
-mod lone_states;
 mod small_states;
 
 ghost use Rattle.std.specs.Prelude.{◌≤◌, ℕ};
@@ -14,7 +13,6 @@ ghost use Rattle.host_states.specs.Hosting.{HostsFocuses, HostsRivals, LeavesOut
 ghost use Rattle.host_states.specs.FocusStates.{focus_state, leaving_states, rival_states};
 
 pub use few_partners::round_tripping_mappings_have_few_partners;
-pub use lone_states::lone_states_serve;
 pub use small_states::small_states_serve;
 
 /// For each region and admissible values a legal state holds an entity that has them, with its partners; for two regions of a set two states differ in such

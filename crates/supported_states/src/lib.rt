@@ -16,4 +16,4 @@ pub use levels::support;
 pub use numbers::{key_from, numbered_key};
 pub use plain::plain_entity;
 pub use small_parts::{small_state, small_states};
-pub use values::{fresh, fresh_at};
+pub use values::{fresh, fresh_at, letter};

@@ -39,8 +39,8 @@ pub fn fresh_at(
     }
 }
 
-// The text of the one character of this code. `Memory` comes where memory ran out, or there is no such character.
-fn letter(alloc: Global, code: u64) -> Result<Value, Memory>
+/// The text of the one character of this code. `Memory` comes where memory ran out, or there is no such character.
+pub fn letter(alloc: Global, code: u64) -> Result<Value, Memory>
     ensures { IfOk result (λ value. value ≡ letter code) }
 {
     match char_of(code) {

@@ -6,7 +6,7 @@ mod declared;
 mod entities;
 mod facing;
 mod free;
-mod fresh;
+mod indices;
 mod rivals;
 mod shared;
 mod symbols;

@@ -38,7 +38,7 @@ number row = row.table.index
 
 module _ (store : StoreModel) (writings : List SymbolWriting) where
   -- a row is of a table of the store, and has a cell for each column
-  row_table : (row : PatternRow) → Contains (pattern_by store writings).rows row
+  pub row_table : (row : PatternRow) → Contains (pattern_by store writings).rows row
       → (table : Table) × At store.tables row.table.index table × (length row.cells ≡ length table.cols)
   row_table row has =
       let found = rows_only store writings row has in

@@ -23,12 +23,11 @@ use Rattle.population.specs.Given.{HasNumbers}
 use Rattle.population.specs.LinkStates.{DifferInLink, HoldsLink, HoldsTwoLinks, plain_link}
 use Rattle.population.specs.Numbered.{end_of}
 use Rattle.host_states.proofs.focus.HostEnds.{partner_side}
-use Rattle.host_states.specs.LoneStates.{empty_state}
 use Rattle.conflict_laws.proofs.disagreement.Deciding.{Decides-some}
 use Rattle.failure_laws.specs.Facts.{HasManyPartners}
 use Rattle.failure_laws.specs.Places.{IsFragment, IsLinkCell, IsSharedCell}
 use Rattle.failure_laws.specs.SmallLinks.{small_link, small_pair, small_shared}
-use Rattle.failure_laws.specs.Witnesses.{alone, beside, hosts_first, of_assoc}
+use Rattle.failure_laws.specs.Witnesses.{alone, beside, empty_state, hosts_first, of_assoc}
 use Rattle.failure_laws.proofs.links.LinkFails.{link_clash_fails, link_disagreement_fails, link_null_fails}
 use Rattle.failure_laws.proofs.links.SmallLinks.{small_differ, small_holds, small_two_hold}
 use Rattle.failure_laws.proofs.links.TwoLinks.{two_links_fail}

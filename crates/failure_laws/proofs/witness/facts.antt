@@ -1,6 +1,9 @@
 pub mod Clashing
 pub mod LinkSymbols
 pub mod LinkValues
+pub mod Differing
+pub mod Hiding
+pub mod LeftOut
 pub mod LinkClashes
 pub mod Nulls
 pub mod Rivals

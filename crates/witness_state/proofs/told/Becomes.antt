@@ -15,14 +15,13 @@ use Rattle.region_states.specs.conflicts.There.{NoneFailsBefore}
 use Rattle.region_states.specs.declared.conflicts.conflict.Conflict.{Conflict}
 use Rattle.region_states.specs.declared.conflicts.conflict.Conflict.TheVariants as conflict
 use Rattle.region_states.specs.defaults.Defaults.{default_valuation}
-use Rattle.host_states.specs.LoneStates.{empty_state}
 use Rattle.host_states.specs.SmallStates.{small_leaving, small_rivals}
 use Rattle.conflict_laws.specs.clash.ClashValues.{clash_values}
 use Rattle.conflict_laws.specs.same.SameValues.{first_several, with_one, with_other}
 use Rattle.failure_laws.specs.Facts.{IsSo}
 use Rattle.failure_laws.specs.Places.{IsPlaceOf}
 use Rattle.failure_laws.specs.SmallLinks.{small_link, small_pair, small_shared}
-use Rattle.failure_laws.specs.Witnesses.{alone, beside, hosts_first, of_focus, witness_of}
+use Rattle.failure_laws.specs.Witnesses.{alone, beside, empty_state, hosts_first, of_focus, witness_of}
 use Rattle.witness_state.specs.declared.failure.Failure.{Failure}
 use Rattle.witness_state.specs.Failures.{IsFailureOf}
 use Rattle.witness_state.specs.Shown.{IsShownOf}

@@ -6,6 +6,7 @@ use Rattle.std.proofs.lemmas.List.Folds.{Any-from_list_any, list_any-from_Any}
 use Rattle.std.proofs.lemmas.Slice.Eq.{bytes_eq-Decides}
 use Rattle.round_trip.specs.Words.{Fragment, LinkFragment, Place, place_at, key_of}
 use Rattle.schema_laws.proofs.state_demand.lists.Lists.{any_of, of_any}
+use Rattle.cells.specs.declared.parts.Parts.{Parts}
 use Rattle.regions.specs.Basis.{Basis, Host}
 use Rattle.regions.specs.Patterns.{pattern_of}
 use Rattle.regions.specs.Shown.{shows_link_row}
@@ -15,11 +16,16 @@ use Rattle.regions.specs.declared.region.Region.{Region}
 use Rattle.regions.specs.region_laws.IsBasis.{IsBasis}
 use Rattle.regions.proofs.region_laws.pattern.Choices.{found_passes, none_passes}
 use Rattle.region_states.specs.conflicts.Facts.{differ, differs_at_links, disagrees_at, is_hosted, shows_link_pattern}
+use Rattle.region_states.specs.declared.conflicts.conflict.Conflict.TheVariants as conflict
 use Rattle.region_states.specs.focus.Held.{HasRow}
+use Rattle.region_states.specs.region_basis.BasisOf.{basis_of}
+use Rattle.region_states.proofs.region_basis.Bases.{basis_is}
 use Rattle.conflict_laws.proofs.disagreement.Deciding.{Decides-disagrees, Decides-hosted, SomeDiffers, SomeLinksDiffer}
 use Rattle.conflict_laws.proofs.disagreement.OneOnly.{one_is_so}
 use Rattle.conflict_laws.proofs.disagreement.PatternRows.{linked_row, shown_row}
+use Rattle.failure_laws.proofs.witness.Computed.{fact_computed}
 use Rattle.failure_laws.proofs.witness.regions.FragmentPlaces.{one_link_named}
+use Rattle.witness_state.specs.FirstConflict.{IsFirstConflict}
 
 module _ (basis : Basis) (is : IsBasis basis) (region : Region) (name : List ℕ) where
   abbrev has_name : Fragment → Bool
@@ -70,3 +76,9 @@ module _ (basis : Basis) (is : IsBasis basis) (region : Region) (name : List ℕ
         (λ (so : IsTrue flagged). linked_row basis is region host.0 host.1 fragment passes.0 host.2 so)
         (λ (so : IsTrue shown). shown_row basis (focus.Entity region) fragment.table (shows_link_row basis.schema.model region.atoms fragment) so)
         (one_is_so flagged shown parts.1)
+
+-- that a region disagrees with the fragments of a name is computed
+pub disagrees_so : (parts : Parts) (region : Region) (name : List ℕ) → IsFirstConflict parts (conflict.Disagree (focus.Entity region) name)
+    → IsTrue (disagrees_at (basis_of parts) (focus.Entity region) name)
+disagrees_so parts region name first =
+    fact_computed (basis_of parts) (basis_is parts first.are) first.are.limits (conflict.Disagree (focus.Entity region) name) first.of_one first.earlier first.so

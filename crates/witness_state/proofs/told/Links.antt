@@ -26,8 +26,7 @@ use Rattle.region_states.specs.focus.Held.{HasRow}
 use Rattle.region_states.specs.region_basis.BasisOf.{basis_of}
 use Rattle.region_states.proofs.region_basis.Bases.{basis_is}
 use Rattle.region_states.proofs.focus.Listed.{row_joined}
-use Rattle.host_states.specs.LoneStates.{empty_state}
-use Rattle.failure_laws.specs.Witnesses.{alone, of_assoc, witness_of}
+use Rattle.failure_laws.specs.Witnesses.{alone, empty_state, of_assoc, witness_of}
 use Rattle.failure_laws.proofs.witness.facts.LinkValues.{assoc_there, is_independent, numbers}
 use Rattle.witness_state.specs.Small.{IsLinkable}
 

@@ -11,7 +11,7 @@ use Rattle.regions.specs.Patterns.{Valuation}
 use Rattle.regions.specs.Regions.{regions_of}
 use Rattle.regions.specs.declared.region.Region.{Region}
 use Rattle.regions.proofs.region_laws.pattern.types.Regions.{parts_of}
-use Rattle.region_states.specs.conflicts.SameFacts.{are_rivals}
+use Rattle.region_states.specs.conflicts.SameFacts.{are_rivals, is_absent, is_lost}
 use Rattle.region_states.specs.conflicts.There.{NoneFailsBefore, NoneFailsBy}
 use Rattle.region_states.specs.declared.conflicts.conflict.Conflict.{Conflict}
 use Rattle.region_states.specs.declared.conflicts.conflict.Conflict.TheVariants as conflict
@@ -28,6 +28,7 @@ use Rattle.failure_laws.specs.Facts.{TellsOfOne}
 use Rattle.failure_laws.specs.Places.{IsInSet}
 use Rattle.failure_laws.specs.Witnesses.{beside, of_lost}
 use Rattle.failure_laws.proofs.witness.Computed.{fact_computed}
+use Rattle.failure_laws.proofs.witness.facts.LeftOut.{absent_computed, lost_so}
 use Rattle.witness_state.specs.declared.failure.Failure.{Failure}
 use Rattle.witness_state.specs.FirstConflict.{IsFirstConflict}
 use Rattle.witness_state.specs.Shown.{IsShownOf, shown_beside}
@@ -94,6 +95,10 @@ module _ (parts : Parts) where
     abbrev lost_listed : (s : SetId) × Contains (regions_of basis s) region
     lost_listed = region_listed basis region first.of_one
 
+    -- the property is lost, as it is computed
+    lost_fact : IsTrue (is_lost basis region p)
+    lost_fact = fact_computed basis (basis_is parts first.are) first.are.limits (conflict.Lost region p) first.of_one first.earlier first.so
+
     pub lost_few : HaveFewPartners basis
     lost_few = few_partners parts first.are (clear first.earlier)
 
@@ -102,7 +107,7 @@ module _ (parts : Parts) where
 
     pub lost_paired : (near far : Entity) → near ≡ focus_entity basis region (with_one basis region p) → far ≡ focus_entity basis region (with_other basis region p)
         → ArePair basis region region near far (with_one basis region p) (with_other basis region p)
-    lost_paired near far near_is far_is = lost_pair parts first.are (clear first.earlier) lost_listed.0 region lost_listed.1 p first.so near far near_is far_is
+    lost_paired near far near_is far_is = lost_pair parts first.are (clear first.earlier) lost_listed.0 region lost_listed.1 p lost_fact near far near_is far_is
 
     pub lost_shown : (near far : Entity) → near ≡ focus_entity basis region (with_one basis region p) → far ≡ focus_entity basis region (with_other basis region p)
         → (place : Place) → IsAtKey region near place → (states : State × State)
@@ -120,11 +125,15 @@ module _ (parts : Parts) where
     abbrev usual : Valuation
     usual = default_valuation basis 0 region
 
+    -- it has no row, as it is computed
+    absent_fact : IsTrue (is_absent basis region)
+    absent_fact = absent_computed basis region first.so
+
     pub several_first : (p : PropId) → first_several basis region ≡ Some p → IsFirstConflict parts (conflict.Lost region p)
     several_first p found = record {
       are = first.are;
       of_one = first.of_one;
-      so = several_lost basis (record { s = absent_listed.0; region = region; listed = absent_listed.1; absent = first.so }) p found;
+      so = lost_so basis region p (several_lost basis (record { s = absent_listed.0; region = region; listed = absent_listed.1; absent = absent_fact }) p found);
       earlier = first.earlier;
     }
 
@@ -145,7 +154,7 @@ module _ (parts : Parts) where
     absent_within = set_within absent_listed.0 region absent_listed.1
 
     pub absent_one : first_several basis region ≡ None → HasOneEntityPerKey basis region
-    absent_one none = one_entity parts first.are (clear first.earlier) absent_listed.0 region absent_listed.1 first.so none
+    absent_one none = one_entity parts first.are (clear first.earlier) absent_listed.0 region absent_listed.1 absent_fact none
 
     pub absent_has : (entity : Entity) → entity ≡ focus_entity basis region usual → HasValues basis region entity usual
     absent_has entity is = usual_has parts first.are absent_listed.0 region absent_listed.1 entity is

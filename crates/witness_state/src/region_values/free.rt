@@ -6,9 +6,9 @@ ghost use Rattle.round_trip.specs.Words.{Bytes, Null};
 ghost use Rattle.region_states.specs.defaults.Candidates.{candidates, first_free, free_values, next_free};
 ghost use Rattle.witness_state.specs.region_values.Free.{is_left};
 
-use crate::region_values::fresh::letter;
 use emc_base::{Bin, Kind, Memory, Value};
 use std::alloc::Global;
+use supported_states::letter;
 
 /// The first candidate of a kind that is none of the constants; of flags and of an enumeration the first one of all.
 pub fn first_free(alloc: Global, kind: &Kind, constants: &[Value]) -> Result<Value, Memory>

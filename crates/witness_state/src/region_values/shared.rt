@@ -7,13 +7,14 @@ ghost use Rattle.conflict_laws.specs.rival.RivalValues.{group_place, in_one_grou
 
 use crate::region_values::declared::{constants_of, group_of, is_dependent, props_of};
 use crate::region_values::free::first_free;
-use crate::region_values::fresh::{FIRST_SHARED, SECOND_SHARED, fresh};
+use crate::region_values::indices::{FIRST_SHARED, SECOND_SHARED};
 use crate::region_values::rivals::Rival;
 use cells::Parts;
 use edm_types::Prop;
 use emc_base::{Memory, PropId, Value};
 use regions::Region;
 use std::alloc::Global;
+use supported_states::fresh;
 
 /// The value that properties in the group of this one share. `Memory` comes where memory ran out.
 pub fn shared_value(
@@ -27,7 +28,12 @@ pub fn shared_value(
     ensures { IfOk result (λ value. value ≡ shared_value (basis_of parts.now) rival.now.first.now rival.now.second.now property declared.now) }
 {
     if tells_other(parts, property) {
-        return fresh(alloc, &declared.kind, shared_index(parts, rival, property));
+        return fresh(
+            alloc,
+            &declared.kind,
+            0,
+            shared_index(parts, rival, property),
+        );
     }
     first_free(alloc, &declared.kind, constants_of(parts, property))
 }

@@ -9,13 +9,14 @@ use crate::region_values::declared::{
     constants_of, end_at, is_among, is_dependent, key_props, place_in, props_of,
 };
 use crate::region_values::free::{first_free, next_free};
-use crate::region_values::fresh::{DEPENDENT, LOST, PARTNER_KEY, PARTNER_PARTS, fresh, fresh_at};
+use crate::region_values::indices::{DEPENDENT, LOST, PARTNER_KEY, PARTNER_PARTS};
 use cells::Parts;
 use condition_logic::{Atom, AtomOf};
 use edm_types::Prop;
 use emc_base::{AssocId, Memory, PropId, TypeId, Value};
 use regions::Region;
 use std::alloc::Global;
+use supported_states::{fresh, fresh_at};
 
 /// The usual value of a property in entities of a region; null where there is no such property. `Memory` comes where memory ran out.
 pub fn default_value(
@@ -46,7 +47,7 @@ fn declared_value(
 {
     let key = key_props(parts.model, region.ty);
     if is_among(property, key) {
-        return fresh(alloc, &declared.kind, place_in(property, key) as u64);
+        return fresh(alloc, &declared.kind, 0, place_in(property, key) as u64);
     }
     let told = told_atom(region.atoms.as_slice(), property);
     value_by(alloc, parts, region.ty, property, declared, told)
@@ -96,7 +97,7 @@ fn some_value(
 {
     if is_dependent(parts.model, property) {
         let place = place_in(property, props_of(parts.model, ty));
-        return fresh(alloc, &declared.kind, DEPENDENT + place as u64);
+        return fresh(alloc, &declared.kind, 0, DEPENDENT + place as u64);
     }
     first_free(alloc, &declared.kind, constants_of(parts, property))
 }
@@ -112,7 +113,7 @@ pub fn one_value(
     ensures { IfOk result (λ value. value ≡ one_value (basis_of parts.now) property declared.now) }
 {
     if is_dependent(parts.model, property) {
-        return fresh(alloc, &declared.kind, LOST);
+        return fresh(alloc, &declared.kind, 0, LOST);
     }
     first_free(alloc, &declared.kind, constants_of(parts, property))
 }
@@ -128,7 +129,7 @@ pub fn other_value(
     ensures { IfOk result (λ value. value ≡ other_value (basis_of parts.now) property declared.now) }
 {
     if is_dependent(parts.model, property) {
-        return fresh(alloc, &declared.kind, LOST + 1);
+        return fresh(alloc, &declared.kind, 0, LOST + 1);
     }
     next_free(alloc, &declared.kind, constants_of(parts, property))
 }
@@ -150,5 +151,5 @@ pub fn default_part(
     let key = key_props(parts.model, end_at(first, declared).ty);
     let place = place_in(property, key) as u64;
     let index = PARTNER_KEY + PARTNER_PARTS * u64::from(assoc.index) + place;
-    fresh_at(alloc, parts.model, property, index)
+    fresh_at(alloc, parts.model, 0, property, index)
 }

@@ -32,7 +32,7 @@ module _ (basis : Basis) (is : IsBasis basis) (a : AssocId) (t : TableId) (of : 
     numbers = record { sound = is.sound.model; few = limits.model.0; row = omega arith }
 
     -- the plain link stands in a legal state
-    abbrev standing : StandingLink basis
+    abbrev pub standing : StandingLink basis
     standing =
         let holds = link_holds basis.schema.model 0 numbers a of.assoc assoc_there is_independent in
         record {

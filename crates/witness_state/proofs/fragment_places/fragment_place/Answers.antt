@@ -6,7 +6,7 @@ use Rattle.regions.specs.declared.pattern.Focus.TheVariants as focus
 use Rattle.region_states.specs.region_basis.BasisOf.{basis_of}
 use Rattle.region_states.proofs.region_basis.Bases.{basis_is}
 use Rattle.failure_laws.specs.Places.{IsFragment}
-use Rattle.witness_state.proofs.told.Fragments.{found_mapped, found_named, found_row, links_differ, links_found, named_there}
+use Rattle.witness_state.proofs.told.Fragments.{disagrees_so, found_mapped, found_named, found_row, links_differ, links_found, named_there}
 use Rattle.witness_state.proofs.fragment_places.fragment_place.Goals as goal
 
 pub returns-then-has_named : goal.returns-then-has_named
@@ -24,7 +24,8 @@ unreachable-requires c =
     let is = basis_is parts c.requires.first.are in
     let name = c.args.name.now in
     links_found (basis_of parts) is c.args.region.now name
-    (links_differ (basis_of parts) is c.args.region.now name (sym c.has_named.ensures ∙ c.if-has_named.false) c.requires.first.so) (sym c.in_default.ensures)
+    (links_differ (basis_of parts) is c.args.region.now name (sym c.has_named.ensures ∙ c.if-has_named.false) (disagrees_so parts c.args.region.now name c.requires.first))
+    (sym c.in_default.ensures)
 
 pub host_row_place-requires-clause-mapped : goal.host_row_place-requires-clause-mapped
 host_row_place-requires-clause-mapped c =
@@ -37,7 +38,7 @@ host_row_place-requires-clause-row c =
     let is = basis_is parts c.requires.first.are in
     let name = c.args.name.now in
     found_row (basis_of parts) is c.args.region.now name c.in-Some.fragment.now (sym c.in-Some.ensures)
-    (links_differ (basis_of parts) is c.args.region.now name (sym c.has_named.ensures ∙ c.if-has_named.false) c.requires.first.so)
+    (links_differ (basis_of parts) is c.args.region.now name (sym c.has_named.ensures ∙ c.if-has_named.false) (disagrees_so parts c.args.region.now name c.requires.first))
 
 pub host_row_place-requires-clause-named : goal.host_row_place-requires-clause-named
 host_row_place-requires-clause-named c =

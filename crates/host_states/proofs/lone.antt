@@ -1,3 +1,0 @@
-pub mod Lone
-pub mod LoneParts
-pub mod LoneHosts
