@@ -1,4 +1,9 @@
 pub mod OwnView
 pub mod Candidate
+pub mod JoinedCells
+pub mod JoinedLinks
+pub mod HostedLinks
+pub mod SameLinks
 pub mod SameCandidate
+pub mod OneCandidate
 pub mod FreeCells

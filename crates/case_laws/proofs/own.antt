@@ -1,4 +1,6 @@
 pub mod Own
 pub mod OwnTold
-pub mod OwnCase
+pub mod Reading
+pub mod Flags
 pub mod OneCase
+pub mod OwnCase

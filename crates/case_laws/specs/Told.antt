@@ -15,7 +15,7 @@ use Rattle.regions.specs.region_laws.pattern.Described.{row_for}
 use Rattle.region_states.specs.conflicts.SameFacts.{is_absent, is_lost}
 use Rattle.conflict_laws.specs.rival.Alike.{IsClear}
 use Rattle.case_laws.specs.region_cases.Cases.{case_of}
-use Rattle.case_laws.specs.region_cases.Meets.{AreLinksOf, IsEntityOf, MeetsCase, StandsAtKey}
+use Rattle.case_laws.specs.region_cases.Meets.{HaveLinksOf, IsEntityOf, MeetsCase, StandsAtKey}
 
 -- a region of the set that can be read: no cell of its pattern clashes, it has a row, and it loses no property
 pub record IsReadable (basis : Basis) (s : SetId) (region : Region) : Type 0 where
@@ -40,7 +40,7 @@ module _ (basis : Basis) (is_free : TableId → ColId → Bool) (s : SetId) (reg
   -- the rows tell the entity and these links
   pub record AreTold (entity : Entity) (links : List Hosted) : Type 0 where
     pub entity_told : IsEntityOf basis tables key (case_of is_free basis region) entity
-    pub links_told : AreLinksOf basis tables key (case_of is_free basis region) links
+    pub links_told : HaveLinksOf basis tables key (case_of is_free basis region) links
 
   -- the entity is one that the region holds with these links, its key is the one at which the rows stand, each property may hold its value, and its rows
   -- are these

@@ -1,3 +1,4 @@
 pub mod Rows
 pub mod Viewed
+pub mod ViewedLinks
 pub mod Candidates

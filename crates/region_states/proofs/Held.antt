@@ -23,10 +23,10 @@ use Rattle.region_states.specs.HoldsFocus.{HoldsFocus}
 use Rattle.region_states.proofs.Entities.{atoms_lie}
 
 -- a link of each association of the region of which one is there
-abbrev flag_link : AssocId → Hosted
+abbrev pub flag_link : AssocId → Hosted
 flag_link a = record { assoc = a; partner = [] }
 
-abbrev flag_links : Region → List Hosted
+abbrev pub flag_links : Region → List Hosted
 flag_links region = map flag_link region.linked
 
 -- a flag is told by these links
@@ -45,7 +45,7 @@ module _ (basis : Basis) (is : IsBasis basis) (at : RegionValues basis) where
   entity = focus_entity basis at.region at.values
 
   -- the region holds an entity of allowed values, where the links are those that its flags tell
-  flags_held : IsAllowed basis at.region at.values → Holds basis at.region entity (flag_links at.region)
+  pub flags_held : IsAllowed basis at.region at.values → Holds basis at.region entity (flag_links at.region)
   flags_held allowed = record {
     typed = refl;
     atoms = atoms_lie basis is at allowed;

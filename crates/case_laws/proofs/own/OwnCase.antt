@@ -15,13 +15,13 @@ use Rattle.regions.proofs.region_laws.listing.Listed.{set_is}
 use Rattle.region_states.proofs.focus.Flags.{some_region}
 use Rattle.regions.proofs.region_laws.pattern.types.Regions.{parts_of}
 use Rattle.case_laws.specs.filled_rows.Demanded.{IsHeldWith}
-use Rattle.region_states.specs.NoAssociations.{HasNoAssociationSets}
 use Rattle.case_laws.specs.region_cases.Cases.{case_of}
 use Rattle.case_laws.specs.region_cases.Meets.{MeetsCase, StandsAtKey}
 use Rattle.case_laws.specs.Reading.{DecidesFree, HasStateTables}
 use Rattle.case_laws.specs.Told.{AreTold, IsMet, IsReadable}
 use Rattle.case_laws.proofs.Keys.{set_key_is}
-use Rattle.case_laws.proofs.own.OneCase.{IsReading, one_case, reading}
+use Rattle.case_laws.proofs.own.OneCase.{one_case, reading}
+use Rattle.case_laws.proofs.own.Reading.{IsReading}
 use Rattle.case_laws.proofs.own.Own.{alone_in_tables, meets}
 use Rattle.case_laws.proofs.own.OwnTold.{entity_told, links_told}
 use Rattle.case_laws.proofs.shown.Present.{present_row}
@@ -29,7 +29,7 @@ use Rattle.case_laws.proofs.reading.Readable.{some_row}
 use Rattle.case_laws.proofs.reading.RoundTripping.{few, readable}
 use Rattle.case_laws.proofs.reading.Whole.{one_entity, one_links}
 
-module _ (basis : Basis) (is : IsBasis basis) (limits : IsWithinLimits basis.schema) (none : HasNoAssociationSets basis.schema.model) (round : RoundTrips basis.schema)
+module _ (basis : Basis) (is : IsBasis basis) (limits : IsWithinLimits basis.schema) (round : RoundTrips basis.schema)
     (is_free : TableId → ColId → Bool) (decides : DecidesFree basis.schema is_free) (state : State) (legal : IsLegal basis.schema.model state)
     (tables : Tables) (has : HasStateTables basis.schema state tables) (s : SetId) where
   module _ (entity : Entity) (links : List Hosted) (region : Region) (held : IsHeldWith basis state s entity links region) where
@@ -49,13 +49,13 @@ module _ (basis : Basis) (is : IsBasis basis) (limits : IsWithinLimits basis.sch
 
     reading_of : (other : Region) → Contains (regions_of basis s) other → MeetsCase basis tables (key_of basis.schema.model entity) (case_of is_free basis other)
         → IsReading is_free basis is decides s tables (key_of basis.schema.model entity) other
-    reading_of other listed met = reading basis is limits none round is_free decides s tables (key_of basis.schema.model entity) other listed
+    reading_of other listed met = reading basis is limits round is_free decides s tables (key_of basis.schema.model entity) other listed
         (record { meets = met; whole = key_whole })
         (alone_in_tables is_free basis is decides state tables has s other listed (readable basis is limits round s other listed).clear (key_of basis.schema.model entity))
 
     pub own_case : (other : Region) → Contains (regions_of basis s) other → MeetsCase basis tables (key_of basis.schema.model entity) (case_of is_free basis other)
         → other ≡ region
-    own_case other listed met = one_case basis is limits none round is_free decides s tables (key_of basis.schema.model entity) other region
+    own_case other listed met = one_case basis is limits round is_free decides s tables (key_of basis.schema.model entity) other region
         (reading_of other listed met) (reading_of region held.listed meets_own)
 
     -- what the rows tell is the entity with its links

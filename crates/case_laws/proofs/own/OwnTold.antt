@@ -29,7 +29,7 @@ use Rattle.case_laws.specs.filled_rows.Demanded.{IsHeldWith}
 use Rattle.conflict_laws.specs.rival.Alike.{IsClear}
 use Rattle.case_laws.specs.declared.region_cases.case.Case.{Case}
 use Rattle.case_laws.specs.region_cases.Cases.{case_of}
-use Rattle.case_laws.specs.region_cases.Meets.{AreLinksOf, IsEntityOf, IsLinkOf, ShowsPart}
+use Rattle.case_laws.specs.region_cases.Meets.{HaveLinksOf, IsEntityOf, IsLinkOf, ShowsPart}
 use Rattle.case_laws.specs.Reading.{DecidesFree, HasStateTables}
 use Rattle.case_laws.proofs.shown.Links.{part_listed}
 use Rattle.case_laws.proofs.shown.Present.{present_cell}
@@ -162,5 +162,5 @@ module _ (is_free : TableId → ColId → Bool) (basis : Basis) (is : IsBasis ba
       (link_told host is_host linked one.0 among) told told.of_assoc in
       subst (Contains links) same here
 
-  pub links_told : AreLinksOf basis tables the_key case links
+  pub links_told : HaveLinksOf basis tables the_key case links
   links_told = record { tells = λ hosted. (hosted_told hosted, told_hosted hosted) }

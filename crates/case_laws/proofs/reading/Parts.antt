@@ -18,7 +18,7 @@ use Rattle.regions.proofs.region_laws.pattern.Choices.{found_passes, none_passes
 use Rattle.regions.proofs.region_laws.pattern.Ends.{other_end}
 use Rattle.case_laws.specs.declared.region_cases.case.Case.{Case}
 use Rattle.case_laws.specs.region_cases.Cases.{case_of}
-use Rattle.case_laws.specs.region_cases.Meets.{AreLinksOf, IsLinkOf, ShowsPart}
+use Rattle.case_laws.specs.region_cases.Meets.{HaveLinksOf, IsLinkOf, ShowsPart}
 use Rattle.case_laws.specs.Reading.{DecidesFree}
 use Rattle.case_laws.specs.Told.{IsMet, IsReadable}
 use Rattle.case_laws.proofs.lists.Chosen.{AreChosen, chosen_values}
@@ -72,7 +72,7 @@ module _ (is_free : TableId → ColId → Bool) (basis : Basis) (is : IsBasis ba
         )
 
   -- the parts that links tell are those that are shown
-  module _ (links : List Hosted) (told : AreLinksOf basis tables key case links) (host : Host) (is_host : Contains (basis.hosts region.set) host)
+  module _ (links : List Hosted) (told : HaveLinksOf basis tables key case links) (host : Host) (is_host : Contains (basis.hosts region.set) host)
       (linked : Contains region.linked host.assoc) (assoc : Assoc) (here : At basis.schema.model.assocs host.assoc.index assoc) where
     abbrev of_assoc : Hosted → Bool
     of_assoc hosted = hosted.assoc.index == host.assoc.index

@@ -114,7 +114,7 @@ module _ (is_free : TableId → ColId → Bool) (basis : Basis) (is : IsBasis ba
       ∙ all_beside keys key (subst P keys_are (keys_apart basis.schema.model is.sound.model region.ty)) met.whole
 
   -- the flags
-  flag_told : (host : Host) → Contains (basis.hosts region.set) host → Contains region.linked host.assoc ↔ Any (λ hosted. hosted.assoc ≡ host.assoc) links
+  pub flag_told : (host : Host) → Contains (basis.hosts region.set) host → Contains region.linked host.assoc ↔ Any (λ hosted. hosted.assoc ≡ host.assoc) links
   flag_told host is_host = (
     (λ linked.
         let link = link_there is_free basis is decides s region readable tables key met host is_host linked in

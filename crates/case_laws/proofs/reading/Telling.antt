@@ -1,7 +1,10 @@
 -- Rows at a key that meet a case tell an entity and links.
 use Rattle.std.proofs.Common.{◌≡◌, inl, inr, List, [], ◌∷◌, Bool, Contains, refl, sym, ap, subst, ◌∙◌}
 use Rattle.std.specs.Option.{option_map_or}
+use Rattle.graphs.proofs.base_chains.orders.Orders.{place_of_member}
 use Rattle.emc_base.proofs.Lists.{all_from_members}
+use Rattle.emc_base.proofs.Mapped.{contains_at}
+use Rattle.emc_base.proofs.facts.Zipped.{zipped_left, zipped_right}
 use Rattle.round_trip.specs.Words.{SetId, TableId, ColId, AssocId, PropId, Entity, Hosted, Null, Tables, Value, props_of, value_of}
 use Rattle.condition_logic.specs.declared.atoms.Atom.{Atom}
 use Rattle.condition_logic.specs.declared.atoms.Atom.TheVariants as atom
@@ -21,7 +24,7 @@ use Rattle.regions.proofs.region_laws.pattern.symbols.Standing.{listed_prop}
 use Rattle.region_states.proofs.defaults.Listed.{told_found, told_is}
 use Rattle.case_laws.specs.declared.region_cases.case.Case.{Case}
 use Rattle.case_laws.specs.region_cases.Cases.{case_of}
-use Rattle.case_laws.specs.region_cases.Meets.{AreLinksOf, IsEntityOf, IsLinkOf, ShowsValue}
+use Rattle.case_laws.specs.region_cases.Meets.{AreLinksOf, HaveLinksOf, IsEntityOf, IsLinkOf, ShowsValue}
 use Rattle.case_laws.specs.Reading.{DecidesFree}
 use Rattle.case_laws.specs.Told.{AreTold, IsMet, IsReadable}
 use Rattle.case_laws.proofs.lists.Chosen.{AreChosen, AreChosenFor, chosen_items, chosen_values}
@@ -100,10 +103,13 @@ module _ (is_free : TableId → ColId → Bool) (basis : Basis) (is : IsBasis ba
       let link = link_there is_free basis is decides s region readable tables key met host is_host (subst (Contains region.linked) found.2 linked) in
       (link.0, (link.1, link.2 ∙ sym found.2))
 
+  abbrev IsItsLink : AssocId → Hosted → Type 0
+  IsItsLink a hosted = (hosted.assoc ≡ a) × IsLinkOf basis tables key case hosted
+
   links_chosen : AreChosenFor IsLink region.linked
   links_chosen = chosen_items IsLink region.linked some_link
 
-  links_told : AreLinksOf basis tables key case links_chosen.items
+  links_told : HaveLinksOf basis tables key case links_chosen.items
   links_told = record {
     tells = λ hosted. (
       (λ among. (links_chosen.only hosted among).2.0),
@@ -111,6 +117,18 @@ module _ (is_free : TableId → ColId → Bool) (basis : Basis) (is : IsBasis ba
           let found = links_chosen.all hosted.assoc told.linked in
           let same : found.0 ≡ hosted = one_link is_free basis is decides s region readable.listed readable.clear tables key are_alone found.0 hosted found.2.0 told found.2.1 in
           subst (Contains links_chosen.items) same found.1,
+    );
+  }
+
+  -- links in the order of associations are just those
+  pub listed_links : (links : List Hosted) → AreLinksOf basis tables key case links → HaveLinksOf basis tables key case links
+  listed_links links are = record {
+    tells = λ hosted. (
+      (λ among. (zipped_right IsItsLink region.linked links are among.0 hosted (place_of_member links hosted among)).2.1),
+      λ told.
+          let found = zipped_left IsItsLink region.linked links are told.linked.0 hosted.assoc (place_of_member region.linked hosted.assoc told.linked) in
+          let same : found.0 ≡ hosted = one_link is_free basis is decides s region readable.listed readable.clear tables key are_alone found.0 hosted found.2.1 told found.2.0 in
+          subst (Contains links) same (contains_at links told.linked.0 found.0 found.1),
     );
   }
 

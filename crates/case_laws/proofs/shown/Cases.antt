@@ -1,12 +1,7 @@
 -- The cells of a case, by the cells of its pattern.
-use Rattle.std.proofs.Common.{◌≡◌, ◌<◌, ℕ, List, length, option_map, Bool, Some, sym, ap, subst, ◌∙◌}
-use Rattle.std.specs.List.{enumerate_from}
-use Rattle.std.proofs.lemmas.List.FromFn.{length-enumerate_from}
-use Rattle.std.proofs.lemmas.Option.{slice_get-map, slice_get_within}
-use Rattle.emc_base.proofs.Lists.{item_at}
+use Rattle.std.proofs.Common.{◌≡◌, ℕ, List, Bool, sym, ap, subst, ◌∙◌}
 use Rattle.emc_base.proofs.Mapped.{contains_map}
-use Rattle.emc_base.proofs.Numbered.{map_contains, numbered_at}
-use Rattle.emc_base.proofs.facts.Images.{map_at}
+use Rattle.emc_base.proofs.Numbered.{map_contains}
 use Rattle.round_trip.specs.Words.{TableId, ColId, Row, Tables, Value, At}
 use Rattle.regions.specs.declared.region.Region.{Region}
 use Rattle.regions.specs.declared.pattern.Focus.TheVariants as focus
@@ -19,6 +14,7 @@ use Rattle.case_laws.specs.declared.region_cases.case.CaseCell.{CaseCell}
 use Rattle.case_laws.specs.declared.region_cases.case.CaseRow.{CaseRow}
 use Rattle.case_laws.specs.region_cases.Cases.{case_cell, case_of, case_row}
 use Rattle.case_laws.specs.region_cases.Meets.{HasCell, StandsHere}
+use Rattle.case_laws.proofs.lists.Placed.{made_at, made_from}
 
 -- the cell of a region's pattern at a column
 abbrev pub IsCell : Basis → Region → TableId → ColId → List Symbol → Type 0
@@ -36,21 +32,11 @@ module _ (is_free : TableId → ColId → Bool) (basis : Basis) (region : Region
   rows = (pattern_of basis (focus.Entity region)).rows
 
   cell_of_row : (row : PatternRow) (col : ColId) (symbols : List Symbol) → At row.cells col.index symbols → At (row_of row).cells col.index (told_of_cell row.table col symbols)
-  cell_of_row row col symbols here =
-      let f : ℕ × List Symbol → CaseCell = λ placed. told_of_cell row.table (record { index = placed.0 }) placed.1 in
-      slice_get-map f (enumerate_from 0 row.cells) col.index ∙ ap (option_map f) (numbered_at row.cells col.index symbols here)
+  cell_of_row row col symbols here = made_at (λ (placed : ℕ × List Symbol). told_of_cell row.table (record { index = placed.0 }) placed.1) row.cells col.index symbols here
 
   row_of_cell : (row : PatternRow) (col : ColId) (told : CaseCell) → At (row_of row).cells col.index told
       → (symbols : List Symbol) × At row.cells col.index symbols × (told ≡ told_of_cell row.table col symbols)
-  row_of_cell row col told here =
-      let f : ℕ × List Symbol → CaseCell = λ placed. told_of_cell row.table (record { index = placed.0 }) placed.1 in
-      let image = map_at f (enumerate_from 0 row.cells) col.index told here in
-      let within : col.index < length row.cells =
-      subst (λ n. col.index < n) (length-enumerate_from 0 row.cells) (slice_get_within (enumerate_from 0 row.cells) col.index image.0 image.1) in
-      let found = item_at row.cells col.index within in
-      let same : Some (col.index, found.0) ≡ Some image.0 = sym (numbered_at row.cells col.index found.0 found.1) ∙ image.1 in
-      let is : (col.index, found.0) ≡ image.0 = cc in
-      (found.0, found.1, sym image.2 ∙ ap f (sym is))
+  row_of_cell row col told here = made_from (λ (placed : ℕ × List Symbol). told_of_cell row.table (record { index = placed.0 }) placed.1) row.cells col.index told here
 
   module _ (tables : Tables) (key : List Value) where
     -- a row that stands at the key

@@ -10,13 +10,15 @@ use Rattle.schema_laws.proofs.state_demand.lists.Lists.{any_of, of_any}
 use Rattle.emc_base.proofs.Numbered.{map_contains}
 use Rattle.schema_laws.proofs.sound_demand.Fitting.{well_written}
 use Rattle.regions.specs.declared.region.Region.{Region}
+use Rattle.regions.specs.declared.pattern.Focus.{Focus}
 use Rattle.regions.specs.declared.pattern.Focus.TheVariants as focus
 use Rattle.regions.specs.declared.pattern.Symbol.{Symbol}
 use Rattle.regions.specs.declared.pattern.Symbol.TheVariants as symbol
 use Rattle.regions.specs.Basis.{Basis}
-use Rattle.regions.specs.Patterns.{writings_of}
+use Rattle.regions.specs.Patterns.{pattern_of, writings_of}
 use Rattle.regions.specs.Settled.{Possible, Settled, known, free, multi, possible, settle, settled_by, single}
 use Rattle.regions.specs.region_laws.IsBasis.{IsBasis}
+use Rattle.regions.specs.region_laws.pattern.Listed.{Lists}
 use Rattle.regions.proofs.region_laws.pattern.Cells.{cell_apart, cell_of as made_cell}
 use Rattle.regions.proofs.region_laws.pattern.Laws.{listed_from}
 use Rattle.regions.proofs.region_laws.pattern.symbols.Hosting.{side_among}
@@ -61,7 +63,7 @@ module _ (model : EntityModel) (atoms : List AtomOf) where
   const_settled (symbol.End a first p ∷ rest) value is = cc
 
 -- where a choice isn't its first item, the second is chosen
-chosen_other : {X : Type 0} (b : Bool) (one other found : X) → (if b then one else other) ≡ found → ¬ (one ≡ found) → (b ≡ false) × (other ≡ found)
+pub chosen_other : {X : Type 0} (b : Bool) (one other found : X) → (if b then one else other) ≡ found → ¬ (one ≡ found) → (b ≡ false) × (other ≡ found)
 chosen_other true one other found is not = absurd (not is)
 chosen_other false one other found is not = (refl, is)
 
@@ -120,7 +122,7 @@ module _ (basis : Basis) (is : IsBasis basis) where
       let Unnamed : LinkFragment → Type 0 = λ one. one.table ≡ t → ¬ IsNamedBy (one.first ++ one.second) one.conds col in
       All-contains Unnamed basis.schema.mapping.links fragment is_free.unlinked mapped to named
 
-  side_named : (fragment : LinkFragment) → Contains basis.schema.mapping.links fragment → (t : TableId) (col : ColId) → fragment.table ≡ t
+  pub side_named : (fragment : LinkFragment) → Contains basis.schema.mapping.links fragment → (t : TableId) (col : ColId) → fragment.table ≡ t
       → (first : Bool) (pair : Pair) → Contains (side first fragment) pair → pair.col ≡ col → ¬ IsFree basis.schema t col
   side_named fragment mapped t col to first pair among at_col = named_link fragment mapped t col to
       (inl (any_of (λ (one : Pair). one.col ≡ col) (fragment.first ++ fragment.second) pair (side_among first fragment pair among) at_col))
@@ -131,12 +133,12 @@ module _ (basis : Basis) (is : IsBasis basis) where
   cond_named t col cond (inr (fragment, mapped, to, among)) at_col = named_link fragment mapped t col to
       (inr (any_of (λ (one : Cond). one.on ≡ on.Col col) fragment.conds cond among at_col))
 
-  from_named : (region : Region) (t : TableId) (col : ColId) (one : Symbol) → From basis (focus.Entity region) t col one → ¬ IsFree basis.schema t col
-  from_named region t col one (by_pair fragment pair mapped to among at_col same chosen) = named_pair fragment mapped t col to
+  from_named : (of : Focus) (t : TableId) (col : ColId) (one : Symbol) → From basis of t col one → ¬ IsFree basis.schema t col
+  from_named of t col one (by_pair fragment pair mapped to among at_col same chosen) = named_pair fragment mapped t col to
       (inl (any_of (λ (other : Pair). other.col ≡ col) fragment.pairs pair among at_col))
-  from_named region t col one (by_host fragment first pair mapped to among at_col same hosting) = side_named fragment mapped t col to first pair among at_col
-  from_named region t col one (by_end fragment first pair mapped to among at_col same partner) = side_named fragment mapped t col to first pair among at_col
-  from_named region t col one (by_cond cond has at_col gives) = cond_named t col cond has at_col
+  from_named of t col one (by_host fragment first pair mapped to among at_col same hosting) = side_named fragment mapped t col to first pair among at_col
+  from_named of t col one (by_end fragment first pair mapped to among at_col same partner) = side_named fragment mapped t col to first pair among at_col
+  from_named of t col one (by_cond cond has at_col gives) = cond_named t col cond has at_col
 
   -- a column of the primary key of a table that is written isn't free
   pub key_named : (t : TableId) (table : Table) → At basis.schema.store.tables t.index table → IsWritten basis.schema.mapping t → (col : ColId) → Contains table.key col
@@ -173,7 +175,9 @@ module _ (basis : Basis) (is : IsBasis basis) where
         by true told = absurd (not ((decides.tells t col).0 told))
 
     -- a column in which a symbol is listed isn't free
+    pub focus_bound : (of : Focus) (t : TableId) (col : ColId) (one : Symbol) → Lists (pattern_of basis of) t col one → is_free t col ≡ false
+    focus_bound of t col one lists = answered t col (from_named of t col one (listed_from basis is of t col one lists))
+
     pub listed_bound : (region : Region) (t : TableId) (col : ColId) (symbols : List Symbol) → IsCell basis region t col symbols → (one : Symbol) → Contains symbols one
         → is_free t col ≡ false
-    listed_bound region t col symbols has one among = answered t col
-        (from_named region t col one (listed_from basis is (focus.Entity region) t col one (symbols, has, among)))
+    listed_bound region t col symbols has one among = focus_bound (focus.Entity region) t col one (symbols, has, among)

@@ -1,18 +1,12 @@
--- The state of all entities that the query views give.
+-- The state of all entities and links that the query views give.
 -- Source: the query views of Melnik, Adya and Bernstein, SIGMOD 2007; the order of entities is that of this project's documents.
 use Rattle.std.specs.Prelude.{◌≡◌, ◌⊎◌, ◌<◌, ◌↔◌, List, [], AllPairs, Contains, Bool}
 use Rattle.std.specs.List.{AllZip}
-use Rattle.std.specs.Cmp.Lexicographic.{slice_cmp}
-use Rattle.std.specs.declared.cmp.Ordering.TheVariants.{Less}
-use Rattle.emc_base.specs.Order.{value_cmp}
-use Rattle.round_trip.specs.Words.{SetId, TableId, ColId, Value, Place, place_at, EntitySet, Entity, State, Tables, At, IsState, entities_in}
+use Rattle.round_trip.specs.Words.{SetId, AssocId, TableId, ColId, Value, Place, place_at, Assoc, EntitySet, Entity, State, Tables, At, IsState, entities_in, links_in}
 use Rattle.regions.specs.Basis.{Basis}
 use Rattle.case_laws.specs.candidates.Rows.{HasRows}
 use Rattle.case_laws.specs.candidates.Viewed.{IsViewed, LacksCase}
-
--- one key comes before another
-abbrev pub IsBefore : List Value → List Value → Type 0
-IsBefore one later = slice_cmp value_cmp one later ≡ Less
+use Rattle.case_laws.specs.candidates.ViewedLinks.{AreViewedLinks, IsBefore}
 
 -- a set and a key come before another set and key: by the sets' order, and then by that of keys
 abbrev pub IsEarlier : SetId → List Value → SetId → List Value → Type 0
@@ -26,10 +20,15 @@ module _ (basis : Basis) (is_free : TableId → ColId → Bool) (tables : Tables
     pub rising : AllPairs IsBefore keys
     pub each : AllZip (IsViewed basis is_free tables s) keys entities
 
-  -- Candidate(tables): the state of all these entities
-  pub record IsCandidate (state : State) : Type 0 where
+  -- a state of all these entities
+  pub record HasViewedEntities (state : State) : Type 0 where
     pub shape : IsState basis.schema.model state
     pub sets : (s : SetId) (set : EntitySet) → At basis.schema.model.sets s.index set → AreViewed s (entities_in state s)
+
+  -- Candidate(tables): the state of all these entities, and of the links that are given
+  pub record IsCandidate (state : State) : Type 0 where
+    pub entities : HasViewedEntities state
+    pub assocs : (a : AssocId) (assoc : Assoc) → At basis.schema.model.assocs a.index assoc → AreViewedLinks basis is_free tables a (links_in state a)
 
   -- the first key of a set, by set and key, whose rows meet no case, told as a place
   pub record IsFirstLack (place : Place) : Type 0 where

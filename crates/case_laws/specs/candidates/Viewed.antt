@@ -1,11 +1,11 @@
 -- What the query view of an entity set gives at a key.
 -- Source: the query views of Melnik, Adya and Bernstein, SIGMOD 2007.
 use Rattle.std.specs.Prelude.{List, ℕ, take, All, Bool}
-use Rattle.round_trip.specs.Words.{SetId, TableId, ColId, Value, Entity, Tables, At}
+use Rattle.round_trip.specs.Words.{SetId, TableId, ColId, Value, Entity, Hosted, Tables, At}
 use Rattle.regions.specs.Basis.{Basis}
 use Rattle.case_laws.specs.declared.region_cases.case.Case.{Case}
 use Rattle.case_laws.specs.region_cases.Cases.{cases_of}
-use Rattle.case_laws.specs.region_cases.Meets.{IsEntityOf, MeetsCase}
+use Rattle.case_laws.specs.region_cases.Meets.{IsEntityOf, IsLinkOf, MeetsCase}
 use Rattle.case_laws.specs.candidates.Rows.{HasRows}
 
 module _ (basis : Basis) (is_free : TableId → ColId → Bool) (tables : Tables) (s : SetId) (key : List Value) where
@@ -21,6 +21,12 @@ module _ (basis : Basis) (is_free : TableId → ColId → Bool) (tables : Tables
     pub case : Case
     pub first_met : IsFirstMet case
     pub told : IsEntityOf basis tables key case entity
+
+  -- a link that it gives: one that is told by this case
+  pub record IsViewedLink (hosted : Hosted) : Type 0 where
+    pub case : Case
+    pub first_met : IsFirstMet case
+    pub told : IsLinkOf basis tables key case hosted
 
   -- rows stand at the key, and meet no case
   pub record LacksCase : Type 0 where

@@ -1,6 +1,7 @@
 -- Where the rows at a key meet a case, and which entity and links they then tell.
 -- Source: the query views of Melnik, Adya and Bernstein, SIGMOD 2007.
 use Rattle.std.specs.Prelude.{◌≡◌, ◌⊎◌, ◌↔◌, List, length, map, All, Any, Contains, Some, None, IsTrue}
+use Rattle.std.specs.List.{AllZip}
 use Rattle.round_trip.specs.Words.{SetId, TableId, ColId, PropId, AssocId, Value, Null, Prop, Assoc, Table, Pair, Schema, Entity, Hosted, Row, At, InDomain, IsWritten, Tables, rows_in, row_key, cell_of, props_of, key_props, value_beside, value_of}
 use Rattle.round_trip.specs.soundness.mappings.Joined.{prop}
 use Rattle.round_trip.specs.soundness.Lookups.{set_key}
@@ -84,6 +85,10 @@ module _ (basis : Basis) (tables : Tables) (key : List Value) (case : Case) wher
     pub parts : All (λ p. ShowsPart hosted.assoc p (value_beside p (key_props basis.schema.model (partner_end host.first_hosts assoc).ty) hosted.partner))
         (key_props basis.schema.model (partner_end host.first_hosts assoc).ty)
 
-  -- the links that they tell
-  pub record AreLinksOf (links : List Hosted) : Type 0 where
+  -- the links that they tell, in some order
+  pub record HaveLinksOf (links : List Hosted) : Type 0 where
     pub tells : (hosted : Hosted) → Contains links hosted ↔ IsLinkOf hosted
+
+  -- the links that they tell, one of each association of which one is there, in the order of associations
+  abbrev pub AreLinksOf : List Hosted → Type 0
+  AreLinksOf links = AllZip (λ a hosted. (hosted.assoc ≡ a) × IsLinkOf hosted) case.region.linked links

@@ -2,7 +2,7 @@
 -- Source: the query views of Melnik, Adya and Bernstein, SIGMOD 2007; the order of keys is that of this project's documents.
 use Rattle.std.specs.Prelude.{◌↔◌, List, map, All, AllPairs, Contains}
 use Rattle.round_trip.specs.Words.{SetId, Value, Schema, Tables}
-use Rattle.case_laws.specs.candidates.Candidates.{IsBefore}
+use Rattle.case_laws.specs.candidates.ViewedLinks.{IsBefore}
 use Rattle.case_laws.specs.candidates.Rows.{AreRowsAt, HasRows, shown_rows}
 use Rattle.case_laws.specs.declared.candidates.placed.PlacedRow.{PlacedRow}
 
