@@ -6,3 +6,4 @@ pub mod Kept
 pub mod Added
 pub mod Gathering
 pub mod Whole
+pub mod CaseRows

@@ -1,4 +1,5 @@
 pub mod Views
+pub mod CaseRows
 pub mod Making
 pub mod Placed
 pub mod region_table
