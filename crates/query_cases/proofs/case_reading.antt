@@ -3,3 +3,5 @@ mod Turns
 mod CellByCell
 mod Telling
 mod Noting
+mod Parts
+mod Linking

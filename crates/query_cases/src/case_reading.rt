@@ -2,10 +2,11 @@
 
 mod firsts;
 mod laws;
+mod links;
 mod making;
 mod meeting;
 mod reading;
 mod shown;
 
 pub use laws::met_cases_are_read;
-pub use reading::{CellPlace, Reading, Source, Twins};
+pub use reading::{CellPlace, LinkReading, Reading, Source, Twins};

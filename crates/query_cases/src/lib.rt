@@ -9,4 +9,4 @@ mod case_reading;
 pub use case_cells::may_hold;
 pub use case_index::CaseIndex;
 pub use case_making::{cases_of, link_case};
-pub use case_reading::{CellPlace, Reading, Source, Twins, met_cases_are_read};
+pub use case_reading::{CellPlace, LinkReading, Reading, Source, Twins, met_cases_are_read};

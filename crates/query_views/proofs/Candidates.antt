@@ -19,7 +19,8 @@ use Rattle.regions.proofs.region_laws.listing.Possible.{type_fits}
 use Rattle.case_laws.specs.region_cases.Cases.{case_of, cases_of}
 use Rattle.case_laws.specs.declared.region_cases.case.Case.{Case}
 use Rattle.region_partition.proofs.set_regions.Sets.{AreOfFirst}
-use Rattle.case_laws.specs.candidates.Candidates.{AreViewed, IsBefore, IsCandidate, IsEarlier, IsFirstLack}
+use Rattle.case_laws.specs.candidates.Candidates.{AreViewed, HasViewedEntities, IsEarlier, IsFirstLack}
+use Rattle.case_laws.specs.candidates.ViewedLinks.{IsBefore}
 use Rattle.case_laws.specs.candidates.Viewed.{IsViewed, LacksCase}
 use Rattle.query_views.specs.Answers.{Lends, LendsSet, TellsKey}
 use Rattle.query_views.specs.declared.fault.StateFault.{StateFault}
@@ -130,8 +131,8 @@ module _ (basis : Basis) (is_free : TableId → ColId → Bool) (tables : Tables
         links = λ a assoc here. subst (All (IsLink model assoc)) (sym (none_linked loaded.model.now.assocs a.index)) (All-nil (IsLink model assoc));
       }
 
-      -- the state of the lent entities of all sets is the candidate
-      pub is_candidate : IsCandidate basis is_free tables state
+      -- the state of the lent entities of all sets has those that the views give
+      pub is_candidate : HasViewedEntities basis is_free tables state
       is_candidate = record {
         shape = shape;
         sets = λ s set here.

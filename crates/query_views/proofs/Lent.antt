@@ -18,7 +18,8 @@ use Rattle.round_trip.specs.Words.{At, ColId, Place, SetId, TableId, Tables, Val
 use Rattle.regions.specs.Basis.{Basis}
 use Rattle.keyed_rows.specs.row_groups.Shown.{shown_cells, shown_group}
 use Rattle.keyed_rows.specs.declared.row_groups.groups.KeyGroup.{KeyGroup}
-use Rattle.case_laws.specs.candidates.Candidates.{AreViewed, IsBefore}
+use Rattle.case_laws.specs.candidates.Candidates.{AreViewed}
+use Rattle.case_laws.specs.candidates.ViewedLinks.{IsBefore}
 use Rattle.case_laws.specs.candidates.Rows.{AreRowsAt, HasRows, shown_rows}
 use Rattle.case_laws.specs.candidates.Viewed.{IsViewed, LacksCase}
 use Rattle.case_laws.specs.declared.candidates.placed.PlacedRow.{PlacedRow}

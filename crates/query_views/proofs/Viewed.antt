@@ -27,12 +27,12 @@ use Rattle.query_views.proofs.Zips.{all_before, zip_beside}
 module _ (basis : Basis) (is_free : TableId → ColId → Bool) (tables : Tables) (s : SetId) (key : List Value) where
   -- rows at a key meet a case of the set exactly where they do as it is read
   abbrev pub MeetAsRead : List (TableId × Row) → Type 0
-  MeetAsRead rows = (case : Case) → Contains (cases_of is_free basis s) case → (reading : Reading) → IsReadingOf basis.schema.model case reading
+  MeetAsRead rows = (case : Case) → Contains (cases_of is_free basis s) case → (reading : Reading) → IsReadingOf basis case reading
       → MeetsCase basis tables key case ↔ MeetsBy basis rows case reading
 
   -- and then tell the entity that is read
   abbrev pub TellAsRead : List (TableId × Row) → Type 0
-  TellAsRead rows = (case : Case) → Contains (cases_of is_free basis s) case → (reading : Reading) → IsReadingOf basis.schema.model case reading
+  TellAsRead rows = (case : Case) → Contains (cases_of is_free basis s) case → (reading : Reading) → IsReadingOf basis case reading
       → MeetsCase basis tables key case → IsEntityOf basis tables key case (read_entity reading case.region.ty rows)
 
   -- where a query view gives an entity, the rows meet a case
@@ -72,7 +72,7 @@ module _ (basis : Basis) (is_free : TableId → ColId → Bool) (views : QueryVi
   readings_are = ap (λ (found : Option SetReader). option_map_or (λ reader. reader.readings) found []) of_reader.1
 
   abbrev IsRead : Case → Reading → Type 0
-  IsRead case reading = IsReadingOf basis.schema.model case reading
+  IsRead case reading = IsReadingOf basis case reading
 
   -- and are read by their readings
   are_read : AllZip IsRead (cases_in views s) (readings_in views s)

@@ -9,7 +9,8 @@ use Rattle.case_laws.specs.candidates.Rows.{AreRowsAt, HasRows, shown_rows}
 use Rattle.case_laws.specs.candidates.Viewed.{IsViewed, LacksCase}
 use Rattle.keyed_rows.specs.declared.row_groups.groups.KeyGroup.{KeyGroup}
 use Rattle.keyed_rows.specs.row_groups.Shown.{shown_cells}
-use Rattle.case_laws.specs.candidates.Candidates.{AreViewed, IsBefore, IsCandidate, IsFirstLack}
+use Rattle.case_laws.specs.candidates.Candidates.{AreViewed, HasViewedEntities, IsFirstLack}
+use Rattle.case_laws.specs.candidates.ViewedLinks.{IsBefore}
 use Rattle.query_views.specs.declared.fault.EntityFault.{EntityFault}
 use Rattle.query_views.specs.declared.fault.EntityFault.TheVariants as entity
 use Rattle.query_views.specs.declared.fault.Found.{Found}
@@ -33,13 +34,13 @@ module _ (basis : Basis) (is_free : TableId → ColId → Bool) (tables : Tables
 
   -- the state of all entities that the query views give; or the first key whose rows meet no case. Memory says nothing.
   abbrev pub StateOf : Result State StateFault → Type 0
-  StateOf (Ok state) = IsCandidate basis is_free tables state
+  StateOf (Ok state) = HasViewedEntities basis is_free tables state
   StateOf (Err (state.NoCase place)) = IsFirstLack basis is_free tables place
   StateOf (Err state.Memory) = ⊤
 
   -- the same, where the entities are lent, with the model
   abbrev pub Lends : Result Loaded StateFault → Type 0
-  Lends (Ok loaded) = (loaded.model.now ≡ basis.schema.model) × IsCandidate basis is_free tables (lent_state loaded)
+  Lends (Ok loaded) = (loaded.model.now ≡ basis.schema.model) × HasViewedEntities basis is_free tables (lent_state loaded)
   Lends (Err (state.NoCase place)) = IsFirstLack basis is_free tables place
   Lends (Err state.Memory) = ⊤
 

@@ -1,11 +1,11 @@
-ghost use Rattle.std.specs.Prelude.{◌≡◌, IfOk};
+ghost use Rattle.std.specs.Prelude.{◌≡◌, All, IfOk};
 ghost use Rattle.std.specs.List.{AllZip};
 ghost use Rattle.query_cases.specs.case_reading.Reading.{IsReadingOf};
 ghost use Rattle.cells.specs.Cells.{is_free_in};
 ghost use Rattle.cells.specs.Parts.{AreParts};
 ghost use Rattle.region_states.specs.region_basis.BasisOf.{basis_of};
 ghost use Rattle.region_partition.specs.set_regions.Regions.{AreRegions};
-ghost use Rattle.query_views.specs.Views.{AreCases, AreQueryViewsOf, IsReaderOf};
+ghost use Rattle.query_views.specs.Views.{AreCases, AreQueryViewsOf, IsCaseOf, IsReaderOf};
 
 use crate::views::{QueryViews, SetReader};
 use case_laws::Case;
@@ -55,7 +55,8 @@ fn readers_of(
     parts: &Parts<'_>,
     cases: &[Seq<Case>],
 ) -> Result<Seq<SetReader>, Memory>
-    requires { AreParts parts.now }
+    requires parts { AreParts parts.now }
+    requires cases { AreCases (basis_of parts.now) (is_free_in parts.now.cells.now) cases.now }
     ensures { IfOk result (AllZip (IsReaderOf (basis_of parts.now)) cases.now) }
 {
     let mut readers = Seq::empty(alloc);
@@ -67,7 +68,8 @@ fn readers_of(
 
 // The reader of a set, by its cases.
 fn reader_of(alloc: Global, parts: &Parts<'_>, cases: &[Case]) -> Result<SetReader, Memory>
-    requires { AreParts parts.now }
+    requires parts { AreParts parts.now }
+    requires cases { All (IsCaseOf (basis_of parts.now) (is_free_in parts.now.cells.now)) cases.now }
     ensures { IfOk result (IsReaderOf (basis_of parts.now) cases.now) }
 {
     Ok(SetReader {
@@ -78,7 +80,9 @@ fn reader_of(alloc: Global, parts: &Parts<'_>, cases: &[Case]) -> Result<SetRead
 
 // How entities are read by each case.
 fn readings_of(alloc: Global, parts: &Parts<'_>, cases: &[Case]) -> Result<Seq<Reading>, Memory>
-    ensures { IfOk result (AllZip (IsReadingOf parts.now.model.now) cases.now) }
+    requires parts { AreParts parts.now }
+    requires cases { All (IsCaseOf (basis_of parts.now) (is_free_in parts.now.cells.now)) cases.now }
+    ensures { IfOk result (AllZip (IsReadingOf (basis_of parts.now)) cases.now) }
 {
     let mut readings = Seq::empty(alloc);
     for case in cases {

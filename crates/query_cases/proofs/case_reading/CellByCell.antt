@@ -109,7 +109,7 @@ module _ (is_free : TableId → ColId → Bool) (basis : Basis) (region : Region
         }
 
     -- the cell at a place where a property is shown
-    cell_read : (place : CellPlace) (placed : TableId × Row) → At rows place.row placed → cell_at rows place ≡ cell_of placed.1 (record { index = place.col })
+    pub cell_read : (place : CellPlace) (placed : TableId × Row) → At rows place.row placed → cell_at rows place ≡ cell_of placed.1 (record { index = place.col })
     cell_read place placed at = ap (λ found. option_map_or (λ (one : TableId × Row). cell_of one.1 (record { index = place.col })) found Null) at
 
     pub shown_here : (p : PropId) (place : CellPlace) → ShowsAt case p place → Shows p (cell_at rows place)
@@ -189,14 +189,14 @@ module _ (is_free : TableId → ColId → Bool) (basis : Basis) (region : Region
     besides = tables_beside may_meet
 
     -- and twins agree
-    pub twins_agree : (reading : Reading) → IsReadingOf basis.schema.model case reading → AgreeTwins reading rows
+    pub twins_agree : (reading : Reading) → IsReadingOf basis case reading → AgreeTwins reading rows
     twins_agree reading is_reading = all_from_members (λ (two : Twins). cell_at rows two.first ≡ cell_at rows two.later) reading.twins
         (λ two has.
         let both = All-contains (λ (two : Twins). (p : PropId) × ShowsAt case p two.first × ShowsAt case p two.later) reading.twins two is_reading.twins has in
         met.one both.0 (cell_at rows two.first) (cell_at rows two.later) (shown_here besides both.0 two.first both.1) (shown_here besides both.0 two.later both.2))
 
   -- rows whose cells may hold their values, and whose twins agree
-  module _ (may : MayMeet basis case rows) (reading : Reading) (is_reading : IsReadingOf basis.schema.model case reading) (agree : AgreeTwins reading rows) where
+  module _ (may : MayMeet basis case rows) (reading : Reading) (is_reading : IsReadingOf basis case reading) (agree : AgreeTwins reading rows) where
     abbrev beside : AllZip (λ (row : CaseRow) (placed : TableId × Row). row.table ≡ placed.0) case.rows rows
     beside = tables_beside may
 

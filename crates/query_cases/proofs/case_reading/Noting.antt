@@ -11,8 +11,9 @@ use Rattle.emc_base.proofs.Lists.{all_from_members}
 use Rattle.emc_base.proofs.Mapped.{all_zip-map, contains_enumerated}
 use Rattle.emc_base.proofs.Numbered.{enumerated_at}
 use Rattle.emc_base.proofs.facts.Orderings.{tells_number}
-use Rattle.round_trip.specs.Words.{At, EntityModel, Null, PropId, Value, props_of}
+use Rattle.round_trip.specs.Words.{At, Null, PropId, Value, props_of}
 use Rattle.schema_laws.proofs.state_demand.lists.Lists.{contains_flat_map, head_stands, member_cases, member_of_flat_map, none_in_nil}
+use Rattle.regions.specs.Basis.{Basis}
 use Rattle.case_laws.specs.declared.region_cases.case.Case.{Case}
 use Rattle.case_laws.specs.declared.region_cases.case.CaseCell.{CaseCell}
 use Rattle.case_laws.specs.declared.region_cases.case.CaseCell.TheVariants as cell
@@ -22,6 +23,7 @@ use Rattle.query_cases.specs.declared.case_reading.reading.CellPlace.{CellPlace}
 use Rattle.query_cases.specs.declared.case_reading.reading.Reading.{Reading}
 use Rattle.query_cases.specs.declared.case_reading.reading.Source.TheVariants as source
 use Rattle.query_cases.specs.declared.case_reading.reading.Twins.{Twins}
+use Rattle.query_cases.specs.case_reading.Links.{IsLinkReading}
 use Rattle.query_cases.specs.case_reading.Noted.{AreNoted, first_source, source_by}
 use Rattle.query_cases.specs.case_reading.Reading.{IsReadAs, IsReadingOf, IsSource, ShowsAt, fixed_value}
 use Rattle.query_cases.specs.case_reading.Shown.{shown_cell, shown_props, shown_row}
@@ -169,8 +171,9 @@ module _ (case : Case) where
       (contains_enumerated shows.row.cells place.col (cell.Prop p) shows.at_cell) (head_stands (p, place) []))
 
   -- what is noted of all cells is a reading
-  module _ (model : EntityModel) (reading : Reading) (firsts : BTreeMap ℕ CellPlace) (noted : AreNoted (shown_props case.rows) firsts reading.twins)
-      (values : reading.values ≡ map (source_by case.region.atoms firsts) (props_of model case.region.ty)) where
+  module _ (basis : Basis) (reading : Reading) (firsts : BTreeMap ℕ CellPlace) (noted : AreNoted (shown_props case.rows) firsts reading.twins)
+      (values : reading.values ≡ map (source_by case.region.atoms firsts) (props_of basis.schema.model case.region.ty))
+      (links : AllZip (IsLinkReading basis case) case.region.linked reading.links) where
     abbrev first_place : PropId → CellPlace
     first_place p = unwrap_or (get nat_cmp firsts p.index) (record { row = 0; col = 0 })
 
@@ -197,15 +200,16 @@ module _ (case : Case) where
         let first : found.0 ≡ first_place p = ap (λ one. unwrap_or one (record { row = 0; col = 0 })) (sym found.1) in
         subst (λ (one : CellPlace). (place ≡ one) ⊎ Contains reading.twins (record { first = one; later = place })) first found.2
 
-    pub reading_is : IsReadingOf model case reading
+    pub reading_is : IsReadingOf basis case reading
     reading_is = record {
-      values = subst (AllZip (IsSource case) (props_of model case.region.ty)) (sym values)
-          (all_zip-map (λ (p : PropId). p ≡ p) (IsSource case) (source_by case.region.atoms firsts) (λ p same. source_is p) (props_of model case.region.ty)
-          (all_from_members (λ (p : PropId). p ≡ p) (props_of model case.region.ty) (λ p has. refl)));
+      values = subst (AllZip (IsSource case) (props_of basis.schema.model case.region.ty)) (sym values)
+          (all_zip-map (λ (p : PropId). p ≡ p) (IsSource case) (source_by case.region.atoms firsts) (λ p same. source_is p) (props_of basis.schema.model case.region.ty)
+          (all_from_members (λ (p : PropId). p ≡ p) (props_of basis.schema.model case.region.ty) (λ p has. refl)));
       twins = all_from_members (λ (two : Twins). (p : PropId) × ShowsAt case p two.first × ShowsAt case p two.later) reading.twins
           (λ two has.
           let found = All-contains (AreListed (shown_props case.rows)) reading.twins two noted.pairs has in
           (found.0, listed_shows found.0 two.first found.1, listed_shows found.0 two.later found.2));
       first = first_place;
       linked = linked_is;
+      links = links;
     }

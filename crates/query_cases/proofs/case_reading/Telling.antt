@@ -66,7 +66,7 @@ module _ (model : EntityModel) (atoms : List AtomOf) where
 module _ (is_free : TableId → ColId → Bool) (basis : Basis) (is : IsBasis basis) (s : SetId) (region : Region) (listed : Contains (regions_of basis s) region)
     (tables : Tables) (key : List Value) (rows : List (TableId × Row)) (here : AreRowsAt basis.schema tables region.set key rows)
     (met : MeetsCase basis tables key (case is_free basis region tables key rows here))
-    (reading : Reading) (is_reading : IsReadingOf basis.schema.model (case is_free basis region tables key rows here) reading) where
+    (reading : Reading) (is_reading : IsReadingOf basis (case is_free basis region tables key rows here) reading) where
   abbrev props : List PropId
   props = props_of basis.schema.model region.ty
 

@@ -1,8 +1,12 @@
 -- Lists side by side.
-use Rattle.std.proofs.Common.{◌≡◌, ⊎_elim, ◌<◌, ◌≤◌, ◌==◌, ℕ, zero, suc, List, [], ◌∷◌, map, length, get_or, Bool, true, false, AllPairs, Contains, refl, sym, ap, subst, arith}
+use Rattle.std.proofs.Common.{◌≡◌, ⊎_elim, ◌<◌, ◌≤◌, ◌==◌, ◌+◌, ◌++◌, ℕ, zero, suc, List, [], ◌∷◌, map, length, take, get_or, Bool, true, false, AllPairs, Contains, refl, sym, ap, subst, ◌∙◌, arith}
 use Rattle.std.specs.List.{AllZip}
+use Rattle.std.proofs.lemmas.List.{map-append}
 use Rattle.std.proofs.lemmas.List.Elements.{All-contains}
 use Rattle.std.proofs.lemmas.Option.{get_or_from_slice_get, slice_get_within}
+use Rattle.emc_base.proofs.Loops.{take_item}
+use Rattle.emc_base.proofs.Turns.{mapped_more}
+use Rattle.emc_base.proofs.facts.Zipped.{zip_push}
 use Rattle.round_trip.specs.Words.{At, PropId, Value, value_beside}
 use Rattle.regions.proofs.region_laws.lists.Choices.{pairs_head, pairs_tail}
 use Rattle.schema_laws.proofs.state_demand.lists.Ids.{Decides-prop}
@@ -135,3 +139,15 @@ module _ {X : Type 0} (P : PropId → X → Type 0) (f : X → Value) where
           (λ (later : Contains props p). later)
           (member_cases q props p has)) in
           record { item = rest.item; so = rest.so; is = rw told rest.is }
+
+-- one more item stands beside one
+pub zip_more : {X Y : Type 0} (R : X → Y → Type 0) (xs : List X) (i : ℕ) (x : X) (ys : List Y) (y : Y) (now : List Y) → At xs i x → AllZip R (take i xs) ys → R x y
+    → now ≡ ys ++ y ∷ [] → AllZip R (take (i + 1) xs) now
+zip_more {X} {Y} R xs i x ys y now here zip so is =
+    let P : List X → List Y → Type 0 = AllZip R in
+    subst (P (take (i + 1) xs)) (sym is) (subst (λ (list : List X). P list (ys ++ y ∷ [])) (sym (take_item xs i x here)) (zip_push R (take i xs) ys x y zip so))
+
+-- one more lent item is what is made of one
+pub lent_more : {U X Y : Type 0} (g : U → Y) (f : X → Y) (us : List U) (u : U) (now : List U) (items : List X) (i : ℕ) (item : X) → now ≡ us ++ u ∷ []
+    → map g us ≡ map f (take i items) → At items i item → g u ≡ f item → map g now ≡ map f (take (i + 1) items)
+lent_more g f us u now items i item is so here same = ap (map g) is ∙ map-append g us (u ∷ []) ∙ mapped_more f items i item (map g us) (g u) so here same

@@ -8,7 +8,7 @@ use Rattle.query_views.proofs.Firsts.{finds_first}
 use Rattle.query_views.proofs.views.SetReader.first_met.Goals as goal
 
 pub first_among-requires-clause-size : goal.first_among-requires-clause-size
-first_among-requires-clause-size c = sym (zip_long (IsReadingOf c.args.parts.now.model.now) c.args.cases.now c.args.self.now.readings c.requires.reader.readings)
+first_among-requires-clause-size c = sym (zip_long (IsReadingOf (basis_of c.args.parts.now)) c.args.cases.now c.args.self.now.readings c.requires.reader.readings)
 
 pub first_among-requires-clause-within : goal.first_among-requires-clause-within
 first_among-requires-clause-within c =
