@@ -1,3 +1,4 @@
 pub mod shape_faults
 pub mod entity_documents
 pub mod table_documents
+pub mod printed

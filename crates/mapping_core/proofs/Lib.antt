@@ -5,3 +5,4 @@ pub mod Stored
 pub mod Comparing
 pub mod Telling
 pub mod OwnTables
+pub mod printed

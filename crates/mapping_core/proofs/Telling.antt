@@ -1,6 +1,8 @@
 -- The state that tables tell by query views, or why there is none.
-use Rattle.std.proofs.Common.{Bool, Err, IsErrAnd, Ok, Result, refl, sym, subst, ◌≡◌}
-use Rattle.round_trip.specs.Words.{Breach, ColId, IsBreachOf, IsLegal, Place, RoundTrips, State, TableId, Tables, TablesAre}
+use Rattle.std.proofs.Common.{[], List, Bool, Err, IsErrAnd, Ok, Result, refl, sym, subst, ◌≡◌}
+use Rattle.round_trip.specs.Words.{Assoc, At, Breach, ColId, IsBreachOf, IsLegal, Place, RoundTrips, State, TableId, Tables, TablesAre}
+use Rattle.emc_base.proofs.Mapped.{contains_at}
+use Rattle.schema_laws.proofs.state_demand.lists.Lists.{none_in_nil}
 use Rattle.cells.specs.Cells.{is_free_in}
 use Rattle.cells.specs.Limits.{IsWithinLimits}
 use Rattle.cells.specs.Parts.{AreParts, schema_in}
@@ -9,8 +11,7 @@ use Rattle.region_states.specs.region_basis.BasisOf.{basis_of}
 use Rattle.region_states.proofs.region_basis.Bases.{basis_is}
 use Rattle.regions.specs.Basis.{Basis}
 use Rattle.regions.specs.region_laws.IsBasis.{IsBasis}
-use Rattle.region_states.specs.NoAssociations.{HasNoAssociationSets}
-use Rattle.case_laws.specs.candidates.Candidates.{IsCandidate, IsFirstLack}
+use Rattle.case_laws.specs.candidates.Candidates.{HasViewedEntities, IsCandidate, IsFirstLack}
 use Rattle.case_laws.proofs.candidate_laws.FreeCells.{cells_tell}
 use Rattle.case_laws.proofs.candidate_laws.OwnView.{case_met}
 use Rattle.case_laws.proofs.candidate_laws.SameCandidate.{legal_too, rows_same, same}
@@ -55,7 +56,7 @@ module _ (parts : Parts) (form : IsDecided (schema_in parts)) (accepted : IsAcce
 
     pub no_case : (place : Place) → IsFirstLack basis is_free tables place → HasNoStateBy (schema_in parts) tables (λ b f. IsFirstLack b f tables place)
     no_case place lack = none_by (λ b f. IsFirstLack b f tables place)
-        (λ state legal has. case_met basis is are.limits form.alone accepted.round_trips is_free decides state legal tables has lack.s lack.key lack.lacks) lack
+        (λ state legal has. case_met basis is are.limits accepted.round_trips is_free decides state legal tables has lack.s lack.key lack.lacks) lack
 
     -- what the query views tell, where they tell no state
     pub lacks : (fault : StateFault) (result : Result State LoadFault) → IsErrAnd result (TellsLack fault) → StateOf basis is_free tables (Err fault)
@@ -66,11 +67,19 @@ module _ (parts : Parts) (form : IsDecided (schema_in parts)) (accepted : IsAcce
     lacks query.Memory (Err given) is_told lack =
         let Told : LoadFault → Type 0 = λ told. LoadsLegal (schema_in parts) tables (Err told) in subst Told (sym is_told) tt
 
-    module _ (candidate : State) (of_tables : IsCandidate basis is_free tables candidate) where
+    module _ (candidate : State) (viewed : HasViewedEntities basis is_free tables candidate) where
+      -- where no association set is declared, a state of all entities is the candidate
+      of_tables : IsCandidate basis is_free tables candidate
+      of_tables = record {
+        entities = viewed;
+        assocs = λ a assoc here. (let Here : List Assoc → Type 0 = λ assocs. At assocs a.index assoc in
+            absurd (none_in_nil assoc (contains_at [] a.index assoc (subst Here form.alone here))));
+      }
+
       pub illegal : (breach : Breach) → IsBreachOf (schema_in parts).model candidate breach → HasNoStateBy (schema_in parts) tables (TellsIllegal tables breach)
       illegal breach breaks = none_by (TellsIllegal tables breach)
           (λ state legal has. no_first_breach (schema_in parts).model candidate breach
-          (legal_too basis is are.limits form.alone accepted.round_trips is_free decides tables candidate of_tables state legal has) breaks)
+          (legal_too basis is are.limits accepted.round_trips is_free decides tables candidate of_tables state legal has) breaks)
           (record { candidate = candidate; is = of_tables; breaks = breaks })
 
       module _ (legal : IsLegal (schema_in parts).model candidate) where
@@ -78,14 +87,14 @@ module _ (parts : Parts) (form : IsDecided (schema_in parts)) (accepted : IsAcce
             → ¬ AreSameButFree (schema_in parts).store is_free tables fresh → HasNoStateBy (schema_in parts) tables (TellsDifferent tables found)
         differs found fresh are_fresh first apart = none_by (TellsDifferent tables found)
             (λ state legal has. apart (same_but_free (schema_in parts) is_free decides tables state has fresh
-            (rows_same basis is are.limits form.alone accepted.round_trips is_free decides tables candidate of_tables state legal has fresh are_fresh)))
+            (rows_same basis is are.limits accepted.round_trips is_free decides tables candidate of_tables state legal has fresh are_fresh)))
             (record { candidate = candidate; is = of_tables; legal = legal; fresh = fresh; are = are_fresh; first = first })
 
         pub loaded : HasStateTables (schema_in parts) candidate tables → IsLoaded (schema_in parts) tables candidate
         loaded has = record {
           legal = legal;
           has = has;
-          only = λ other other_legal other_has. same basis is are.limits form.alone accepted.round_trips is_free decides tables candidate of_tables other other_legal other_has;
+          only = λ other other_legal other_has. same basis is are.limits accepted.round_trips is_free decides tables candidate of_tables other other_legal other_has;
           basis = basis;
           is_free = is_free;
           read_by = read_by;

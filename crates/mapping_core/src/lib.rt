@@ -26,7 +26,7 @@ pub use edm_types::{
 pub use entity_state::EntityState;
 pub use json_form::{Doc, DocFault, place_text, quoted};
 pub use loading::{LoadFault, load};
-pub use loading_laws::what_is_stored_is_loaded;
+pub use loading_laws::{what_is_printed_is_loaded, what_is_stored_is_loaded};
 pub use mapping_verdict::first_failure;
 pub use reading::{one_rule, read};
 pub use round_trip::FailKind;

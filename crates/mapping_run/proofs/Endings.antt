@@ -4,7 +4,8 @@ use Rattle.std.proofs.lemmas.Bool.Decides.{nat_tests}
 use Rattle.std.specs.Bool.{⊤}
 use Rattle.std.proofs.lemmas.List.{append-nil}
 use Rattle.emc_files.specs.Files.{FileMap}
-use Rattle.mapping_core.specs.Words.{IsAccepted, Means, Schema, State, Tables}
+use Rattle.mapping_core.specs.Rules.{IsReadSchema}
+use Rattle.mapping_core.specs.Words.{IsAccepted, Schema, State, Tables}
 use Rattle.mapping_run.specs.declared.answers.answer.Answer.{Answer}
 use Rattle.mapping_run.specs.declared.answers.status.Status.{Status}
 use Rattle.mapping_run.specs.declared.answers.status.Status.TheVariants.{Done, MappingRefused, DocumentRefused, Usage, FileFault, SinkFault, Memory}
@@ -61,7 +62,7 @@ module _ (answer : Answer) where
   of_accepted Load contents schema gives = of_loaded gives.0 schema gives.2
 
   of_documents : (command : Command) (contents : List (List ℕ)) (csdl ssdl msl : List ℕ)
-      → RefusesMapping csdl ssdl msl answer ⊎ ((schema : Schema) × Means csdl ssdl msl schema × IsAccepted schema × GivesBy command contents schema answer)
+      → RefusesMapping csdl ssdl msl answer ⊎ ((schema : Schema) × IsReadSchema csdl ssdl msl schema × IsAccepted schema × GivesBy command contents schema answer)
       → IsOfText answer.status
   of_documents command contents csdl ssdl msl (inl refuses) = of_mapping csdl ssdl msl refuses
   of_documents command contents csdl ssdl msl (inr accepted) = of_accepted command contents accepted.0 accepted.3

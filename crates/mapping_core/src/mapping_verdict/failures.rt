@@ -4,6 +4,7 @@ ghost use Rattle.region_states.specs.conflicts.Conflicts.{IsConflictAt, IsLinkCo
 ghost use Rattle.region_states.specs.conflicts.There.{FailsThere, LinksFailThere, NoneFailsBefore, NoneFailsBy};
 ghost use Rattle.region_states.specs.declared.conflicts.conflict.Conflict.{Conflict};
 ghost use Rattle.region_states.specs.region_basis.BasisOf.{basis_of};
+ghost use Rattle.failure_laws.specs.Facts.{IsSo};
 ghost use Rattle.round_trip.specs.Words.{Assoc, AssocId, At, EntitySet, Keeps, RoundTrips, SetId};
 ghost use Rattle.round_trip.specs.declared.FailKind.TheVariants as fails;
 ghost use Rattle.witness_state.specs.Failures.{IsFailureOf};
@@ -14,7 +15,7 @@ ghost use Rattle.mapping_core.specs.mapping_verdict.Conflicts.{IsSomeConflict};
 use cells::Parts;
 use containment::{first_conflict, first_link_conflict};
 use emc_base::{AssocId, Memory, Seq, SetId};
-use failure_laws::{a_mapping_round_trips_place_by_place, facts_are_computed};
+use failure_laws::a_mapping_round_trips_place_by_place;
 use region_states::{Conflict, parts_are_a_basis};
 use regions::Region;
 use round_trip::FailKind;
@@ -68,7 +69,6 @@ fn failure_by(
 {
     parts_are_a_basis();
     a_mapping_round_trips_place_by_place();
-    facts_are_computed();
     match conflict_by(alloc, parts, kind, regions)? {
         Some(conflict) => Ok(Some(build(alloc, parts, &conflict)?)),
         None => Ok(None),
@@ -109,7 +109,7 @@ fn conflict_of_sets(
     requires kind { kind ≢ fails.Dangling }
     requires earlier { NoneFailsBefore (schema_in parts.now) kind }
     requires regions { AreRegions (basis_of parts.now) regions.now }
-    ensures told { IfOk result (λ found. (conflict : Conflict) → found ≡ Some conflict → (s : SetId) × IsConflictAt (basis_of parts.now) s kind conflict) }
+    ensures told { IfOk result (λ found. (conflict : Conflict) → found ≡ Some conflict → (s : SetId) × IsConflictAt (basis_of parts.now) s kind conflict × IsSo (basis_of parts.now) conflict) }
     ensures none { IfOk result (λ found. found ≡ None → (s : SetId) (set : EntitySet) → At (schema_in parts.now).model.sets s.index set → ¬ FailsThere (basis_of parts.now) s kind) }
 {
     for (index, of_set) in regions.as_slice().iter().enumerate() {
@@ -132,7 +132,7 @@ fn conflict_of_links(
     requires parts { AreParts parts.now }
     requires kind { kind ≢ fails.Dangling }
     requires earlier { NoneFailsBefore (schema_in parts.now) kind }
-    ensures told { IfOk result (λ found. (conflict : Conflict) → found ≡ Some conflict → (a : AssocId) × IsLinkConflictAt (basis_of parts.now) a kind conflict) }
+    ensures told { IfOk result (λ found. (conflict : Conflict) → found ≡ Some conflict → (a : AssocId) × IsLinkConflictAt (basis_of parts.now) a kind conflict × IsSo (basis_of parts.now) conflict) }
     ensures none { IfOk result (λ found. found ≡ None → (a : AssocId) (assoc : Assoc) → At (schema_in parts.now).model.assocs a.index assoc
         → ¬ LinksFailThere (basis_of parts.now) a kind) }
 {

@@ -1,7 +1,8 @@
 -- What documents mean that break no rule is accepted, or isn't, as it was decided.
 use Rattle.std.proofs.Common.{◌≡◌, ℕ, List, Result, Ok, Err, inl, inr, sym, subst}
 use Rattle.emc_base.specs.Lists.{At}
-use Rattle.mapping_core.specs.Words.{IsAccepted, IsFailureOf, Means, Schema}
+use Rattle.mapping_core.specs.Rules.{IsReadSchema}
+use Rattle.mapping_core.specs.Words.{IsAccepted, IsFailureOf, Schema}
 use Rattle.mapping_core.specs.Compiles.{Decides}
 use Rattle.mapping_core.specs.declared.compiled.Compiled.{Compiled}
 use Rattle.mapping_core.specs.declared.verdict.Refusal.{Refusal}
@@ -19,11 +20,11 @@ module _ (contents : List (List ℕ)) (csdl ssdl msl : List ℕ) (at_csdl : At c
   these : {Holds : List ℕ → List ℕ → List ℕ → Type 0} → Holds csdl ssdl msl → HasDocuments contents Holds
   these holds = record { csdl = csdl; ssdl = ssdl; msl = msl; at_csdl = at_csdl; at_ssdl = at_ssdl; at_msl = at_msl; holds = holds }
 
-  pub accepts_meant : (schema : Schema) → Means csdl ssdl msl schema → (result : Result Compiled Halt) → AcceptsSchema schema result → Accepts contents result
-  accepts_meant schema means (Ok compiled) (same, accepted) =
-      let Is : Schema → Type 0 = λ one. Means csdl ssdl msl one × IsAccepted one in these (subst Is (sym same) (means, accepted))
-  accepts_meant schema means (Err (Tells answer)) refuses = these (inr (schema, means, refuses))
-  accepts_meant schema means (Err Memory) given = tt
+  pub accepts_meant : (schema : Schema) → IsReadSchema csdl ssdl msl schema → (result : Result Compiled Halt) → AcceptsSchema schema result → Accepts contents result
+  accepts_meant schema read (Ok compiled) (same, accepted) =
+      let Is : Schema → Type 0 = λ one. IsReadSchema csdl ssdl msl one × IsAccepted one in these (subst Is (sym same) (read, accepted))
+  accepts_meant schema read (Err (Tells answer)) refuses = these (inr (schema, read.means, refuses))
+  accepts_meant schema read (Err Memory) given = tt
 
 -- what tells of a refusal tells why what documents mean isn't accepted
 refuses_answered : (schema : Schema) (refusal : Refusal) → Decides schema (Err refusal) → (answer : Answer) → IsRefusal refusal answer → RefusesSchema schema answer

@@ -2,7 +2,8 @@
 use Rattle.std.proofs.Common.{◌≡◌, ℕ, List, Result, Ok, Err, IfOk, inl, inr, subst}
 use Rattle.emc_base.specs.Lists.{At}
 use Rattle.emc_base.specs.declared.memory.Memory.{Memory}
-use Rattle.mapping_core.specs.Words.{HoldsState, HoldsTables, IsAccepted, IsViewsText, Means, Schema, State, Tables}
+use Rattle.mapping_core.specs.Rules.{IsReadSchema}
+use Rattle.mapping_core.specs.Words.{HoldsState, HoldsTables, IsAccepted, IsViewsText, Schema, State, Tables}
 use Rattle.mapping_run.specs.declared.answers.answer.Answer.{Answer}
 use Rattle.mapping_run.specs.declared.answers.command.Command.{Command}
 use Rattle.mapping_run.specs.declared.answers.command.Command.TheVariants.{Views, Store, Load}
@@ -28,7 +29,7 @@ module _ (command : Command) (contents : List (List ℕ)) where
   answers_refused answer refuses = documents_give refuses (λ csdl ssdl msl why. inl why)
 
   -- by an accepted one, unless memory ran out
-  pub answers_accepted : (schema : Schema) → HasDocuments contents (λ csdl ssdl msl. Means csdl ssdl msl schema × IsAccepted schema) → (result : Result Answer Memory)
+  pub answers_accepted : (schema : Schema) → HasDocuments contents (λ csdl ssdl msl. IsReadSchema csdl ssdl msl schema × IsAccepted schema) → (result : Result Answer Memory)
       → IfOk result (GivesBy command contents schema) → IfOk result (GivesOn command contents)
   answers_accepted schema accepts (Ok answer) given = documents_give accepts (λ csdl ssdl msl is. inr (schema, is.0, is.1, given))
   answers_accepted schema accepts (Err memory) given = tt

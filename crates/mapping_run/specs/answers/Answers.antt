@@ -1,6 +1,7 @@
 -- What the steps of answering a command give: whether the mapping is accepted, and why tables are refused.
 use Rattle.std.specs.Prelude.{◌≡◌, ℕ, List, Any, Result, Ok, Err, ⊤}
-use Rattle.mapping_core.specs.Words.{IsAccepted, IsFailureOf, Means, Schema}
+use Rattle.mapping_core.specs.Rules.{IsReadSchema}
+use Rattle.mapping_core.specs.Words.{IsAccepted, IsFailureOf, Schema}
 use Rattle.mapping_core.specs.declared.loading.LoadFault.{LoadFault}
 use Rattle.mapping_core.specs.declared.loading.LoadFault.TheVariants as load
 use Rattle.mapping_core.specs.declared.verdict.Refusal.{Refusal}
@@ -15,7 +16,7 @@ use Rattle.mapping_run.specs.answers.Gives.{HasDocuments, RefusesMapping, Refuse
 
 -- the accepted mapping of the documents that are the first three of these contents; or what is told where they aren't accepted
 abbrev pub Accepts : List (List ℕ) → Result Compiled Halt → Type 0
-Accepts contents (Ok compiled) = HasDocuments contents (λ csdl ssdl msl. Means csdl ssdl msl compiled × IsAccepted compiled)
+Accepts contents (Ok compiled) = HasDocuments contents (λ csdl ssdl msl. IsReadSchema csdl ssdl msl compiled × IsAccepted compiled)
 Accepts contents (Err (Tells answer)) = HasDocuments contents (λ csdl ssdl msl. RefusesMapping csdl ssdl msl answer)
 Accepts contents (Err Memory) = ⊤
 

@@ -2,6 +2,7 @@
 -- what is left in the files is said where a run ends, in `Runs`.
 use Rattle.std.specs.Prelude.{◌≡◌, ◌⊎◌, ℕ, List, Some, Err}
 use Rattle.emc_base.specs.Lists.{At}
+use Rattle.mapping_core.specs.Rules.{IsReadSchema}
 use Rattle.mapping_core.specs.Words.{Breach, Failure, HoldsNoState, HoldsNoTables, HoldsState, HoldsTables, IsAccepted, IsBreachOf, IsBreachOfTables, IsFailureOf, IsFirstLimit, IsLegal, IsLoaded, IsStateText, IsTablesText, IsToldRule, IsViewsText, AreLegalTables, LimitFault, LoadsLegal, Means, PassesNoLimit, RuleFault, Schema, State, Tables}
 use Rattle.mapping_core.specs.declared.loading.LoadFault.{LoadFault}
 use Rattle.mapping_core.specs.declared.loading.LoadFault.TheVariants as load
@@ -84,7 +85,7 @@ GivesBy Store contents schema answer = (entities : List ℕ) × At contents 3 en
 GivesBy Load contents schema answer = (document : List ℕ) × At contents 3 document × GivesLoaded document schema answer
 
 -- What every command gives on the contents of its input files, of which the first three are the documents of a mapping: why they aren't accepted; or, where
--- they are, what it gives by the mapping, and then every legal state is kept.
+-- they are, what it gives by the mapping that they mean, which is sound, and then every legal state is kept.
 abbrev pub GivesOn : Command → List (List ℕ) → Answer → Type 0
 GivesOn command contents answer = HasDocuments contents (λ csdl ssdl msl. RefusesMapping csdl ssdl msl answer
-    ⊎ ((schema : Schema) × Means csdl ssdl msl schema × IsAccepted schema × GivesBy command contents schema answer))
+    ⊎ ((schema : Schema) × IsReadSchema csdl ssdl msl schema × IsAccepted schema × GivesBy command contents schema answer))

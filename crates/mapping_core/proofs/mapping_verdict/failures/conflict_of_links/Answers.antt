@@ -7,7 +7,11 @@ use Rattle.mapping_core.proofs.mapping_verdict.Sets.{so_of_one_more}
 use Rattle.mapping_core.proofs.mapping_verdict.failures.conflict_of_links.Goals as goal
 
 pub returns-in-Some-clause-told : goal.returns-in-Some-clause-told
-returns-in-Some-clause-told c = λ conflict same. (record { index = c.loop-index.index }, c.in_ok-conflict.ensures.told conflict (c.in-Some.is ∙ same))
+returns-in-Some-clause-told c = λ conflict same. (
+  record { index = c.loop-index.index },
+  c.in_ok-conflict.ensures.told conflict (c.in-Some.is ∙ same),
+  c.in_ok-conflict.ensures.so c.requires.earlier conflict (c.in-Some.is ∙ same),
+)
 
 -- these links have no conflict, so no state fails there
 pub loop-index-preserved : goal.loop-index-preserved

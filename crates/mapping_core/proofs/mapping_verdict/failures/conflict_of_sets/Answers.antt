@@ -17,7 +17,11 @@ first_conflict-requires-clause-regions c =
     (subst (λ (list : List (List Region)). At list i of_set) c.as_slice-of_set-items.ensures.items (slice_get_read _ _ i _ refl c.loop-index-test.true c.of_set-item.is))
 
 pub returns-in-Some-clause-told : goal.returns-in-Some-clause-told
-returns-in-Some-clause-told c = λ conflict same. (record { index = c.loop-index.index }, c.in_ok-conflict.ensures.told conflict (c.in-Some.is ∙ same))
+returns-in-Some-clause-told c = λ conflict same. (
+  record { index = c.loop-index.index },
+  c.in_ok-conflict.ensures.told conflict (c.in-Some.is ∙ same),
+  c.in_ok-conflict.ensures.so c.requires.earlier conflict (c.in-Some.is ∙ same),
+)
 
 -- this set has no conflict, so no state fails there
 pub loop-index-preserved : goal.loop-index-preserved

@@ -1,18 +1,11 @@
-use Rattle.std.proofs.Common.{◌≡◌, ⊎_elim, inl, inr, sym, subst}
-use Rattle.cells.specs.Parts.{schema_in}
-use Rattle.region_states.specs.conflicts.Conflicts.{is_fact, kind_of}
-use Rattle.region_states.specs.conflicts.There.{NoneFailsBefore}
 use Rattle.region_states.specs.region_basis.BasisOf.{basis_of}
-use Rattle.round_trip.specs.declared.FailKind.{FailKind}
 use Rattle.mapping_core.proofs.mapping_verdict.Conflicts.{first_is}
 use Rattle.mapping_core.proofs.mapping_verdict.failures.failure_by.Goals as goal
 
 pub build-requires : goal.build-requires
 build-requires c =
     let parts = c.args.parts.now in
-    first_is parts c.requires.parts c.args.kind c.requires.earlier (c.parts_are_a_basis.ensures.basis parts c.requires.parts) c.in-Some.conflict
-    (c.in_ok-conflict.ensures.told c.in-Some.conflict c.in-Some.is)
-    (c.facts_are_computed.ensures.so (basis_of parts) (c.parts_are_a_basis.ensures.basis parts c.requires.parts) c.requires.parts.limits c.in-Some.conflict)
+    first_is parts c.requires.parts c.args.kind c.requires.earlier c.in-Some.conflict (c.in_ok-conflict.ensures.told c.in-Some.conflict c.in-Some.is)
 
 -- no set and no association has a conflict of the kind
 pub returns-in-None-clause-none : goal.returns-in-None-clause-none

@@ -1,0 +1,9 @@
+pub mod spelled
+pub mod texts
+pub mod Values
+pub mod Lists
+pub mod Entries
+pub mod Rows
+pub mod TableShape
+pub mod Tables
+pub mod entities

@@ -1,0 +1,6 @@
+pub mod Cuts
+pub mod Units
+pub mod Contents
+pub mod Tokens
+pub mod Trees
+pub mod Nodes
