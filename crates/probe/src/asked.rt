@@ -27,6 +27,8 @@ pub enum Asked {
     Links,
     /// The conflict of each kind at each set.
     Conflicts,
+    /// The failure that is shown.
+    Failure,
     /// The query views.
     Views,
     /// Of M, S, P and entities: which entities each fragment selects.
@@ -80,6 +82,7 @@ impl Asked {
             "regions" => Some(Asked::Regions),
             "links" => Some(Asked::Links),
             "conflicts" => Some(Asked::Conflicts),
+            "failure" => Some(Asked::Failure),
             "views" => Some(Asked::Views),
             _ => None,
         }

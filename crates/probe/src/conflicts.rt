@@ -5,12 +5,14 @@ ghost use Rattle.regions.specs.Regions.{regions_of};
 ghost use Rattle.round_trip.specs.declared.FailKind.TheVariants as fails;
 
 mod all_pairs;
+mod failures;
 
 use crate::region_counts::MOST_REGIONS;
 use all_pairs::has_same_tables;
 use cells::Parts;
 use containment::{first_conflict, first_link_conflict};
 use emc_base::{AssocId, Seq, SetId};
+pub use failures::put_failure;
 use region_partition::regions;
 use region_states::Conflict;
 use regions::Region;

@@ -91,8 +91,8 @@ fn put_state(alloc: Global, text: &mut String, model: &EntityModel, data: &Doc) 
     put
 }
 
-// Puts a state as it is printed.
-fn put_printed(
+/// Puts a state as it is printed.
+pub fn put_printed(
     alloc: Global,
     text: &mut String,
     model: &EntityModel,
