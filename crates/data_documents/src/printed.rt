@@ -1,6 +1,6 @@
 //! What a printed document tells when it is read: what it was printed of.
 
-ghost use Rattle.std.specs.Prelude.{◌≡◌, ◌≢◌, ℕ, List, [], All, Some, codes};
+ghost use Rattle.std.specs.Prelude.{◌≡◌, ◌≢◌, ℕ, List, All, Some, codes};
 ghost use Rattle.serde_json.specs.Data.{Data};
 ghost use Rattle.json_form.specs.Documents.{printed};
 ghost use Rattle.json_form.specs.TreeParts.{tree_at};
@@ -25,9 +25,9 @@ pub fn what_is_read_holds_texts()
     ensures texts { (bytes : List ℕ) (d : Data) → tree_at bytes ≡ Some d → HasTexts d }
 {}
 
-/// The text that is printed of a legal state of a sound model without association sets holds an entity document of the right shape, and tells this state
-/// again, in the order of keys. The names are texts, and no property is named as the member that tells a type, as no name that is read of a document is.
+/// The text that is printed of a legal state of a sound model holds an entity document of the right shape, and tells this state again, in the order of
+/// keys. The names are texts, and no property is named as the member that tells a type, as no name that is read of a document is.
 pub fn printed_entities_are_read()
-    ensures again { (model : EntityModel) → IsSoundModel model → HasTextModelNames model → All (λ prop. prop.name ≢ codes "$type") model.props → model.assocs ≡ []
+    ensures again { (model : EntityModel) → IsSoundModel model → HasTextModelNames model → All (λ prop. prop.name ≢ codes "$type") model.props
         → (state : State) → IsLegal model state → (tree : Data) → IsStateTree model state tree → TellsStateAgain model state (printed tree) }
 {}

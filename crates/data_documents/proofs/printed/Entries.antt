@@ -1,16 +1,21 @@
 -- Objects and arrays that are made of entries and of trees: what is so of each of these is so of what stands in them.
-use Rattle.std.proofs.Common.{◌≡◌, ◌-◌, ◌<◌, ℕ, zero, suc, List, [], ◌∷◌, All, IsUtf8, Ordering, Less, Equal, Greater, refl, ap, subst}
+use Rattle.std.proofs.Common.{◌≡◌, ◌-◌, ◌<◌, inl, inr, ℕ, zero, suc, List, [], ◌∷◌, map, All, IsUtf8, Option, Ordering, Less, Equal, Greater, refl, ap, subst, ◌∙◌}
 use Rattle.std.specs.Prelude.{⊤}
+use Rattle.std.specs.Option.{option_map_or}
 use Rattle.std.specs.Ordering.{match_ordering, nat_cmp}
 use Rattle.std.specs.Cmp.Lexicographic.{slice_cmp}
 use Rattle.std.specs.FinMap.{nat_cmp-IsAntisymmetric, slice_cmp-IsAntisymmetric}
-use Rattle.std.proofs.lemmas.List.Elements.{All-head, All-tail}
+use Rattle.std.proofs.lemmas.List.Elements.{All-head, All-map, All-tail}
 use Rattle.std.proofs.lemmas.Option.{same_Some}
 use Rattle.serde_json.specs.Data.{Data, Members, no_members, member, put}
 use Rattle.serde_json.specs.View.{items_of}
 use Rattle.emc_base.specs.Lists.{At}
-use Rattle.json_form.specs.TreeParts.{list_of_items, list_of_members}
+use Rattle.json_form.specs.TreeParts.{items_in, list_of_items, list_of_members}
 use Rattle.json_form.specs.Trees.{array_of, object_of, put_all}
+use Rattle.entity_state.specs.Tells.{TellsEach}
+use Rattle.data_documents.specs.declared.shape_faults.place.ShapeStep.{ShapeStep}
+use Rattle.data_documents.specs.shape_faults.Nodes.{IsArrayFault, IsObjectFault}
+use Rattle.data_documents.proofs.printed.Lists.{all_at, given_back}
 use Rattle.data_documents.proofs.printed.spelled.Rising.{IsRising, rising_put}
 use Rattle.data_documents.proofs.printed.spelled.Whole.{AreWhole, HaveWhole, IsWhole, have_put}
 
@@ -31,6 +36,7 @@ put_whole n start (entry ∷ entries) all have rising =
     put_whole n (put entry.0 entry.1 start) entries (All-tail (IsWholeEntry n) entry entries all)
     (have_put n entry.0 entry.1 start first.0 first.1 have) (rising_put entry.0 entry.1 start rising)
 
+-- an object of such entries is told part by part
 pub object_whole : (n : ℕ) (entries : List (List ℕ × Data)) → 0 < n → All (IsWholeEntry (n - 1)) entries → IsWhole n (object_of entries)
 object_whole n entries some all = let put = put_whole (n - 1) no_members entries all tt tt in (some, put.0, put.1)
 
@@ -38,8 +44,25 @@ are_whole : (n : ℕ) (trees : List Data) → All (IsWhole n) trees → AreWhole
 are_whole n [] all = tt
 are_whole n (tree ∷ trees) all = (All-head (IsWhole n) tree trees all, are_whole n trees (All-tail (IsWhole n) tree trees all))
 
-pub array_whole : (n : ℕ) (trees : List Data) → 0 < n → All (IsWhole (n - 1)) trees → IsWhole n (array_of trees)
-array_whole n trees some all = (some, are_whole (n - 1) trees all)
+module _ {X : Type 0} (f : X → Data) (xs : List X) where
+  -- an array of trees that are told part by part is told so
+  pub array_whole : (n : ℕ) → 0 < n → All (λ x. IsWhole (n - 1) (f x)) xs → IsWhole n (array_of (map f xs))
+  array_whole n some all = (some, are_whole (n - 1) (map f xs) (All-map (IsWhole (n - 1)) f xs all))
+
+  -- nothing is wrong with an array of trees with none of which something is wrong
+  pub array_good : (IsWrong : Data → List ShapeStep → Type 0) → All (λ x. (place : List ShapeStep) → ¬ IsWrong (f x) place) xs
+      → (place : List ShapeStep) → ¬ IsArrayFault IsWrong (array_of (map f xs)) place
+  array_good IsWrong all place (inl none) = absurd (none.0 refl)
+  array_good IsWrong all place (inr among) =
+      let IsGoodTree : Data → Type 0 = λ tree. (inside : List ShapeStep) → ¬ IsWrong tree inside in
+      let at : At (map f xs) among.i among.item = subst (λ items. At items among.i among.item) (listed (map f xs)) among.here in
+      all_at IsGoodTree (map f xs) among.i among.item (All-map IsGoodTree f xs all) at among.holds.rest among.holds.holds
+
+-- where a member is the array of trees that tell these items, and each tree gives its item, it gives the items
+pub member_back : {X : Type 0} (P : X → Type 0) (R : X → Data → Type 0) (f : Data → X) → ((x : X) (d : Data) → P x → R x d → f d ≡ x) → (xs : List X) → All P xs
+    → (found : Option Data) → TellsEach R xs found → map f (option_map_or items_in found []) ≡ xs
+member_back P R f back xs all found told =
+    ap (λ member. map f (option_map_or items_in member [])) told.1 ∙ ap (map f) (listed told.0) ∙ given_back P R f back xs told.0 all told.2
 
 module _ (P : List ℕ × Data → Type 0) where
   abbrev Holds : Members → Type 0
@@ -69,5 +92,12 @@ module _ (P : List ℕ × Data → Type 0) where
   holds_at (member k d ms) (suc i) entry holds here = holds_at ms i entry holds.1 here
 
   -- what is so of each entry is so of each member
-  pub each_member : (entries : List (List ℕ × Data)) → All P entries → (i : ℕ) (entry : List ℕ × Data) → At (list_of_members (put_all no_members entries)) i entry → P entry
+  each_member : (entries : List (List ℕ × Data)) → All P entries → (i : ℕ) (entry : List ℕ × Data) → At (list_of_members (put_all no_members entries)) i entry → P entry
   each_member entries all i entry here = holds_at (put_all no_members entries) i entry (holds_all no_members entries tt all) here
+
+-- nothing is wrong with an object of entries with none of which something is wrong
+pub object_good : (IsWrong : List ℕ → Data → List ShapeStep → Type 0) (entries : List (List ℕ × Data))
+    → All (λ entry. (place : List ShapeStep) → ¬ IsWrong entry.0 entry.1 place) entries → (place : List ShapeStep) → ¬ IsObjectFault IsWrong (object_of entries) place
+object_good IsWrong entries all place (inl none) = absurd (none.0 refl)
+object_good IsWrong entries all place (inr among) =
+    each_member (λ entry. (inside : List ShapeStep) → ¬ IsWrong entry.0 entry.1 inside) entries all among.i among.item among.here among.holds.rest among.holds.holds

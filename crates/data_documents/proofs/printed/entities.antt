@@ -2,4 +2,8 @@ pub mod Beside
 pub mod Named
 pub mod Entities
 pub mod EntityShape
+pub mod Keys
+pub mod Links
+pub mod Legal
+pub mod Members
 pub mod States

@@ -1,18 +1,15 @@
 -- What is printed of a legal state is read as the state.
-use Rattle.std.proofs.Common.{◌≡◌, ◌≢◌, List, [], ◌∷◌, ℕ, zero, suc, All, IsPermutation, Result, Ok, Err, inl, inr, slice_get, unwrap_or, codes, sym, ap, subst, ◌∙◌, refl}
-use Rattle.std.specs.List.{AllZip}
-use Rattle.std.specs.declared.cmp.Ordering.{Ordering}
-use Rattle.std.proofs.lemmas.List.Sorted.{IsPermutation-refl}
+use Rattle.std.proofs.Common.{◌≡◌, ◌≢◌, List, ℕ, All, Result, Ok, Err, inl, inr, codes, sym, ap, subst, ◌∙◌, refl}
 use Rattle.std.proofs.lemmas.Option.{none-some, same_Some}
 use Rattle.serde_json.specs.Data.{Data}
 use Rattle.round_trip.specs.Words.{EntityModel, IsLegal, IsSameState, Prop, Schema, State}
-use Rattle.entity_state.specs.InOrder.{IsInOrderOf, IsSortedState, entity_cmp, link_cmp}
 use Rattle.data_documents.specs.declared.shape_faults.fault.ShapeFault.{ShapeFault}
 use Rattle.data_documents.specs.declared.shape_faults.fault.ShapeFault.TheVariants.{Shape, Memory}
 use Rattle.data_documents.specs.entity_documents.DocShapes.{IsDocFault}
 use Rattle.data_documents.specs.entity_documents.States.{state_in}
 use Rattle.data_documents.specs.printed.Again.{TellsStateAgain}
 use Rattle.data_documents.specs.printed.Names.{HasTextModelNames}
+use Rattle.data_documents.proofs.printed.entities.Legal.{same_sorted}
 use Rattle.data_documents.proofs.printed.entities.States.{state_again}
 use Rattle.mapping_core.proofs.printed.ModelNames.{names_of_model}
 use Rattle.mapping_core.proofs.printed.PropNames.{plain_names}
@@ -21,22 +18,6 @@ use Rattle.mapping_core.specs.states.Documents.{ReadsEntities}
 use Rattle.mapping_core.specs.states.GivesBack.{GivesEntitiesBack}
 use Rattle.mapping_core.specs.states.Loads.{IsStateText}
 
--- the list at a place among sorted ones has the items of the one at this place among the others
-same_items : {X : Type 0} (cmp : X → X → Ordering) (lists sorted : List (List X)) → AllZip (IsInOrderOf cmp) lists sorted → (i : ℕ)
-    → IsPermutation (unwrap_or (slice_get lists i) []) (unwrap_or (slice_get sorted i) [])
-same_items cmp [] [] order i = IsPermutation-refl []
-same_items cmp [] (list ∷ sorted) order i = absurd order
-same_items cmp (list ∷ lists) [] order i = absurd order
-same_items cmp (list ∷ lists) (other ∷ sorted) order zero = order.0.same
-same_items cmp (list ∷ lists) (other ∷ sorted) order (suc i) = same_items cmp lists sorted order.1 i
-
--- a state in the order of keys is the same state
-same_sorted : (model : EntityModel) (state sorted : State) → IsSortedState model state sorted → IsSameState state sorted
-same_sorted model state sorted order = record {
-  entities = λ set. same_items (entity_cmp model) state.entities sorted.entities order.entities set.index;
-  links = λ assoc. same_items link_cmp state.links sorted.links order.links assoc.index;
-}
-
 module _ (schema : Schema) (read : IsRead schema) (state : State) (legal : IsLegal schema.model state) (text : List ℕ) (told : IsStateText schema state text) where
   again : TellsStateAgain schema.model state text
   again =
@@ -44,7 +25,7 @@ module _ (schema : Schema) (read : IsRead schema) (state : State) (legal : IsLeg
       let texts : HasTextModelNames schema.model = subst HasTextModelNames (sym model) (names_of_model read.csdl) in
       let Plain : EntityModel → Type 0 = λ m. All (λ (prop : Prop). prop.name ≢ codes "$type") m.props in
       let plain : Plain schema.model = subst Plain (sym model) (plain_names read.csdl read.ssdl read.msl read.read.means.unbroken) in
-      subst (TellsStateAgain schema.model state) (sym told.2) (state_again schema.model read.read.sound.model texts plain read.read.form.alone state legal told.0 told.1)
+      subst (TellsStateAgain schema.model state) (sym told.2) (state_again schema.model read.read.sound.model texts plain state legal told.0 told.1)
 
   -- the state that is read is the same
   pub entities_back : (result : Result State ShapeFault) → ReadsEntities schema.model text result → GivesEntitiesBack state result

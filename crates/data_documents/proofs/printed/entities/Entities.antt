@@ -1,7 +1,5 @@
 -- The tree of an entity gives the entity.
-use Rattle.std.proofs.Common.{◌≡◌, List, [], ◌∷◌, length, map, All, Contains, unwrap_or, Option, Some, option_and_then, option_map, refl, ap, ◌∙◌}
-use Rattle.std.specs.List.{AllZip}
-use Rattle.std.proofs.lemmas.List.Elements.{All-head, All-tail}
+use Rattle.std.proofs.Common.{◌≡◌, length, map, Contains, unwrap_or, Option, Some, option_and_then, option_map, ap, ◌∙◌}
 use Rattle.serde_json.specs.Data.{Data}
 use Rattle.serde_json.specs.Find.{as_str}
 use Rattle.emc_base.specs.Lists.{AreApart, At}
@@ -55,13 +53,3 @@ module _ (model : EntityModel) (types_apart : AreApart (map (λ type. type.name)
     entity_back =
         let same : entity_of model entity.ty tree ≡ entity = λ k. record { ty = entity.ty; values = values_back k } in
         ap (λ (found : Option TypeId). entity_of model (unwrap_or found (type_numbered 0)) tree) type_back ∙ same
-
-  pub entities_back : ((entity : Entity) → AreApart (props_of model entity.ty)) → (entities : List Entity) (trees : List Data) → All (IsGoodEntity model) entities
-      → AllZip (TellsEntity model) entities trees → map (entity_in model) trees ≡ entities
-  entities_back apart [] [] good tells = refl
-  entities_back apart [] (tree ∷ trees) good tells = absurd tells
-  entities_back apart (entity ∷ entities) [] good tells = absurd tells
-  entities_back apart (entity ∷ entities) (tree ∷ trees) good tells =
-      let head : entity_in model tree ≡ entity = entity_back entity (All-head (IsGoodEntity model) entity entities good) (apart entity) tree tells.0 in
-      let tail : map (entity_in model) trees ≡ entities = entities_back apart entities trees (All-tail (IsGoodEntity model) entity entities good) tells.1 in
-      λ k. head k ∷ tail k

@@ -21,7 +21,7 @@ use Rattle.data_documents.specs.declared.shape_faults.place.ShapeStep.{ShapeStep
 use Rattle.data_documents.specs.entity_documents.Names.{prop_named}
 use Rattle.data_documents.specs.entity_documents.Shapes.{IsEntityFault, IsFaultBy, IsMemberFault, IsTypedFault, IsValueFault}
 use Rattle.data_documents.specs.printed.Names.{HasTextModelNames}
-use Rattle.data_documents.proofs.printed.Entries.{IsWholeEntry, each_member, object_whole}
+use Rattle.data_documents.proofs.printed.Entries.{IsWholeEntry, object_good, object_whole}
 use Rattle.data_documents.proofs.printed.Lists.{all_at, named_at}
 use Rattle.data_documents.proofs.printed.entities.Beside.{values_beside, zip_images}
 use Rattle.data_documents.proofs.printed.entities.Entities.{IsGoodEntity, given_for, type_back}
@@ -85,8 +85,7 @@ module _ (model : EntityModel) (apart : HasApartNames model) (entity : Entity) (
       (All-map IsGoodMember told_value props (all_from_members (λ prop. IsGoodMember (told_value prop)) props good_prop))
 
   typed : (place : List ShapeStep) → ¬ IsTypedFault model entity.ty (object_of entries) place
-  typed place (inl (inl none)) = absurd (none.0 refl)
-  typed place (inl (inr among)) = each_member IsGoodMember entries good_members among.i among.item among.here among.holds.rest among.holds.holds
+  typed place (inl inside) = object_good (IsMemberFault model entity.ty) entries good_members place inside
   typed place (inr lack) = absurd (none-some _ (sym lack.holds.absent ∙ tells_object.values lack.item (contains_at props lack.i lack.item lack.here)))
 
   pub good_entity : AreApart (map (λ type. type.name) model.types) → (place : List ShapeStep) → ¬ IsEntityFault model (entity_tree model entity) place
