@@ -1,17 +1,14 @@
 -- The state that tables tell by query views, or why there is none.
-use Rattle.std.proofs.Common.{[], List, Bool, Err, IsErrAnd, Ok, Result, refl, sym, subst, ◌≡◌}
-use Rattle.round_trip.specs.Words.{Assoc, At, Breach, ColId, IsBreachOf, IsLegal, Place, RoundTrips, State, TableId, Tables, TablesAre}
-use Rattle.emc_base.proofs.Mapped.{contains_at}
-use Rattle.schema_laws.proofs.state_demand.lists.Lists.{none_in_nil}
+use Rattle.std.proofs.Common.{Bool, Err, IsErrAnd, Ok, Result, refl, sym, subst, ◌≡◌}
+use Rattle.round_trip.specs.Words.{Breach, ColId, IsBreachOf, IsLegal, Place, State, TableId, Tables, TablesAre}
 use Rattle.cells.specs.Cells.{is_free_in}
-use Rattle.cells.specs.Limits.{IsWithinLimits}
 use Rattle.cells.specs.Parts.{AreParts, schema_in}
 use Rattle.cells.specs.declared.parts.Parts.{Parts}
 use Rattle.region_states.specs.region_basis.BasisOf.{basis_of}
 use Rattle.region_states.proofs.region_basis.Bases.{basis_is}
 use Rattle.regions.specs.Basis.{Basis}
 use Rattle.regions.specs.region_laws.IsBasis.{IsBasis}
-use Rattle.case_laws.specs.candidates.Candidates.{HasViewedEntities, IsCandidate, IsFirstLack}
+use Rattle.case_laws.specs.candidates.Candidates.{IsCandidate, IsFirstLack}
 use Rattle.case_laws.proofs.candidate_laws.FreeCells.{cells_tell}
 use Rattle.case_laws.proofs.candidate_laws.OwnView.{case_met}
 use Rattle.case_laws.proofs.candidate_laws.SameCandidate.{legal_too, rows_same, same}
@@ -20,7 +17,7 @@ use Rattle.keyed_rows.specs.row_differences.Differences.{IsFirstDifference}
 use Rattle.keyed_rows.specs.row_differences.SameButFree.{AreSameButFree}
 use Rattle.keyed_rows.specs.declared.row_differences.differences.Difference.{Difference}
 use Rattle.state_legality.proofs.Joined.{no_first_breach}
-use Rattle.mapping_core.specs.Accepted.{IsAccepted, IsDecided}
+use Rattle.mapping_core.specs.Accepted.{IsAccepted}
 use Rattle.query_views.specs.Answers.{StateOf}
 use Rattle.query_views.specs.declared.fault.StateFault.{StateFault}
 use Rattle.query_views.specs.declared.fault.StateFault.TheVariants as query
@@ -33,7 +30,7 @@ use Rattle.mapping_core.proofs.Comparing.{same_but_free}
 pub cells_decide : (parts : Parts) → AreParts parts → DecidesFree (schema_in parts) (is_free_in parts.cells.now)
 cells_decide parts are = record { tells = cells_tell parts are }
 
-module _ (parts : Parts) (form : IsDecided (schema_in parts)) (accepted : IsAccepted (schema_in parts)) (are : AreParts parts) where
+module _ (parts : Parts) (accepted : IsAccepted (schema_in parts)) (are : AreParts parts) where
   abbrev basis : Basis
   basis = basis_of parts
 
@@ -67,15 +64,7 @@ module _ (parts : Parts) (form : IsDecided (schema_in parts)) (accepted : IsAcce
     lacks query.Memory (Err given) is_told lack =
         let Told : LoadFault → Type 0 = λ told. LoadsLegal (schema_in parts) tables (Err told) in subst Told (sym is_told) tt
 
-    module _ (candidate : State) (viewed : HasViewedEntities basis is_free tables candidate) where
-      -- where no association set is declared, a state of all entities is the candidate
-      of_tables : IsCandidate basis is_free tables candidate
-      of_tables = record {
-        entities = viewed;
-        assocs = λ a assoc here. (let Here : List Assoc → Type 0 = λ assocs. At assocs a.index assoc in
-            absurd (none_in_nil assoc (contains_at [] a.index assoc (subst Here form.alone here))));
-      }
-
+    module _ (candidate : State) (of_tables : IsCandidate basis is_free tables candidate) where
       pub illegal : (breach : Breach) → IsBreachOf (schema_in parts).model candidate breach → HasNoStateBy (schema_in parts) tables (TellsIllegal tables breach)
       illegal breach breaks = none_by (TellsIllegal tables breach)
           (λ state legal has. no_first_breach (schema_in parts).model candidate breach

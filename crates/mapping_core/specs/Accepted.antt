@@ -1,6 +1,6 @@
 -- Which mappings are decided so far, and what an accepted one is.
 -- Source: this project's; CSDL, SSDL and MSL version 3, and the regions of entity states of Melnik, Adya and Bernstein, SIGMOD 2007.
-use Rattle.std.specs.Prelude.{◌≡◌, List, [], None}
+use Rattle.std.specs.Prelude.{◌≡◌, List, [], None, All}
 use Rattle.round_trip.specs.Words.{Keeps, RoundTrips, Schema}
 use Rattle.cells.specs.declared.cells.Cells.{Cells}
 use Rattle.cells.specs.declared.parts.Parts.{Parts}
@@ -8,7 +8,6 @@ use Rattle.cells.specs.Cells.{is_free_in}
 use Rattle.cells.specs.Parts.{AreParts, schema_in}
 use Rattle.regions.specs.declared.region.Region.{Region}
 use Rattle.region_states.specs.region_basis.BasisOf.{basis_of}
-use Rattle.region_states.specs.NoAssociations.{HasNoAssociationSets}
 use Rattle.region_partition.specs.mapping_limits.FirstLimit.{IsFirstLimit}
 use Rattle.region_partition.specs.set_regions.Regions.{AreRegions}
 use Rattle.update_views.specs.Views.{AreViewsOf}
@@ -16,9 +15,9 @@ use Rattle.query_views.specs.declared.views.QueryViews.{QueryViews}
 use Rattle.query_views.specs.Views.{AreQueryViewsOf}
 use Rattle.mapping_core.specs.declared.compiled.MappingViews.{MappingViews}
 
--- the form that is decided so far: no association set, and no foreign key
+-- the form that is decided so far: no association has a constraint, and there is no foreign key
 pub record IsDecided (schema : Schema) : Type 0 where
-  pub alone : HasNoAssociationSets schema.model
+  pub unconstrained : All (λ assoc. assoc.constraint ≡ None) schema.model.assocs
   pub keyless : schema.store.keys ≡ []
 
 -- no limit is passed

@@ -1,4 +1,4 @@
-ghost use Rattle.std.specs.Prelude.{◌≡◌, ◌↔◌, ℕ, IsTrue, List};
+ghost use Rattle.std.specs.Prelude.{◌≡◌, ◌↔◌, ℕ, All, IsTrue, List, None};
 ghost use Rattle.edm_types.specs.declared.faults.VocabFile.TheVariants.{Csdl, Ssdl, Msl};
 ghost use Rattle.csdl_model.specs.ModelFaults.{IsModelFault};
 ghost use Rattle.csdl_model.specs.ReadsModel.{IsModelOf};
@@ -14,7 +14,9 @@ ghost use Rattle.mapping_core.specs.Reading.{ReadsFile, ReadsTree};
 ghost use Rattle.mapping_core.specs.Rules.{IsToldRule};
 
 use csdl_model::read_csdl;
-use edm_types::{EntityModel, Mapping, RuleFault, Schema, StoreModel, VocabFault, VocabFile};
+use edm_types::{
+    Assoc, EntityModel, Mapping, RuleFault, Schema, StoreModel, VocabFault, VocabFile,
+};
 use emc_base::Bin;
 use json_form::{Doc, DocFault};
 use layouts::{Fault, Rule, told};
@@ -69,7 +71,14 @@ fn unbuilt(alloc: Global) -> VocabFault
 fn is_decided(schema: &Schema) -> bool
     ensures { IsTrue result ↔ IsDecided schema.now }
 {
-    schema.model.assocs.is_empty() && schema.store.keys.is_empty()
+    are_independent(schema.model.assocs.as_slice()) && schema.store.keys.is_empty()
+}
+
+// Whether no association has a constraint.
+fn are_independent(assocs: &[Assoc]) -> bool
+    ensures { IsTrue result ↔ All (λ assoc. assoc.constraint ≡ None) assocs.now }
+{
+    assocs.iter().all(|assoc| assoc.constraint.is_none())
 }
 
 // The entity model that a file means. Its tree is let go.

@@ -1,8 +1,11 @@
 -- What was answered and what was written make a run.
-use Rattle.std.proofs.Common.{◌≡◌, ◌⊎◌, ℕ, List, [], ◌∷◌, ◌++◌, Option, Some, None, MatchOption, option_map, inl, inr, refl, sym, ap, ◌∙◌, subst, ◌==◌, length, true, arith}
+use Rattle.std.proofs.Common.{◌≡◌, ◌≢◌, ◌⊎◌, ℕ, List, [], ◌∷◌, ◌++◌, Option, Some, None, MatchOption, Err, option_map, inl, inr, refl, sym, ap, ◌∙◌, subst, ◌==◌, length, take, true, false, arith}
 use Rattle.std.proofs.lemmas.Bool.Decides.{nat_tests}
 use Rattle.std.specs.Bool.{⊤}
 use Rattle.std.proofs.lemmas.List.{append-nil}
+use Rattle.emc_files.specs.Sink.{CountsPut, Puts}
+use Rattle.emc_files.specs.declared.sink.SinkFault.{SinkFault as SinkError}
+use Rattle.emc_files.specs.declared.sink.SinkFault.TheVariants.{Failed}
 use Rattle.emc_files.specs.Files.{FileMap}
 use Rattle.mapping_core.specs.Rules.{IsReadSchema}
 use Rattle.mapping_core.specs.Words.{IsAccepted, Schema, State, Tables}
@@ -15,7 +18,7 @@ use Rattle.mapping_run.specs.Commands.{command_of, inputs_of}
 use Rattle.mapping_run.specs.answers.Gives.{GivesBy, GivesLoaded, GivesOn, GivesState, GivesStored, GivesTables, RefusesMapping, RefusesSchema, Says, SaysSome}
 use Rattle.mapping_run.specs.Gives.{GivesInputs}
 use Rattle.mapping_run.specs.Inputs.{FailsToRead}
-use Rattle.mapping_run.specs.Runs.{Ends, Finishes, Runs}
+use Rattle.mapping_run.specs.Runs.{BreaksOff, Ends, Finishes, Runs}
 use Rattle.texts.specs.command_texts.Texts.{usage_text}
 use Rattle.mapping_run.specs.World.{World}
 
@@ -115,6 +118,11 @@ is_nothing : (text : List ℕ) → true ≡ (length text == 0) → text ≡ []
 is_nothing [] empty = refl
 is_nothing (byte ∷ rest) empty = let no : ⊥ = grind (arith, nat_tests) in absurd no
 
+-- a text of some bytes isn't
+pub not_nothing : (text : List ℕ) → false ≡ (length text == 0) → text ≢ []
+not_nothing [] some empty = cc
+not_nothing (byte ∷ rest) some empty = cc
+
 module _ (may_fail : List ℕ → Type 0) (words : List (List ℕ)) (before after : World) (answer : Answer) (printed : List ℕ)
     (ends : Ends may_fail words before.held before.file_faults after.file_faults answer)
     (printed_is : printed ≡ answer.text) (leaves : after.held ≡ before.held) where
@@ -140,3 +148,19 @@ module _ (may_fail : List ℕ → Type 0) (words : List (List ℕ)) (before afte
     written = same ∙ nothing_more before.written answer.text (sym printed_is ∙ is_nothing printed empty);
     quiet = quiet;
   })
+
+  -- the sink failed after the first so many bytes of the answer's text, which isn't empty
+  pub broken_off : answer.text ≢ [] → (fault : SinkError) → fault ≡ Failed → Puts before.written after.written printed (Err fault)
+      → CountsPut before.sink_faults after.sink_faults (Err fault) → BreaksOff may_fail words before after
+  broken_off some fault is puts counts =
+      let Put : SinkError → Type 0 = λ one. Puts before.written after.written printed (Err one) × CountsPut before.sink_faults after.sink_faults (Err one) in
+      let failed : Put Failed = subst Put is (puts, counts) in
+      record {
+        answer = answer;
+        count = failed.0.0;
+        not_empty = some;
+        ends = ends;
+        leaves = leaves;
+        written = failed.0.1 ∙ ap (λ text. option_map (λ bytes. bytes ++ take failed.0.0 text) before.written) printed_is;
+        cause = failed.1;
+      }

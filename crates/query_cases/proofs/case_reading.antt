@@ -1,7 +1,7 @@
-mod Zips
+pub mod Zips
 mod Turns
 mod CellByCell
 mod Telling
 mod Noting
-mod Parts
-mod Linking
+pub mod Parts
+pub mod Linking

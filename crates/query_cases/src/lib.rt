@@ -4,7 +4,7 @@
 mod case_cells;
 mod case_index;
 mod case_making;
-mod case_reading;
+pub mod case_reading;
 
 pub use case_cells::may_hold;
 pub use case_index::CaseIndex;

@@ -18,19 +18,17 @@ use Rattle.round_trip.specs.Words.{At, ColId, Place, SetId, TableId, Tables, Val
 use Rattle.regions.specs.Basis.{Basis}
 use Rattle.keyed_rows.specs.row_groups.Shown.{shown_cells, shown_group}
 use Rattle.keyed_rows.specs.declared.row_groups.groups.KeyGroup.{KeyGroup}
-use Rattle.case_laws.specs.candidates.Candidates.{AreViewed}
 use Rattle.case_laws.specs.candidates.ViewedLinks.{IsBefore}
 use Rattle.case_laws.specs.candidates.Rows.{AreRowsAt, HasRows, shown_rows}
-use Rattle.case_laws.specs.candidates.Viewed.{IsViewed, LacksCase}
+use Rattle.case_laws.specs.candidates.Viewed.{LacksCase}
 use Rattle.case_laws.specs.declared.candidates.placed.PlacedRow.{PlacedRow}
 use Rattle.keyed_rows.specs.set_rows.SetRows.{AreSetRows}
-use Rattle.query_views.specs.Answers.{LendsAt, LendsSet, TellsKey}
+use Rattle.query_views.specs.Answers.{AreLent, IsLent, LendsAt, LendsSet, TellsKey}
 use Rattle.query_views.specs.declared.fault.StateFault.{StateFault}
 use Rattle.query_views.specs.declared.fault.StateFault.TheVariants as fault
-use Rattle.query_views.specs.Lent.{lent_entity}
 use Rattle.query_views.specs.declared.lending.LentEntity.{LentEntity}
-use Rattle.query_views.proofs.Viewed.{lacks_rows, viewed_meets}
-use Rattle.query_views.proofs.Zips.{zip_beside, zip_images, zip_members}
+use Rattle.query_views.proofs.Viewed.{lacks_rows, met_not_lacking}
+use Rattle.query_views.proofs.Zips.{zip_beside, zip_keyed, zip_members}
 
 -- nor does one come before another that comes before it
 before_both : (one other : List Value) → IsBefore one other → ¬ IsBefore other one
@@ -52,7 +50,7 @@ module _ (basis : Basis) (is_free : TableId → ColId → Bool) (tables : Tables
 
   -- if so, the query view gives the lent entity there
   abbrev pub IsLentBy : Group → LentEntity → Type 0
-  IsLentBy group lent = IsWhole group → IsViewed basis is_free tables s (key_in group) (lent_entity lent)
+  IsLentBy group lent = IsWhole group → IsLent basis is_free tables s (key_in group) lent
 
   module _ (groups : List Group) (are : AreSetRows basis.schema tables s (map shown_group groups)) where
     abbrev keys : List (List Value)
@@ -89,14 +87,14 @@ module _ (basis : Basis) (is_free : TableId → ColId → Bool) (tables : Tables
         (are.rising i j (shown_group one) below (slice_get_within (map shown_group groups) j (shown_group later) there)))
 
     -- the entities of all groups
-    pub all_lent : (lent : List LentEntity) → AllZip IsLentBy groups lent → AreViewed basis is_free tables s (map lent_entity lent)
+    pub all_lent : (lent : List LentEntity) → AllZip IsLentBy groups lent → AreLent basis is_free tables s lent
     all_lent lent each = record {
       keys = keys;
       are = λ key. (has_key key, key_has key);
       rising = all_pairs_map IsBefore key_in groups (λ i j d below inside.
           groups_rise i j (get_or groups i d) (get_or groups j d) (slice_get-get_or groups i d (omega (arith, below, inside))) (slice_get-get_or groups j d inside) below);
-      each = zip_images (IsViewed basis is_free tables s) key_in lent_entity groups lent
-          (zip_members IsLentBy (λ group one. IsViewed basis is_free tables s (key_in group) (lent_entity one)) groups lent (λ group one among so. so (whole group among)) each);
+      each = zip_keyed (IsLent basis is_free tables s) key_in groups lent
+          (zip_members IsLentBy (λ group one. IsLent basis is_free tables s (key_in group) one) groups lent (λ group one among so. so (whole group among)) each);
     }
 
     module _ (before : List Group) (group : Group) (rest : List Group) (is : groups ≡ before ++ group ∷ rest) where
@@ -145,9 +143,9 @@ module _ (basis : Basis) (is_free : TableId → ColId → Bool) (tables : Tables
                 let at : At groups found.0 found.1 = subst (λ list. At list found.0 found.1) (sym is) (slice_get_read (before ++ group ∷ rest) (length (before ++ group ∷ rest)) found.0 found.1 refl
                 (let long = length-append before (group ∷ rest) in let inside = slice_get_within before found.0 found.1 found.2 in omega (arith, long, inside))
                 (sym (get_or_append_left before (group ∷ rest) found.1 found.0 (slice_get_within before found.0 found.1 found.2) ∙ get_or_from_slice_get before found.0 found.1 found.1 found.2))) in
-                let viewed = lent_there.2 (whole found.1 (contains_at groups found.0 found.1 at)) in
+                let is_lent : IsLent basis is_free tables s (key_in found.1) lent_there.0 = lent_there.2 (whole found.1 (contains_at groups found.0 found.1 at)) in
                 let P : List Value → Type 0 = λ key. LacksCase basis is_free tables s key in
-                viewed_meets basis is_free tables s (key_in found.1) (lent_entity lent_there.0) viewed (subst P (sym found.3) lacking)),
+                met_not_lacking basis is_free tables s (key_in found.1) lent_there.0.met.case.now is_lent.first_met (subst P (sym found.3) lacking)),
           )
 
       -- what is told of the group's rows is told of the set

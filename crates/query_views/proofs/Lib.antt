@@ -6,3 +6,4 @@ mod Beside
 mod Lent
 mod LentLists
 mod Candidates
+pub mod LentAt

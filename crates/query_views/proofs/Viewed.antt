@@ -1,5 +1,5 @@
 -- What rows at a key tell by the cases of a set, as the query view says it.
-use Rattle.std.proofs.Common.{◌≡◌, ◌≢◌, ◌==◌, ◌↔◌, ◌<◌, ℕ, true, map, List, [], ◌∷◌, length, get_or, take, All, Contains, Bool, Option, Some, None, refl, sym, ap, subst, ◌∙◌, arith}
+use Rattle.std.proofs.Common.{◌≡◌, ◌≢◌, ◌==◌, ◌↔◌, ◌<◌, ℕ, true, map, List, [], ◌∷◌, length, get_or, take, All, Contains, Bool, Option, None, refl, sym, ap, subst, ◌∙◌, arith}
 use Rattle.std.specs.List.{AllZip}
 use Rattle.std.specs.Option.{option_map_or, unwrap_or}
 use Rattle.std.proofs.lemmas.List.Elements.{All-contains, All-head}
@@ -7,15 +7,14 @@ use Rattle.std.proofs.lemmas.Option.{slice_get-get_or}
 use Rattle.emc_base.proofs.Lists.{item_at}
 use Rattle.emc_base.proofs.Mapped.{contains_at}
 use Rattle.emc_base.proofs.facts.Zipped.{zip_at}
-use Rattle.round_trip.specs.Words.{At, ColId, Entity, Row, SetId, TableId, Tables, Value}
+use Rattle.round_trip.specs.Words.{At, ColId, Row, SetId, TableId, Tables, Value}
 use Rattle.regions.specs.Basis.{Basis}
 use Rattle.case_laws.specs.region_cases.Cases.{cases_of}
-use Rattle.case_laws.specs.region_cases.Meets.{IsEntityOf, MeetsCase, StandsAtKey}
+use Rattle.case_laws.specs.region_cases.Meets.{MeetsCase, StandsAtKey}
 use Rattle.case_laws.specs.declared.region_cases.case.Case.{Case}
 use Rattle.case_laws.specs.candidates.Rows.{AreRowsAt, HasRows}
-use Rattle.case_laws.specs.candidates.Viewed.{IsViewed, LacksCase}
+use Rattle.case_laws.specs.candidates.Viewed.{IsFirstMet, LacksCase}
 use Rattle.query_cases.specs.case_reading.Reading.{IsReadingOf}
-use Rattle.query_cases.specs.case_reading.Sources.{read_entity}
 use Rattle.query_cases.specs.declared.case_reading.reading.Reading.{Reading}
 use Rattle.query_views.specs.First.{FindsFirst, IsFirstFound, MeetsBy, cases_in, readings_in}
 use Rattle.query_views.specs.Views.{AreQueryViewsOf, IsReaderOf}
@@ -30,16 +29,11 @@ module _ (basis : Basis) (is_free : TableId → ColId → Bool) (tables : Tables
   MeetAsRead rows = (case : Case) → Contains (cases_of is_free basis s) case → (reading : Reading) → IsReadingOf basis case reading
       → MeetsCase basis tables key case ↔ MeetsBy basis rows case reading
 
-  -- and then tell the entity that is read
-  abbrev pub TellAsRead : List (TableId × Row) → Type 0
-  TellAsRead rows = (case : Case) → Contains (cases_of is_free basis s) case → (reading : Reading) → IsReadingOf basis case reading
-      → MeetsCase basis tables key case → IsEntityOf basis tables key case (read_entity reading case.region.ty rows)
-
-  -- where a query view gives an entity, the rows meet a case
-  pub viewed_meets : (entity : Entity) → IsViewed basis is_free tables s key entity → ¬ LacksCase basis is_free tables s key
-  viewed_meets entity viewed lacks =
-      All-contains (λ case. ¬ MeetsCase basis tables key case) (cases_of is_free basis s) viewed.case lacks.none
-      (contains_at (cases_of is_free basis s) viewed.first_met.place viewed.case viewed.first_met.is_case) viewed.first_met.meets
+  -- where rows meet a case first, they don't lack one
+  pub met_not_lacking : (case : Case) → IsFirstMet basis is_free tables s key case → ¬ LacksCase basis is_free tables s key
+  met_not_lacking case first lacks =
+      All-contains (λ other. ¬ MeetsCase basis tables key other) (cases_of is_free basis s) case lacks.none
+      (contains_at (cases_of is_free basis s) first.place case first.is_case) first.meets
 
   -- some rows at a key are rows there
   pub has_rows : (rows : List (TableId × Row)) → AreRowsAt basis.schema tables s key rows → rows ≢ [] → HasRows basis.schema tables s key
@@ -90,25 +84,28 @@ module _ (basis : Basis) (is_free : TableId → ColId → Bool) (views : QueryVi
         let reading = zip_beside IsRead (cases_in views s) (readings_in views s) i case are_read here in
         none reading.0 reading.1 ((meet case (among i case here) reading.0 reading.2).0 meets)
 
-    -- the first case that is found, as it is read, gives what the query view does
-    pub are_viewed : TellAsRead basis is_free tables s key rows → (met : Met) → IsFirstFound basis rows (cases_in views s) (readings_in views s) met
-        → IsViewed basis is_free tables s key (read_entity met.reading.now met.case.now.region.ty rows)
-    are_viewed tell met first =
+    -- the first case that is found is the first that the rows meet, and read so
+    pub record IsMetBy (met : Met) : Type 0 where
+      pub listed : Contains (cases_of is_free basis s) met.case.now
+      pub read : IsRead met.case.now met.reading.now
+      pub first_met : IsFirstMet basis is_free tables s key met.case.now
+
+    pub is_met_by : (met : Met) → IsFirstFound basis rows (cases_in views s) (readings_in views s) met → IsMetBy met
+    is_met_by met first =
         let case = met.case.now in
         let here = among first.place case first.is_case in
         let read : IsRead case met.reading.now = zip_at IsRead (cases_in views s) (readings_in views s) first.place case met.reading.now are_read first.is_case first.is_reading in
-        let meets : MeetsCase basis tables key case = (meet case here met.reading.now read).1 first.meets in
         let Passed : Case → Type 0 = λ other. ¬ MeetsCase basis tables key other in
         record {
-          case = case;
+          listed = here;
+          read = read;
           first_met = record {
             place = first.place;
             is_case = subst (λ list. At list first.place case) cases_are first.is_case;
-            meets = meets;
+            meets = (meet case here met.reading.now read).1 first.meets;
             first = subst (λ list. All Passed (take first.place list)) cases_are (all_before Passed (cases_in views s) first.place
                 (λ i other below there. passed i other there (λ reading at. first.first i other reading below there at)));
           };
-          told = tell case here met.reading.now read meets;
         }
 
     -- where none is found, the rows meet no case
@@ -119,16 +116,6 @@ module _ (basis : Basis) (is_free : TableId → ColId → Bool) (views : QueryVi
           (let here : At (cases_in views s) k (get_or (cases_in views s) k d) = slice_get-get_or (cases_in views s) k d inside in
           passed k (get_or (cases_in views s) k d) here (λ reading at. none k (get_or (cases_in views s) k d) reading here at)));
     }
-
-    -- what the query view gives by what is found; or that the rows meet no case
-    abbrev pub Gives : Option Met → Type 0
-    Gives None = LacksCase basis is_free tables s key
-    Gives (Some met) = IsViewed basis is_free tables s key (read_entity met.reading.now met.case.now.region.ty rows)
-
-    pub gives : TellAsRead basis is_free tables s key rows → AreRowsAt basis.schema tables s key rows → rows ≢ [] → (found : Option Met)
-        → FindsFirst basis rows (cases_in views s) (readings_in views s) found → Gives found
-    gives tell here some None finds = lack_case finds (has_rows basis is_free tables s key rows here some)
-    gives tell here some (Some met) finds = are_viewed tell met finds
 
 -- a list of length 0
 pub no_items : {X : Type 0} (xs : List X) → length xs ≡ 0 → xs ≡ []

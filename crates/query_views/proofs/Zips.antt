@@ -1,11 +1,12 @@
 -- Lists side by side, and the items that stand beside others.
-use Rattle.std.proofs.Common.{◌≡◌, ◌<◌, ◌+◌, ℕ, suc, List, [], ◌∷◌, ◌++◌, map, length, take, get_or, All, Contains, refl, sym, subst, ◌∙◌, arith}
+use Rattle.std.proofs.Common.{◌≡◌, ◌<◌, ◌+◌, ℕ, suc, List, [], ◌∷◌, ◌++◌, append_assoc, filter, map, length, take, get_or, All, Bool, true, false, Contains, refl, sym, ap, subst, ◌∙◌, arith}
 use Rattle.std.specs.List.{AllZip}
-use Rattle.std.proofs.lemmas.List.{get_or-take, length-take}
+use Rattle.std.proofs.lemmas.List.{get_or-take, length-take, map-append}
 use Rattle.std.proofs.lemmas.Option.{get_or_from_slice_get, slice_get_within}
 use Rattle.round_trip.specs.Words.{At}
 use Rattle.emc_base.proofs.Lists.{item_at}
 use Rattle.emc_base.proofs.Loops.{take_item}
+use Rattle.emc_base.proofs.Numbered.{filter_kept, filter_left}
 use Rattle.emc_base.proofs.facts.Zipped.{zip_at, zip_long, zip_push}
 
 module _ {X Y : Type 0} (R : X → Y → Type 0) where
@@ -25,12 +26,18 @@ module _ {X Y : Type 0} (R : X → Y → Type 0) where
       let other = item_at xs i (omega (arith, long, inside)) in
       (other.0, other.1, zip_at R xs ys i other.0 y all other.1 there)
 
--- side by side with images
-pub zip_images : {X Y Z W : Type 0} (R : Z → W → Type 0) (f : X → Z) (g : Y → W) (xs : List X) (ys : List Y) → AllZip (λ x y. R (f x) (g y)) xs ys → AllZip R (map f xs) (map g ys)
-zip_images R f g [] [] all = tt
-zip_images R f g [] (y ∷ ys) all = absurd all
-zip_images R f g (x ∷ xs) [] all = absurd all
-zip_images R f g (x ∷ xs) (y ∷ ys) all = (all.0, zip_images R f g xs ys all.1)
+-- beside images of the first list, or of the second
+pub zip_keyed : {X Y Z : Type 0} (R : Z → Y → Type 0) (f : X → Z) (xs : List X) (ys : List Y) → AllZip (λ x y. R (f x) y) xs ys → AllZip R (map f xs) ys
+zip_keyed R f [] [] all = tt
+zip_keyed R f [] (y ∷ ys) all = absurd all
+zip_keyed R f (x ∷ xs) [] all = absurd all
+zip_keyed R f (x ∷ xs) (y ∷ ys) all = (all.0, zip_keyed R f xs ys all.1)
+
+pub zip_made : {X Y Z : Type 0} (R : X → Z → Type 0) (g : Y → Z) (xs : List X) (ys : List Y) → AllZip (λ x y. R x (g y)) xs ys → AllZip R xs (map g ys)
+zip_made R g [] [] all = tt
+zip_made R g [] (y ∷ ys) all = absurd all
+zip_made R g (x ∷ xs) [] all = absurd all
+zip_made R g (x ∷ xs) (y ∷ ys) all = (all.0, zip_made R g xs ys all.1)
 
 -- what is so of each pair whose first item is a member
 pub zip_members : {X Y : Type 0} (R S : X → Y → Type 0) (xs : List X) (ys : List Y) → ((x : X) (y : Y) → Contains xs x → R x y → S x y) → AllZip R xs ys → AllZip S xs ys
@@ -64,3 +71,14 @@ pub one_more_beside : {X Y : Type 0} (R : X → Y → Type 0) (xs : List X) (i :
     → after ≡ made ++ y ∷ [] → R x y → AllZip R (take (i + 1) xs) after
 one_more_beside R xs i x made after y here so_far is one =
     subst (AllZip R (take (i + 1) xs)) (sym is) (subst (λ taken. AllZip R taken (made ++ y ∷ [])) (sym (take_item xs i x here)) (zip_push R (take i xs) made x y so_far one))
+
+-- one more item is looked at, and its image comes or doesn't
+module _ {X Y : Type 0} (f : X → Y) (p : X → Bool) (xs : List X) (i : ℕ) (x : X) (here : At xs i x) (before so_far after : List Y)
+    (is : so_far ≡ before ++ map f (filter p (take i xs))) where
+  pub chosen_more : p x ≡ true → after ≡ so_far ++ f x ∷ [] → after ≡ before ++ map f (filter p (take (i + 1) xs))
+  chosen_more passes more =
+      more ∙ ap (λ list. list ++ f x ∷ []) is ∙ append_assoc before (map f (filter p (take i xs))) (f x ∷ [])
+      ∙ ap (λ list. before ++ list) (sym (map-append f (filter p (take i xs)) (x ∷ [])) ∙ ap (map f) (sym (filter_kept p xs i x here passes)))
+
+  pub chosen_none : p x ≡ false → after ≡ so_far → after ≡ before ++ map f (filter p (take (i + 1) xs))
+  chosen_none fails same = same ∙ is ∙ ap (λ list. before ++ map f list) (sym (filter_left p xs i x here fails))

@@ -1,4 +1,5 @@
 pub mod Views
 pub mod First
 pub mod Lent
+pub mod LinkKeys
 pub mod Answers

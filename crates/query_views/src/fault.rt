@@ -1,11 +1,12 @@
-use edm_types::Entity;
-use emc_base::{Memory, Place};
+use edm_types::{Entity, Hosted};
+use emc_base::{Memory, Place, Seq};
 use std::alloc::AllocFailed;
 
-/// The entity that rows tell.
+/// The entity that rows tell, and the links that it hosts, in the order of associations.
 #[derive(Drop)]
 pub struct Found {
     pub entity: Entity,
+    pub links: Seq<Hosted>,
 }
 
 /// Why no entity is told at a key.

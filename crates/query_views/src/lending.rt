@@ -1,8 +1,8 @@
 ghost use Rattle.std.specs.Prelude.{◌≡◌, ◌<◌, IfOk, length};
 ghost use Rattle.cells.specs.Cells.{is_free_in};
-ghost use Rattle.cells.specs.Parts.{AreParts};
+ghost use Rattle.cells.specs.Parts.{AreParts, schema_in};
 ghost use Rattle.region_states.specs.region_basis.BasisOf.{basis_of};
-ghost use Rattle.round_trip.specs.Words.{AreLegalTables};
+ghost use Rattle.round_trip.specs.Words.{AreLegalTables, RoundTrips};
 ghost use Rattle.query_views.specs.Answers.{LendsAt, LendsSet, TellsKey};
 ghost use Rattle.round_trip.specs.Words.{Tables as RowsOfEach};
 ghost use Rattle.query_views.specs.Lent.{shown_values};
@@ -20,9 +20,10 @@ use region_states::parts_are_a_basis;
 use std::alloc::Global;
 use table_files::Tables;
 
-/// An entity that is lent: the case that its rows meet, and these rows.
+/// An entity that is lent: its key, the case that its rows meet, and these rows.
 #[derive(Drop)]
 pub(crate) struct LentEntity<'t> {
+    pub key: Vec<&'t Value>,
     pub met: Met<'t>,
     pub rows: Vec<PlacedRow<'t>>,
 }
@@ -38,6 +39,7 @@ pub(crate) fn lent_set<'t>(
     requires parts { AreParts parts.now }
     requires set { set.index < length parts.now.model.now.sets }
     requires views { AreQueryViewsOf (basis_of parts.now) (is_free_in parts.now.cells.now) views.now }
+    requires round_trips { RoundTrips (schema_in parts.now) }
     requires legal { AreLegalTables parts.now.store.now tables.now }
     ensures { LendsSet (basis_of parts.now) (is_free_in parts.now.cells.now) tables.now set result }
 {
@@ -59,12 +61,14 @@ fn lent_entity<'t>(
     requires parts { AreParts parts.now }
     requires set { set.index < length parts.now.model.now.sets }
     requires views { AreQueryViewsOf (basis_of parts.now) (is_free_in parts.now.cells.now) views.now }
-    ensures { (tables : RowsOfEach) → LendsAt (basis_of parts.now) (is_free_in parts.now.cells.now) tables set group.entry result }
+    requires round_trips { RoundTrips (schema_in parts.now) }
+    ensures { (tables : RowsOfEach) → AreLegalTables parts.now.store.now tables → LendsAt (basis_of parts.now) (is_free_in parts.now.cells.now) tables set group.entry result }
 {
     parts_are_a_basis();
     met_cases_are_read();
     match views.first_met(alloc, parts, set, group.items.as_slice())? {
         Some(met) => Ok(LentEntity {
+            key: group.key,
             met,
             rows: group.items,
         }),
@@ -87,8 +91,8 @@ fn place_of(alloc: Global, model: &EntityModel, set: SetId, key: &[&Value]) -> R
     })
 }
 
-// A key of these values.
-fn copied_key(alloc: Global, values: &[&Value]) -> Result<Key, Memory>
+/// A key of these values. `Memory` comes where memory ran out.
+pub(crate) fn copied_key(alloc: Global, values: &[&Value]) -> Result<Key, Memory>
     ensures { IfOk result (λ key. key ≡ shown_values values.now) }
 {
     let mut key = Seq::empty(alloc);

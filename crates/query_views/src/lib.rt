@@ -1,9 +1,10 @@
-//! The query views of a mapping: from tables to the entities that they tell, one by one or as a state.
+//! The query views of a mapping: from tables to the entities and links that they tell, one by one or as a state.
 #![tactic(auto)]
 
 mod entity_at;
 mod fault;
 mod lending;
+mod links;
 mod loaded;
 mod making;
 mod state_of;

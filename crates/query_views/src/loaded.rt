@@ -2,35 +2,39 @@ ghost use Rattle.std.specs.Prelude.{◌≡◌, ◌==◌, ◌<◌, length, positi
 ghost use Rattle.std.specs.Option.{option_copied, option_map};
 ghost use Rattle.emc_base.specs.ValueRefs.{shown_value};
 ghost use Rattle.cells.specs.Cells.{is_free_in};
-ghost use Rattle.cells.specs.Parts.{AreParts};
+ghost use Rattle.cells.specs.Parts.{AreParts, schema_in};
 ghost use Rattle.region_states.specs.region_basis.BasisOf.{basis_of};
-ghost use Rattle.round_trip.specs.Words.{AreLegalTables, At, Entity, entities_in, value_of};
-ghost use Rattle.query_views.specs.Answers.{Lends};
-ghost use Rattle.query_views.specs.Lent.{lent_entity, lent_state};
+ghost use Rattle.round_trip.specs.Words.{AreLegalTables, At, Entity, Link, RoundTrips, entities_in, links_in, value_of};
+ghost use Rattle.query_views.specs.Answers.{Lends, LendsSets};
+ghost use Rattle.query_views.specs.Lent.{key_at, lent_entity, lent_state};
 ghost use Rattle.query_views.specs.Views.{AreQueryViewsOf};
 
 use crate::fault::StateFault;
 use crate::lending::{LentEntity, lent_set};
+use crate::links::{LentLinks, lent_links};
 use crate::views::QueryViews;
 use cells::Parts;
 use edm_types::EntityModel;
-use emc_base::{PropId, SetId, TypeId, ValueRef};
+use emc_base::{AssocId, PropId, SetId, TypeId, ValueRef};
 use region_partition::props_of;
 use region_states::parts_are_a_basis;
 use std::alloc::Global;
 use table_files::Tables;
 
-/// The entities that tables tell, lent: those of each set in the order of their keys, their values from rows or from constants of the views.
+/// The entities and links that tables tell, lent: the entities of each set in the order of their keys, their values from rows or from constants of the views; and
+/// the links of each association set in the order of the key at the first end and then of that at the second, their keys from rows.
 #[derive(Drop)]
 pub struct Loaded<'t> {
     pub(crate) model: &'t EntityModel,
     pub(crate) sets: Vec<Vec<LentEntity<'t>>>,
+    pub(crate) links: Vec<LentLinks<'t>>,
 }
 
 impl<'t> Loaded<'t> {
     /// The entities that legal tables tell by the query views of a mapping: for each key at which rows stand the entity that is told by the first case that they
-    /// meet. `NoCase` comes exactly where the rows at some key meet none, with the first, by set and key; and `Memory` where memory ran out. No link is
-    /// told yet. The rows are put in the order of keys, table by table and then all together.
+    /// meet, with the links that this hosts, and for each row of an association's own table its link. `NoCase` comes exactly where the rows at some key meet none,
+    /// with the first, by set and key; and `Memory` where memory ran out. The rows are put in the order of keys, table by table and then all together, and so are
+    /// the links of each association.
     pub fn of(
         alloc: Global,
         views: &'t QueryViews,
@@ -39,20 +43,17 @@ impl<'t> Loaded<'t> {
     ) -> Result<Loaded<'t>, StateFault>
         requires parts { AreParts parts.now }
         requires views { AreQueryViewsOf (basis_of parts.now) (is_free_in parts.now.cells.now) views.now }
+        requires round_trips { RoundTrips (schema_in parts.now) }
         requires legal { AreLegalTables parts.now.store.now tables.now }
         ensures { Lends (basis_of parts.now) (is_free_in parts.now.cells.now) tables.now result }
     {
         parts_are_a_basis();
-        let mut sets = Vec::new(alloc);
-        for index in 0..parts.model.sets.len() {
-            let set = SetId {
-                index: index as u32,
-            };
-            sets.push(lent_set(alloc, views, parts, tables, set)?)?;
-        }
+        let sets = lent_sets(alloc, views, parts, tables)?;
+        let links = lent_links(alloc, parts, tables, sets.as_slice())?;
         Ok(Loaded {
             model: parts.model,
             sets,
+            links,
         })
     }
 
@@ -88,6 +89,28 @@ impl<'t> Loaded<'t> {
         }
     }
 
+    /// How many links of an association set there are; none where there is no such set, and none of one whose association has a constraint.
+    pub fn link_len(&self, assoc: AssocId) -> usize
+        ensures { result ≡ length (links_in (lent_state self.now) assoc) }
+    {
+        match self.links.get(assoc.index as usize) {
+            Some(of_assoc) => of_assoc.keys.len(),
+            None => 0,
+        }
+    }
+
+    /// Lends a part of the key at an end of the link at a place of an association set. Links are counted from 0 in the order of the key at the first end and then
+    /// of that at the second, and parts from 0 in the order of the key.
+    pub fn link_part(&self, assoc: AssocId, i: usize, first: bool, part: usize) -> ValueRef<'t>
+        requires { (link : Link) × At (links_in (lent_state self.now) assoc) i link × (part < length (key_at first link)) }
+        ensures { (link : Link) → At (links_in (lent_state self.now) assoc) i link → At (key_at first link) part (shown_value result) }
+    {
+        match self.links.get(assoc.index as usize) {
+            Some(of_assoc) => of_assoc.part(i, first, part),
+            None => unreachable!(),
+        }
+    }
+
     // The entity at a place of a set; `None` where there is none.
     fn entity(&self, set: SetId, i: usize) -> Option<&LentEntity<'t>>
         ensures { option_map lent_entity (option_copied result) ≡ slice_get (entities_in (lent_state self.now) set) i }
@@ -97,6 +120,29 @@ impl<'t> Loaded<'t> {
             None => None,
         }
     }
+}
+
+// The entities of all sets that tables tell.
+fn lent_sets<'t>(
+    alloc: Global,
+    views: &'t QueryViews,
+    parts: &Parts<'_>,
+    tables: &'t Tables,
+) -> Result<Vec<Vec<LentEntity<'t>>>, StateFault>
+    requires parts { AreParts parts.now }
+    requires views { AreQueryViewsOf (basis_of parts.now) (is_free_in parts.now.cells.now) views.now }
+    requires round_trips { RoundTrips (schema_in parts.now) }
+    requires legal { AreLegalTables parts.now.store.now tables.now }
+    ensures { LendsSets (basis_of parts.now) (is_free_in parts.now.cells.now) tables.now result }
+{
+    let mut sets = Vec::new(alloc);
+    for index in 0..parts.model.sets.len() {
+        let set = SetId {
+            index: index as u32,
+        };
+        sets.push(lent_set(alloc, views, parts, tables, set)?)?;
+    }
+    Ok(sets)
 }
 
 // Lends the entity at a place; `None` where there is none.

@@ -1,26 +1,28 @@
-ghost use Rattle.std.specs.Prelude.{◌≡◌, [], IfOk, map};
+ghost use Rattle.std.specs.Prelude.{◌≡◌, IfOk, map};
 ghost use Rattle.cells.specs.Cells.{is_free_in};
-ghost use Rattle.cells.specs.Parts.{AreParts};
+ghost use Rattle.cells.specs.Parts.{AreParts, schema_in};
 ghost use Rattle.region_states.specs.region_basis.BasisOf.{basis_of};
-ghost use Rattle.round_trip.specs.Words.{AreLegalTables};
+ghost use Rattle.round_trip.specs.Words.{AreLegalTables, RoundTrips};
 ghost use Rattle.query_views.specs.Answers.{StateOf};
-ghost use Rattle.query_views.specs.Lent.{lent_entity, lent_state};
+ghost use Rattle.query_views.specs.Lent.{lent_entity, lent_state, link_of, shown_links, shown_values};
 ghost use Rattle.query_views.specs.Views.{AreQueryViewsOf};
 
 use crate::fault::StateFault;
-use crate::lending::LentEntity;
+use crate::lending::{LentEntity, copied_key};
+use crate::links::{LentLinks, first_key, second_key};
 use crate::loaded::Loaded;
 use crate::views::QueryViews;
 use cells::Parts;
-use edm_types::{Entity, EntityModel, Link};
-use emc_base::{Memory, Seq};
+use edm_types::{Entity, Link};
+use emc_base::{Memory, Seq, Value};
 use entity_state::EntityState;
 use std::alloc::Global;
 use table_files::Tables;
 
 impl QueryViews {
-    /// The state of all entities that legal tables tell, those of each set in the order of their keys. `NoCase` comes exactly where the rows at some key meet no
-    /// case, with the first, by set and key; and `Memory` where memory ran out. No link is told yet. Each value is copied once.
+    /// The state of all entities and links that legal tables tell: the entities of each set in the order of their keys, the links of each association set in the
+    /// order of the key at the first end and then of that at the second. `NoCase` comes exactly where the rows at some key meet no case, with the first, by set
+    /// and key; and `Memory` where memory ran out. Each value is copied once.
     pub fn state_of(
         &self,
         alloc: Global,
@@ -29,6 +31,7 @@ impl QueryViews {
     ) -> Result<EntityState, StateFault>
         requires parts { AreParts parts.now }
         requires views { AreQueryViewsOf (basis_of parts.now) (is_free_in parts.now.cells.now) self.now }
+        requires round_trips { RoundTrips (schema_in parts.now) }
         requires legal { AreLegalTables parts.now.store.now tables.now }
         ensures { StateOf (basis_of parts.now) (is_free_in parts.now.cells.now) tables.now result }
     {
@@ -47,7 +50,7 @@ impl<'t> Loaded<'t> {
         for of_set in self.sets.as_slice() {
             lists.push(copied_set(alloc, of_set.as_slice())?)?;
         }
-        Ok(EntityState::of_lists(lists, no_links(alloc, self.model)?))
+        Ok(EntityState::of_lists(lists, copied_links(alloc, self.links.as_slice())?))
     }
 }
 
@@ -66,13 +69,34 @@ fn copied_set(alloc: Global, lent: &[LentEntity<'_>]) -> Result<Seq<Entity>, Mem
     Ok(entities)
 }
 
-// No link of any association set.
-fn no_links(alloc: Global, model: &EntityModel) -> Result<Vec<Seq<Link>>, Memory>
-    ensures { IfOk result (λ lists. lists.items ≡ map (λ _. []) model.now.assocs) }
+// Copies of the links of each association set.
+fn copied_links(alloc: Global, lent: &[LentLinks<'_>]) -> Result<Vec<Seq<Link>>, Memory>
+    ensures { IfOk result (λ lists. lists.items ≡ map shown_links lent.now) }
 {
     let mut lists = Vec::new(alloc);
-    for _ in model.assocs.as_slice() {
-        lists.push(Seq::empty(alloc))?;
+    for of_assoc in lent {
+        lists.push(copied_assoc(alloc, of_assoc)?)?;
     }
     Ok(lists)
+}
+
+// Copies of those of one.
+fn copied_assoc(alloc: Global, lent: &LentLinks<'_>) -> Result<Seq<Link>, Memory>
+    ensures { IfOk result (λ links. links ≡ shown_links lent.now) }
+{
+    let mut links = Seq::empty(alloc);
+    for both in lent.keys.as_slice() {
+        links.push(copied_link(alloc, both.key.as_slice(), lent.first_len)?)?;
+    }
+    Ok(links)
+}
+
+// A link of copies of both keys.
+fn copied_link(alloc: Global, both: &[&Value], first_len: usize) -> Result<Link, Memory>
+    ensures { IfOk result (λ link. link ≡ link_of first_len (shown_values both.now)) }
+{
+    Ok(Link {
+        first: copied_key(alloc, first_key(both, first_len))?,
+        second: copied_key(alloc, second_key(both, first_len))?,
+    })
 }

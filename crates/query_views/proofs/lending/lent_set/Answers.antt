@@ -31,7 +31,7 @@ loop-group-preserved c =
     let long : length (into_iter_items c.loop-group.group-iterator) ≡ length (group ∷ left) = ap length steps.0 in
     let less : into_iter_len c.next.new.self + 1 ≡ into_iter_len c.loop-group.group-iterator = steps.1 in (
       subst (AllZip Lent (yielded ++ group ∷ [])) (sym c.in_ok-push.ensures.items)
-          (zip_push Lent yielded c.loop-group.entities.items group c.in_ok-lent_entity.field-0 c.loop-group.invariant.0 (c.in_ok-lent_entity.ensures c.args.tables.now)),
+          (zip_push Lent yielded c.loop-group.entities.items group c.in_ok-lent_entity.field-0 c.loop-group.invariant.0 (c.in_ok-lent_entity.ensures c.args.tables.now c.requires.legal)),
       c.loop-group.invariant.1 ∙ ap (λ list. yielded ++ list) steps.0 ∙ sym (append_assoc yielded (group ∷ []) left),
       omega (arith, before, long, less),
     )
@@ -49,7 +49,7 @@ returns-in_err-lent_entity c =
     let is : groups ≡ c.loop-group.yielded ++ c.in-Some.group ∷ left = all ∙ c.loop-group.invariant.1 ∙ ap (λ list. c.loop-group.yielded ++ list) c.in-Some.ensures.steps.0 in
     handed_on (LendsSet basis is_free tables s) c.in_err-lent_entity.field-0.0 c.from_residual-in_err-lent_entity.result c.from_residual-in_err-lent_entity.ensures.1
     (lack_set basis is_free tables s groups c.in_ok-group-items.ensures c.loop-group.yielded c.in-Some.group left is c.loop-group.entities.items c.loop-group.invariant.0
-    c.in_err-lent_entity.field-0.0 (c.in_err-lent_entity.ensures tables))
+    c.in_err-lent_entity.field-0.0 (c.in_err-lent_entity.ensures tables c.requires.legal))
 
 pub returns : goal.returns
 returns c =

@@ -4,7 +4,7 @@ use Rattle.std.proofs.lemmas.Option.{slice_get_read}
 use Rattle.std.specs.Global.{Vec}
 use Rattle.emc_base.proofs.Turns.{mapped_more}
 use Rattle.round_trip.specs.Words.{Entity}
-use Rattle.query_views.specs.Lent.{lent_entity}
+use Rattle.query_views.specs.Lent.{lent_entity, shown_links}
 use Rattle.query_views.specs.declared.lending.LentEntity.{LentEntity}
 use Rattle.query_views.proofs.loaded.Loaded.copied.Goals as goal
 
@@ -20,4 +20,4 @@ pub returns : goal.returns
 returns c =
     let copied : Vec LentEntity → List Entity = λ of_set. map lent_entity of_set.items in
     let passed = take_all c.loop-of_set.of_set-index c.as_slice-of_set-items.result.now c.loop-of_set-test.false ∙ c.as_slice-of_set-items.ensures.value in
-    c.of_lists.ensures ∙ (λ k. record { entities = (c.loop-of_set.invariant ∙ ap (map copied) passed) k; links = c.in_ok-no_links.ensures k })
+    c.of_lists.ensures ∙ (λ k. record { entities = (c.loop-of_set.invariant ∙ ap (map copied) passed) k; links = (c.in_ok-copied_links.ensures ∙ ap (map shown_links) c.as_slice-2.ensures.value) k })

@@ -1,0 +1,6 @@
+mod BothKeys
+mod HostedKeys
+mod JoinedKeys
+mod JoinedRows
+mod Gathered
+mod LinkLists
