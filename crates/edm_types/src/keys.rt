@@ -31,7 +31,7 @@ fn values_beside(
 ) -> Result<Key, Memory>
     ensures { IfOk result (λ key. key ≡ map (λ prop. value_beside prop props.now values.now) wanted.now) }
 {
-    let mut key = Seq::empty(alloc);
+    let mut key = Seq::with_room(alloc, wanted.len())?;
     for prop in wanted {
         let value = value_beside(alloc, *prop, props, values)?;
         key.push(value)?;

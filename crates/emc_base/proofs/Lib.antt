@@ -9,3 +9,4 @@ pub mod Joined
 pub mod FoundItems
 pub mod Turns
 pub mod Stable
+pub mod KeyRefs

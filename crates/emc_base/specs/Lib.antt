@@ -6,3 +6,4 @@ pub mod Faults
 pub mod OrderLaws
 pub mod Places
 pub mod ValueRefs
+pub mod KeyRefs

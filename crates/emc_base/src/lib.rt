@@ -4,6 +4,7 @@
 mod bin;
 mod found;
 mod ids;
+mod key_ref;
 mod ledger;
 mod memory;
 mod order;
@@ -18,6 +19,7 @@ pub use found::put_found;
 pub use ids::{
     AssocId, ColId, FkId, FragId, GroupId, LinkFragId, PropId, SetId, TableId, TypeId, narrow,
 };
+pub use key_ref::KeyRef;
 pub use ledger::{Ledger, Steps};
 pub use memory::{Memory, beside, both};
 pub use order::{compare, compare_keys, order_is_total};

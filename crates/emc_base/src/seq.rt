@@ -41,6 +41,17 @@ impl<T> Seq<T> {
         }
     }
 
+    /// The empty list, with room for so many items, so that adding these takes no memory. `Memory` comes where there is none for it.
+    pub fn with_room(alloc: Global, count: usize) -> Result<Seq<T>, Memory>
+    where
+        T: Drop,
+        ensures { IfOk result (λ list. list ≡ []) }
+    {
+        Ok(Seq {
+            items: Vec::with_capacity(alloc, count)?,
+        })
+    }
+
     /// The list of a vector's items. A vector of more than [`MOST_ITEMS`] items counts as want of memory.
     pub fn from_vec(items: Vec<T>) -> Result<Seq<T>, Memory>
     where

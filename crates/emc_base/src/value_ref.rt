@@ -1,4 +1,5 @@
 ghost use Rattle.std.specs.Prelude.{◌≡◌, IfOk};
+ghost use Rattle.emc_base.specs.Order.{rank_of, value_cmp};
 ghost use Rattle.emc_base.specs.ValueRefs.{shown_value};
 
 use crate::bin::Bin;
@@ -6,6 +7,7 @@ use crate::memory::Memory;
 use crate::txt::Txt;
 use crate::value::Value;
 use std::alloc::Global;
+use std::cmp::Ordering;
 
 /// A value whose text or bytes are lent.
 #[derive(Clone, Copy)]
@@ -49,5 +51,32 @@ impl<'t> ValueRef<'t> {
             ValueRef::Text(text) => Value::Text(Txt::of(alloc, text)?),
             ValueRef::Bytes(bytes) => Value::Bytes(Bin::of(alloc, bytes)?),
         })
+    }
+
+    /// The order of lent values: that of the values that they show.
+    #[inline]
+    pub fn compare(&self, other: &ValueRef<'_>) -> Ordering
+        ensures { result ≡ value_cmp (shown_value self.now) (shown_value other.now) }
+    {
+        match (self, other) {
+            (ValueRef::Whole(x), ValueRef::Whole(y)) => x.cmp(y),
+            (ValueRef::Flag(x), ValueRef::Flag(y)) => x.cmp(y),
+            (ValueRef::Text(x), ValueRef::Text(y)) => x.cmp(y),
+            (ValueRef::Bytes(x), ValueRef::Bytes(y)) => x.cmp(y),
+            _ => self.rank().cmp(&other.rank()),
+        }
+    }
+
+    // The place of a lent value's variant in the order.
+    fn rank(&self) -> u8
+        ensures { result ≡ rank_of (shown_value self.now) }
+    {
+        match self {
+            ValueRef::Null => 0,
+            ValueRef::Whole(_) => 1,
+            ValueRef::Flag(_) => 2,
+            ValueRef::Text(_) => 3,
+            ValueRef::Bytes(_) => 4,
+        }
     }
 }

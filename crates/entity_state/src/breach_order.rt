@@ -5,4 +5,4 @@ mod in_order;
 mod repeats;
 
 pub use found::Found;
-pub use repeats::{first_repeat, first_repeated_key};
+pub use repeats::{first_repeat, first_repeated_key, lent_keys};

@@ -1,5 +1,4 @@
 pub mod Entities
-pub mod NoAssociations
 pub mod HoldsFocus
 pub mod focus
 pub mod defaults

@@ -8,4 +8,5 @@ pub mod Decided
 pub mod Sound
 pub mod Kept
 pub mod Unbroken
+pub mod InOrder
 pub mod Legality

@@ -3,4 +3,6 @@ pub mod Ends
 pub mod Once
 pub mod Counts
 pub mod Principals
+pub mod Standing
+pub mod InOrder
 pub mod Tells

@@ -3,10 +3,12 @@
 mod counts;
 mod ends;
 mod first;
+mod in_order;
 mod legal;
 mod once;
 mod principals;
 mod side;
+mod standing;
 mod under;
 
 pub use first::{first_in_links, legal_links_have_no_breach};

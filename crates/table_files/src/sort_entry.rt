@@ -1,5 +1,4 @@
 ghost use Rattle.std.specs.Prelude.{◌≡◌, All, IfOk, drop, map};
-ghost use Rattle.emc_base.specs.Order.{rank_of, value_cmp};
 ghost use Rattle.emc_base.specs.ValueRefs.{shown_value};
 ghost use Rattle.table_files.specs.Entries.{HasFirstCells, entry_cmp, first_cell};
 ghost use Rattle.table_files.specs.InOrder.{IsInOrderOf};
@@ -92,41 +91,15 @@ pub(crate) fn compare_entries(
 ) -> Ordering
     ensures { result ≡ entry_cmp cols.now one.now other.now }
 {
-    let order = compare_lent(one.first, other.first);
+    let order = one.first.compare(&other.first);
     if order.is_ne() {
         return order;
     }
-    let order = compare_lent(one.second, other.second);
+    let order = one.second.compare(&other.second);
     if order.is_ne() {
         return order;
     }
     compare_rows(one.row, other.row, cols)
-}
-
-// The order of lent values: that of the values.
-fn compare_lent(one: ValueRef<'_>, other: ValueRef<'_>) -> Ordering
-    ensures { result ≡ value_cmp (shown_value one.entry) (shown_value other.entry) }
-{
-    match (one, other) {
-        (ValueRef::Whole(x), ValueRef::Whole(y)) => x.cmp(&y),
-        (ValueRef::Flag(x), ValueRef::Flag(y)) => x.cmp(&y),
-        (ValueRef::Text(x), ValueRef::Text(y)) => x.cmp(y),
-        (ValueRef::Bytes(x), ValueRef::Bytes(y)) => x.cmp(y),
-        _ => rank(one).cmp(&rank(other)),
-    }
-}
-
-// The place of a lent value's variant in the order.
-fn rank(value: ValueRef<'_>) -> u8
-    ensures { result ≡ rank_of (shown_value value.entry) }
-{
-    match value {
-        ValueRef::Null => 0,
-        ValueRef::Whole(_) => 1,
-        ValueRef::Flag(_) => 2,
-        ValueRef::Text(_) => 3,
-        ValueRef::Bytes(_) => 4,
-    }
 }
 
 // The rows of entries.

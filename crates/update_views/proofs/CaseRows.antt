@@ -4,7 +4,7 @@ use Rattle.std.specs.List.{AllZip, enumerate_from}
 use Rattle.std.proofs.lemmas.List.Elements.{All-contains, All-head}
 use Rattle.emc_base.proofs.Lists.{only_stands}
 use Rattle.emc_base.proofs.Mapped.{contains_at}
-use Rattle.round_trip.specs.Words.{SetId, TableId, ColId, AssocId, PropId, Value, Null, Assoc, At, Entity, Hosted, IsLegal, Link, LinkFragment, RoundTrips, State, key_props, links_in, value_beside, value_of}
+use Rattle.round_trip.specs.Words.{SetId, TableId, ColId, AssocId, PropId, Value, Null, Assoc, At, Entity, Hosted, IsLegal, Link, LinkFragment, RoundTrips, State, key_props, links_in, value_beside}
 use Rattle.round_trip.specs.declared.FailKind.TheVariants as kind
 use Rattle.cells.specs.Limits.{IsWithinLimits}
 use Rattle.table_files.specs.declared.tables.TableRow.{TableRow}
@@ -15,7 +15,7 @@ use Rattle.regions.specs.declared.pattern.Focus.TheVariants as focus
 use Rattle.regions.specs.declared.pattern.PatternRow.{PatternRow}
 use Rattle.regions.specs.declared.pattern.Symbol.{Symbol}
 use Rattle.regions.specs.declared.pattern.Symbol.TheVariants as symbol
-use Rattle.regions.specs.Basis.{Basis, Host, partner_end}
+use Rattle.regions.specs.Basis.{Basis, partner_end}
 use Rattle.regions.specs.Patterns.{Valuation, by_entity, by_link, pattern_of, value_under}
 use Rattle.regions.specs.Settled.{Settled, free, has_clash, known, settle}
 use Rattle.regions.specs.region_laws.IsBasis.{IsBasis}
@@ -30,7 +30,7 @@ use Rattle.failure_laws.proofs.links.LinkRows.{row_clear}
 use Rattle.case_laws.specs.declared.region_cases.case.CaseCell.TheVariants as cell
 use Rattle.case_laws.specs.declared.region_cases.link_case.LinkCaseCell.TheVariants as link_cell
 use Rattle.case_laws.specs.filled_rows.Demanded.{IsHeldWith}
-use Rattle.case_laws.specs.filled_rows.Filled.{FillsRows, entity_rows, link_rows, table_row}
+use Rattle.case_laws.specs.filled_rows.Filled.{entity_rows, link_rows, table_row}
 use Rattle.case_laws.specs.region_cases.Cases.{by_settled, case_cell, case_of, case_row}
 use Rattle.case_laws.specs.declared.region_cases.link_case.LinkCase.{LinkCase}
 use Rattle.case_laws.specs.region_cases.Links.{end_by_settled, link_case_of, link_cell as cell_of_link}
@@ -44,7 +44,7 @@ use Rattle.region_states.proofs.joined_laws.OneRow.{joined_row}
 use Rattle.region_states.specs.conflicts.Conflicts.{IsTableOf}
 use Rattle.update_views.specs.Views.{AreViewsOf, joined_row as view_row, local_rows}
 use Rattle.update_views.specs.declared.views.UpdateViews.{UpdateViews}
-use Rattle.update_views.specs.CaseRows.{AreFilledRows, IsFilled, IsFilledEnd, IsFilledLink, IsFilledRow, IsPartnersPart}
+use Rattle.update_views.specs.CaseRows.{AreFilledRows, IsFilled, IsFilledEnd, IsFilledLink, IsFilledRow}
 
 -- images of one list side by side
 zip_images : {X Y Z : Type 0} (R : Y → Z → Type 0) (f : X → Y) (g : X → Z) (xs : List X) → ((x : X) → Contains xs x → R (f x) (g x)) → AllZip R (map f xs) (map g xs)

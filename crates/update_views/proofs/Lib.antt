@@ -3,6 +3,7 @@ pub mod Within
 pub mod Joined
 pub mod Made
 pub mod Kept
+pub mod Imaged
 pub mod Added
 pub mod Gathering
 pub mod Whole

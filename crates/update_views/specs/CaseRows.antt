@@ -1,6 +1,6 @@
 -- That rows are those of a case, with the values that it shows filled in.
 -- Source: the update views of Melnik, Adya and Bernstein, SIGMOD 2007; what a free column gets is this project's choice.
-use Rattle.std.specs.Prelude.{◌≡◌, List, Contains, Bool, if◌then◌else◌}
+use Rattle.std.specs.Prelude.{◌≡◌, List, Contains}
 use Rattle.std.specs.List.{AllZip}
 use Rattle.round_trip.specs.Words.{AssocId, PropId, Value, Null, Assoc, EntityModel, Entity, Hosted, Link, At, key_props, value_beside, value_of}
 use Rattle.table_files.specs.declared.tables.TableRow.{TableRow}

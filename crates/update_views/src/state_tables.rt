@@ -8,16 +8,16 @@ ghost use Rattle.cells.specs.host_links.Grouped.{links_in};
 ghost use Rattle.region_states.specs.region_basis.BasisOf.{basis_of};
 ghost use Rattle.regions.specs.region_laws.Partners.{HasFewPartners};
 ghost use Rattle.case_laws.specs.filled_rows.Gathered.{rows_of_links, rows_of_set};
-ghost use Rattle.update_views.specs.Placed.{with_rows};
+ghost use Rattle.update_views.specs.Placed.{keys_in_sets, with_rows};
 ghost use Rattle.update_views.specs.Views.{AreViewsOf, joined_row, local_rows};
 ghost use Rattle.update_views.specs.view_rows.Held.{row_by_link};
 
 use crate::view_rows::LinkRow;
 use crate::views::UpdateViews;
 use cells::{HostLinks, Parts};
-use edm_types::{Entity, Link};
-use emc_base::{AssocId, Memory, Seq, SetId};
-use entity_state::{EntityState, key_of};
+use edm_types::{Entity, EntityModel, Link};
+use emc_base::{AssocId, Key, Memory, Seq, SetId};
+use entity_state::{EntityState, keys_of};
 use std::alloc::Global;
 use table_files::{TableRow, Tables};
 
@@ -37,42 +37,47 @@ impl UpdateViews {
         requires clear { HasNoClash (schema_in parts.now) state.now }
         ensures tables { IfOk result (TablesAre (schema_in parts.now) state.now) }
     {
+        let keys = keys_in_sets(alloc, parts.model, state.entity_lists())?;
         let hosts = HostLinks::of(alloc, parts.model, parts.cells, state)?;
-        self.tables_by(alloc, parts, &hosts, state)
+        self.tables_by(alloc, parts, &hosts, keys.as_slice(), state)
     }
 
     // The rows of all entities and of all links, in their tables.
-    fn tables_by(
+    fn tables_by<'s>(
         &self,
         alloc: Global,
         parts: &Parts<'_>,
-        hosts: &HostLinks,
+        hosts: &HostLinks<'s>,
+        keys: &'s [Seq<Key>],
         state: &EntityState,
     ) -> Result<Tables, Memory>
         requires parts { AreParts parts.now }
         requires views { AreViewsOf (basis_of parts.now) self.now }
+        requires keys { keys.now ≡ keys_in_sets parts.now.model.now state.now.entities }
         ensures { IfOk result (λ tables. tables ≡ with_rows
             (with_rows (map (λ _. []) parts.now.store.now.tables)
             (flat_map (rows_of_set parts.now.model.now (local_rows self.now) (joined_row self.now) (links_in hosts.now)) (enumerate_from 0 state.now.entities)))
             (flat_map (rows_of_links parts.now.model.now (local_rows self.now) (joined_row self.now) (links_in hosts.now)) (enumerate_from 0 state.now.links))) }
     {
         let mut tables = Tables::empty(alloc, parts.store)?;
-        self.add_sets(alloc, parts, hosts, state.entity_lists(), &mut tables)?;
+        self.add_sets(alloc, parts, hosts, keys, state.entity_lists(), &mut tables)?;
         self.add_links(alloc, parts, state.link_lists(), &mut tables)?;
         Ok(tables)
     }
 
     // Adds the rows of the entities of each set.
-    fn add_sets(
+    fn add_sets<'s>(
         &self,
         alloc: Global,
         parts: &Parts<'_>,
-        hosts: &HostLinks,
+        hosts: &HostLinks<'s>,
+        keys: &'s [Seq<Key>],
         entities: &[Seq<Entity>],
         tables: &mut Tables,
     ) -> Result<(), Memory>
         requires parts { AreParts parts.now }
         requires views { AreViewsOf (basis_of parts.now) self.now }
+        requires keys { keys.now ≡ keys_in_sets parts.now.model.now entities.now }
         requires each { length tables.old ≡ length parts.now.store.now.tables }
         ensures kept { length tables.new ≡ length tables.old }
         ensures added { IfOk result (λ _. tables.new ≡ with_rows tables.old
@@ -83,48 +88,37 @@ impl UpdateViews {
                 return Err(Memory);
             };
             let set = SetId { index: number };
-            self.add_entities(alloc, parts, hosts, set, of_set.as_slice(), tables)?;
+            let keys = keys[index].as_slice();
+            self.add_entities(alloc, parts, hosts, set, keys, of_set.as_slice(), tables)?;
         }
         Ok(())
     }
 
     // Adds the rows of the entities of a set.
-    fn add_entities(
+    fn add_entities<'s>(
         &self,
         alloc: Global,
         parts: &Parts<'_>,
-        hosts: &HostLinks,
+        hosts: &HostLinks<'s>,
         set: SetId,
+        keys: &'s [Key],
         entities: &[Entity],
         tables: &mut Tables,
     ) -> Result<(), Memory>
         requires parts { AreParts parts.now }
         requires views { AreViewsOf (basis_of parts.now) self.now }
+        requires keys { keys.now ≡ map (key_of parts.now.model.now) entities.now }
         requires each { length tables.old ≡ length parts.now.store.now.tables }
         ensures kept { length tables.new ≡ length tables.old }
         ensures added { IfOk result (λ _. tables.new ≡ with_rows tables.old
             (rows_of_set parts.now.model.now (local_rows self.now) (joined_row self.now) (links_in hosts.now) (set.index, entities.now))) }
     {
-        for entity in entities {
-            let rows = self.rows_with_links(alloc, parts, hosts, set, entity)?;
+        for (place, entity) in entities.iter().enumerate() {
+            let links = hosts.at(set, &keys[place]);
+            let rows = self.rows_of(alloc, set, entity, links)?;
             add_rows(rows, tables)?;
         }
         Ok(())
-    }
-
-    // The rows of an entity with the links that it hosts.
-    fn rows_with_links(
-        &self,
-        alloc: Global,
-        parts: &Parts<'_>,
-        hosts: &HostLinks,
-        set: SetId,
-        entity: &Entity,
-    ) -> Result<Vec<TableRow>, Memory>
-        ensures { IfOk result (λ rows. rows.items ≡ local_rows self.now set entity.now (links_in hosts.now set (key_of parts.now.model.now entity.now))) }
-    {
-        let key = key_of(alloc, parts.model, entity)?;
-        self.rows_of(alloc, set, entity, hosts.at(set, &key))
     }
 
     // Adds the rows of the links of each association set, where they have rows of their own.
@@ -203,4 +197,20 @@ fn add_rows(rows: Vec<TableRow>, tables: &mut Tables) -> Result<(), Memory>
         tables.insert(placed.table, placed.row)?;
     }
     Ok(())
+}
+
+// The keys of the entities of each set.
+fn keys_in_sets(
+    alloc: Global,
+    model: &EntityModel,
+    entities: &[Seq<Entity>],
+) -> Result<Vec<Seq<Key>>, Memory>
+    ensures { IfOk result (λ keys. keys.items ≡ keys_in_sets model.now entities.now) }
+{
+    let mut keys = Vec::with_capacity(alloc, entities.len())?;
+    for of_set in entities {
+        let of_set = keys_of(alloc, model, of_set.as_slice())?;
+        keys.push(Seq::from_vec(of_set)?)?;
+    }
+    Ok(keys)
 }

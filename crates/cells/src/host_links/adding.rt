@@ -9,18 +9,18 @@ ghost use Rattle.cells.specs.host_links.Grouped.{links_at_key, links_of};
 
 use crate::LinkPlace;
 use edm_types::{Assoc, Hosted, Link};
-use emc_base::{AssocId, Key, Memory, Seq, SetId};
+use emc_base::{AssocId, Key, KeyRef, Memory, Seq, SetId};
 use std::alloc::Global;
 use std::collections::BTreeMap;
 
 /// Adds the links of one association set, each behind those of the entity that hosts it. `Memory` comes where memory ran out.
-pub fn add_hosted(
+pub fn add_hosted<'s>(
     alloc: Global,
-    by_set: &mut Vec<BTreeMap<Key, Seq<Hosted>>>,
+    by_set: &mut Vec<BTreeMap<KeyRef<'s>, Seq<Hosted>>>,
     place: LinkPlace,
     id: AssocId,
     assoc: &Assoc,
-    links: &[Link],
+    links: &'s [Link],
 ) -> Result<(), Memory>
     requires first { assoc.now.first.set.index < length by_set.old.items }
     requires second { assoc.now.second.set.index < length by_set.old.items }
@@ -38,17 +38,17 @@ pub fn add_hosted(
 }
 
 // Adds links, each at the key of the entity that hosts it.
-fn add_links(
+fn add_links<'s>(
     alloc: Global,
-    by_key: &mut BTreeMap<Key, Seq<Hosted>>,
+    by_key: &mut BTreeMap<KeyRef<'s>, Seq<Hosted>>,
     first_hosts: bool,
     id: AssocId,
-    links: &[Link],
+    links: &'s [Link],
 ) -> Result<(), Memory>
     ensures { IfOk result (λ _. (key : List Value) → links_at_key by_key.new [] key ≡ links_at_key by_key.old [] key ++ of_key first_hosts id key links.now) }
 {
     for link in links {
-        let key = host_key(first_hosts, link).copy(alloc)?;
+        let key = KeyRef::of(host_key(first_hosts, link));
         let partner = partner_key(first_hosts, link).copy(alloc)?;
         add_link(alloc, by_key, key, Hosted { assoc: id, partner })?;
     }
@@ -56,14 +56,14 @@ fn add_links(
 }
 
 // Adds a link at the key of the entity that hosts it.
-fn add_link(
+fn add_link<'s>(
     alloc: Global,
-    by_key: &mut BTreeMap<Key, Seq<Hosted>>,
-    key: Key,
+    by_key: &mut BTreeMap<KeyRef<'s>, Seq<Hosted>>,
+    key: KeyRef<'s>,
     hosted: Hosted,
 ) -> Result<(), Memory>
-    ensures own { IfOk result (λ _. links_at_key by_key.new [] key ≡ links_at_key by_key.old [] key ++ hosted ∷ []) }
-    ensures others { IfOk result (λ _. (other : List Value) → is_eq (slice_cmp value_cmp key other) ≡ false
+    ensures own { IfOk result (λ _. links_at_key by_key.new [] key.entry ≡ links_at_key by_key.old [] key.entry ++ hosted ∷ []) }
+    ensures others { IfOk result (λ _. (other : List Value) → is_eq (slice_cmp value_cmp key.entry other) ≡ false
         → get (slice_cmp value_cmp) by_key.new other ≡ get (slice_cmp value_cmp) by_key.old other) }
 {
     by_key

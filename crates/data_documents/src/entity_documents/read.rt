@@ -88,7 +88,7 @@ fn values_in(
 ) -> Result<Seq<Value>, Memory>
     ensures { IfOk result (λ values. values ≡ map (value_at model.now (part_of node.entry)) props.now) }
 {
-    let mut values = Seq::empty(alloc);
+    let mut values = Seq::with_room(alloc, props.len())?;
     for prop in props {
         values.push(value_at(alloc, model, *prop, node)?)?;
     }
@@ -115,8 +115,8 @@ fn value_at(
 pub fn key_in(alloc: Global, model: &EntityModel, ty: TypeId, node: Node<'_>) -> Result<Key, Memory>
     ensures { IfOk result (λ key. key ≡ key_in model.now ty (part_of node.entry)) }
 {
-    let mut key = Seq::empty(alloc);
     let props = key_props(model, ty);
+    let mut key = Seq::with_room(alloc, props.len())?;
     for (place, prop) in props.iter().enumerate() {
         key.push(part_at(alloc, model, place, *prop, node)?)?;
     }

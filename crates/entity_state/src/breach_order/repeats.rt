@@ -3,7 +3,7 @@ ghost use Rattle.std.specs.Ordering.{eq_by_cmp};
 ghost use Rattle.entity_state.specs.breach_order.Repeats.{IsFirstRepeat};
 
 use crate::breach_order::in_order::are_apart;
-use emc_base::{Key, Memory};
+use emc_base::{Key, KeyRef, Memory};
 use std::alloc::Global;
 use std::collections::BTreeSet;
 
@@ -35,5 +35,17 @@ fn first_seen_again<K: Ord>(alloc: Global, keys: &[K]) -> Result<Option<usize>, 
 pub fn first_repeated_key(alloc: Global, keys: &[Key]) -> Result<Option<usize>, Memory>
     ensures { IfOk result (IsFirstRepeat (λ one other. one ≡ other) keys.now) }
 {
-    first_repeat(alloc, keys)
+    let lent = lent_keys(alloc, keys)?;
+    first_repeat(alloc, lent.as_slice())
+}
+
+/// Lends keys, in their order.
+pub fn lent_keys<'k>(alloc: Global, keys: &'k [Key]) -> Result<Vec<KeyRef<'k>>, Memory>
+    ensures { IfOk result (λ lent. lent.items ≡ keys.now) }
+{
+    let mut lent = Vec::with_capacity(alloc, keys.len())?;
+    for key in keys {
+        lent.push(KeyRef::of(key))?;
+    }
+    Ok(lent)
 }

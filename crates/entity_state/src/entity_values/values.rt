@@ -52,7 +52,7 @@ pub fn values_of(
 ) -> Result<Key, Memory>
     ensures { IfOk result (λ values. values ≡ values_of model.now entity.now props.now) }
 {
-    let mut values = Seq::empty(alloc);
+    let mut values = Seq::with_room(alloc, props.len())?;
     for prop in props {
         let value = value_of(alloc, model, entity, *prop)?;
         values.push(value)?;

@@ -5,9 +5,9 @@ use crate::views::all_regions;
 use crate::views::loading::views_of;
 use case_laws::Case;
 use cells::{HostLinks, Parts};
-use edm_types::{Entity, Link, key_of};
-use emc_base::{AssocId, Seq, SetId, Steps};
-use entity_state::EntityState;
+use edm_types::{Entity, EntityModel, Link};
+use emc_base::{AssocId, Key, Seq, SetId, Steps};
+use entity_state::{EntityState, keys_of};
 use std::alloc::Global;
 use table_files::{LocalRows, TableRow};
 use texts::views_text;
@@ -64,20 +64,22 @@ fn put_rows_by(
 ) -> Option<()>
     requires { AreParts parts.now }
 {
+    let keys = keys_in_sets(alloc, parts.model, state.entity_lists())?;
     let hosts = HostLinks::of(alloc, parts.model, parts.cells, state).ok()?;
-    let put = put_sets(alloc, text, parts, views, &hosts, state);
+    let put = put_sets(alloc, text, parts, views, &hosts, &keys, state);
     drop(hosts);
     put?;
     put_associations(alloc, text, parts, views, state)
 }
 
 // Puts the rows of the entities of each set.
-fn put_sets(
+fn put_sets<'s>(
     alloc: Global,
     text: &mut String,
     parts: &Parts<'_>,
     views: &UpdateViews,
-    hosts: &HostLinks,
+    hosts: &HostLinks<'s>,
+    keys: &'s [Vec<Key>],
     state: &EntityState,
 ) -> Option<()> {
     for place in 0..parts.model.sets.len() {
@@ -85,30 +87,44 @@ fn put_sets(
             index: place as u32,
         };
         let entities = state.entity_lists().get(place)?;
-        put_entities(alloc, text, parts, views, hosts, set, entities.as_slice())?;
+        let keys = keys.get(place)?;
+        put_entities(alloc, text, views, hosts, set, keys, entities.as_slice())?;
     }
     Some(())
 }
 
 // Puts the rows of entities of a set.
-fn put_entities(
+fn put_entities<'s>(
     alloc: Global,
     text: &mut String,
-    parts: &Parts<'_>,
     views: &UpdateViews,
-    hosts: &HostLinks,
+    hosts: &HostLinks<'s>,
     set: SetId,
+    keys: &'s [Key],
     entities: &[Entity],
 ) -> Option<()> {
-    for entity in entities {
-        let key = key_of(alloc, parts.model, entity).ok()?;
-        let links = hosts.at(set, &key);
+    for (place, entity) in entities.iter().enumerate() {
+        let links = hosts.at(set, keys.get(place)?);
         let rows = views
             .local(alloc, set, entity, links, &mut Steps::new())
             .ok()?;
         put_lines(alloc, text, rows.as_slice())?;
     }
     Some(())
+}
+
+// The keys of the entities of each set.
+fn keys_in_sets(
+    alloc: Global,
+    model: &EntityModel,
+    entities: &[Seq<Entity>],
+) -> Option<Vec<Vec<Key>>> {
+    let mut keys = Vec::new(alloc);
+    for of_set in entities {
+        let of_set = keys_of(alloc, model, of_set.as_slice()).ok()?;
+        keys.push(of_set).ok()?;
+    }
+    Some(keys)
 }
 
 // Puts a line for each row.

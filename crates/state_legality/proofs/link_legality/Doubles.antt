@@ -1,6 +1,5 @@
 -- Links by the keys at their ends, and the first that stands twice.
 use Rattle.std.proofs.Common.{◌≡◌, ◌↔◌, ℕ, ◌<◌, List, [], ◌∷◌, ◌++◌, length, get_or, map, Option, Some, None, IsTrue, refl, sym, ap, subst, ◌∙◌, arith}
-use Rattle.std.specs.Borrow.{Bor}
 use Rattle.std.specs.Cmp.{Equal-is}
 use Rattle.std.specs.Cmp.Lexicographic.{slice_cmp}
 use Rattle.std.specs.declared.cmp.Ordering.{Ordering}
@@ -84,8 +83,8 @@ told_double a assoc links told i link found rule place first is here found_is is
     repeat_at place_of one = record { rule = 6; spot = a.index ∷ i ∷ []; place = place_of one }
 
 -- the order of the keys at the first end, and then of those at the second
-abbrev pub pair_cmp : Bor (List Value) × Bor (List Value) → Bor (List Value) × Bor (List Value) → Ordering
-pair_cmp x y = ordering_then (slice_cmp value_cmp x.0.now y.0.now) (slice_cmp value_cmp x.1.now y.1.now)
+abbrev pub pair_cmp : List Value × List Value → List Value × List Value → Ordering
+pair_cmp x y = ordering_then (slice_cmp value_cmp x.0 y.0) (slice_cmp value_cmp x.1 y.1)
 
 both_equal : (one other : Ordering) → ordering_then one other ≡ Equal → (one ≡ Equal) × (other ≡ Equal)
 both_equal Less other is = absurd cc
@@ -101,13 +100,13 @@ tied : (one other : List Value) → one ≡ other → slice_cmp value_cmp one ot
 tied one other same = (Equal-is (slice_cmp value_cmp one other)).0 ((tied_keys one other).1 same)
 
 -- it ties just the pairs of equal links
-pub pairs_tie : (x y : Bor (List Value) × Bor (List Value)) → IsTrue (eq_by_cmp pair_cmp x y) ↔ (link_of x ≡ link_of y)
+pub pairs_tie : (x y : List Value × List Value) → IsTrue (eq_by_cmp pair_cmp x y) ↔ (link_of x ≡ link_of y)
 pairs_tie x y = (
   λ is.
-      (let equal = both_equal (slice_cmp value_cmp x.0.now y.0.now) (slice_cmp value_cmp x.1.now y.1.now) ((Equal-is (pair_cmp x y)).0 is) in
-      let first : x.0.now ≡ y.0.now = key_cmp_apart x.0.now y.0.now equal.0 in
-      let second : x.1.now ≡ y.1.now = key_cmp_apart x.1.now y.1.now equal.1 in
+      (let equal = both_equal (slice_cmp value_cmp x.0 y.0) (slice_cmp value_cmp x.1 y.1) ((Equal-is (pair_cmp x y)).0 is) in
+      let first : x.0 ≡ y.0 = key_cmp_apart x.0 y.0 equal.0 in
+      let second : x.1 ≡ y.1 = key_cmp_apart x.1 y.1 equal.1 in
       λ i. record { first = first i; second = second i }),
-  λ same. ap is_eq (equal_both (slice_cmp value_cmp x.0.now y.0.now) (slice_cmp value_cmp x.1.now y.1.now)
-      (tied x.0.now y.0.now (ap (λ (link : Link). link.first) same)) (tied x.1.now y.1.now (ap (λ (link : Link). link.second) same))),
+  λ same. ap is_eq (equal_both (slice_cmp value_cmp x.0 y.0) (slice_cmp value_cmp x.1 y.1)
+      (tied x.0 y.0 (ap (λ (link : Link). link.first) same)) (tied x.1 y.1 (ap (λ (link : Link). link.second) same))),
 )

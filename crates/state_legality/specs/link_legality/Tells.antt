@@ -1,6 +1,7 @@
 -- What is told of links and of principals.
 -- Source: the rules S5 to S8 of `Legal` in `round_trip`.
-use Rattle.std.specs.Prelude.{◌≡◌, ◌⊎◌, List, [], ◌++◌, All, Some, MatchOption}
+use Rattle.std.specs.Prelude.{◌≡◌, ◌⊎◌, List, [], ◌++◌, slice_get, unwrap_or, All, Some, MatchOption}
+use Rattle.emc_base.specs.Lists.{AreApart}
 use Rattle.groupings.specs.least_fault.Least.{Among}
 use Rattle.round_trip.specs.Words.{AssocId, EntityModel, Assoc, Constraint, Entity, Link, State, At, place_at, entities_in, links_in, IsIndependent, HasEntityAt, AreLegalLinks, HavePrincipals}
 use Rattle.round_trip.specs.legality.Breaches.{BreaksEnd, BreaksOnce, BreaksCount, BreaksPrincipal}
@@ -71,3 +72,8 @@ KeepsSides model first second links assoc = KeepsSide model first links assoc Fi
 -- S5 to S8 at one association
 abbrev pub KeepsAssoc : EntityModel → State → AssocId → Assoc → Type 0
 KeepsAssoc model state a assoc = MatchOption assoc.constraint (AreLegalLinks model state assoc (links_in state a)) (HavePrincipals model state assoc)
+
+-- the links keep S5 to S7, where these entities stand in sets
+abbrev pub KeepsIndependent : EntityModel → List (List Entity) → List Link → Assoc → Type 0
+KeepsIndependent model entities links assoc =
+    KeepsSides model (unwrap_or (slice_get entities assoc.first.set.index) []) (unwrap_or (slice_get entities assoc.second.set.index) []) links assoc × AreApart links

@@ -7,17 +7,20 @@ ghost use Rattle.state_legality.specs.link_legality.Tells.{HasDouble};
 
 use crate::link_legality::ends::link_place;
 use edm_types::{Assoc, Link};
-use emc_base::{AssocId, Key, Memory, Txt};
+use emc_base::{AssocId, KeyRef, Memory, Txt};
 use entity_state::{Found, StateRule, first_repeat};
 use std::alloc::Global;
 
-// The keys of links at both ends.
-fn key_pairs<'a>(alloc: Global, links: &'a [Link]) -> Result<Vec<(&'a Key, &'a Key)>, Memory>
+/// The keys of links at both ends.
+pub fn key_pairs<'a>(
+    alloc: Global,
+    links: &'a [Link],
+) -> Result<Vec<(KeyRef<'a>, KeyRef<'a>)>, Memory>
     ensures { IfOk result (λ pairs. map link_of pairs.items ≡ links.now) }
 {
-    let mut pairs = Vec::new(alloc);
+    let mut pairs = Vec::with_capacity(alloc, links.len())?;
     for link in links {
-        pairs.push((&link.first, &link.second))?;
+        pairs.push((KeyRef::of(&link.first), KeyRef::of(&link.second)))?;
     }
     Ok(pairs)
 }

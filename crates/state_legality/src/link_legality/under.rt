@@ -30,8 +30,8 @@ fn marks_of(alloc: Global, count: usize, types: &[TypeId]) -> Result<Vec<bool>, 
     Ok(marks)
 }
 
-// Marks a place, if it is one.
-fn mark(marks: &mut Vec<bool>, place: usize)
+/// Marks a place, if it is one.
+pub fn mark(marks: &mut Vec<bool>, place: usize)
     ensures { AddsMarks (λ i. i ≡ place) marks.old.items marks.new.items }
 {
     if place < marks.len() {

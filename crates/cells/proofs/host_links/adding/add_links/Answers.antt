@@ -19,12 +19,12 @@ loop-link-preserved c =
     let was = c.loop-link.by_key in
     let now = c.add_link.new.by_key in
     let stands : At links i link = slice_get-get_or links i link c.loop-link-test.true ∙ ap Some (sym c.link-item.is) in
-    let is_key : c.in_ok-key.key ≡ host_key c.args.first_hosts link = c.in_ok-key.ensures ∙ c.host_key.ensures in
+    let is_key : c.of-key.result ≡ host_key c.args.first_hosts link = c.of-key.ensures ∙ c.host_key.ensures in
     let is_partner : c.in_ok-partner.partner ≡ partner_key c.args.first_hosts link = c.in_ok-partner.ensures ∙ c.partner_key.ensures in
     let Own : List Value → List Value → Type 0 = λ key partner. links_at_key now [] key ≡ links_at_key was [] key ++ (record { assoc = c.args.id; partner = partner }) ∷ [] in
     let Others : List Value → Type 0 = λ key. (other : List Value) → is_eq (slice_cmp value_cmp key other) ≡ false
     → get (slice_cmp value_cmp) now other ≡ get (slice_cmp value_cmp) was other in
     one_more c.args.first_hosts c.args.id was now link
-    (subst (λ key. Own key (partner_key c.args.first_hosts link)) is_key (subst (Own c.in_ok-key.key) is_partner c.in_ok-add_link.ensures.own))
+    (subst (λ key. Own key (partner_key c.args.first_hosts link)) is_key (subst (Own c.of-key.result) is_partner c.in_ok-add_link.ensures.own))
     (subst Others is_key c.in_ok-add_link.ensures.others)
     c.args.by_key.now links i stands c.loop-link.invariant

@@ -1,10 +1,13 @@
-use Rattle.std.proofs.Common.{◌≡◌, [], flat_map, map, ◌∙◌}
+use Rattle.std.proofs.Common.{◌≡◌, [], flat_map, map, sym, ap, ◌∙◌}
 use Rattle.std.specs.List.{enumerate_from}
 use Rattle.cells.specs.host_links.Grouped.{links_in}
 use Rattle.case_laws.specs.filled_rows.Gathered.{rows_of_links, rows_of_set}
-use Rattle.update_views.specs.Placed.{with_rows}
+use Rattle.update_views.specs.Placed.{keys_in_sets, with_rows}
 use Rattle.update_views.specs.Views.{joined_row, local_rows}
 use Rattle.update_views.proofs.views.UpdateViews.tables_by.Goals as goal
+
+pub add_sets-requires-clause-keys : goal.add_sets-requires-clause-keys
+add_sets-requires-clause-keys c = c.requires.keys ∙ ap (keys_in_sets c.args.parts.now.model.now) (sym c.entity_lists.ensures)
 
 pub returns : goal.returns
 returns c =

@@ -1,4 +1,5 @@
-use Rattle.std.proofs.Common.{Result, Ok, Err, IfOk}
+use Rattle.std.proofs.Common.{Result, Ok, Err, IfOk, ap, ◌∙◌}
+use Rattle.update_views.specs.Placed.{keys_in_sets}
 use Rattle.update_views.proofs.Whole.{whole}
 use Rattle.update_views.proofs.views.UpdateViews.tables_of.Goals as goal
 
@@ -6,6 +7,9 @@ use Rattle.update_views.proofs.views.UpdateViews.tables_of.Goals as goal
 follows : {T E : Type 0} (P Q : T → Type 0) → ((value : T) → P value → Q value) → (result : Result T E) → IfOk result P → IfOk result Q
 follows P Q each (Ok value) is = each value is
 follows P Q each (Err fault) is = tt
+
+pub tables_by-requires-clause-keys : goal.tables_by-requires-clause-keys
+tables_by-requires-clause-keys c = c.as_slice.ensures.value ∙ c.in_ok-keys.ensures ∙ ap (keys_in_sets c.args.parts.now.model.now) c.entity_lists.ensures
 
 pub returns : goal.returns
 returns c = record {
