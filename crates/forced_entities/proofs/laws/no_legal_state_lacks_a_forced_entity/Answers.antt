@@ -1,0 +1,8 @@
+use Rattle.forced_entities.proofs.Holds.{entity_forces, link_forces}
+use Rattle.forced_entities.proofs.laws.no_legal_state_lacks_a_forced_entity.Goals as goal
+
+pub returns-clause-entities : goal.returns-clause-entities
+returns-clause-entities c = entity_forces
+
+pub returns-clause-links : goal.returns-clause-links
+returns-clause-links c = link_forces

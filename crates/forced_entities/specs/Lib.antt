@@ -1,0 +1,5 @@
+pub mod Forced
+pub mod Listed
+pub mod Held
+pub mod Spots
+pub mod Walked

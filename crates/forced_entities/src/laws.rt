@@ -1,0 +1,29 @@
+ghost use Rattle.std.specs.Prelude.{◌↔◌, Contains, List};
+ghost use Rattle.round_trip.specs.Words.{PropId};
+ghost use Rattle.round_trip.specs.soundness.models.Models.{IsSoundModel};
+ghost use Rattle.regions.specs.Basis.{Basis};
+ghost use Rattle.cells.specs.Limits.{IsWithinLimits};
+ghost use Rattle.regions.specs.declared.pattern.Focus.{Focus};
+ghost use Rattle.regions.specs.declared.pattern.Focus.TheVariants as focus;
+ghost use Rattle.regions.specs.region_laws.IsBasis.{IsBasis};
+ghost use Rattle.regions.specs.region_laws.Held.{LinkedEntity, StandingLink};
+ghost use Rattle.forced_entities.specs.Forced.{IsForced};
+ghost use Rattle.forced_entities.specs.Listed.{forced_by};
+ghost use Rattle.forced_entities.specs.Held.{HasNoNull, HoldsForced, values_at, values_at_link};
+ghost use Rattle.forced_entities.specs.declared.member.Forced.{Forced};
+
+/// The law that no legal state lacks a forced entity: where a legal state of a sound model holds an entity that a region holds with its partners, and none of
+/// some properties is null in it, the state holds each entity that the region forces with these; and with a link each that the link forces.
+pub fn no_legal_state_lacks_a_forced_entity()
+    ensures entities { (basis : Basis) → IsSoundModel basis.schema.model → (at : LinkedEntity basis) (not_null : List PropId) → HasNoNull basis not_null at.entity
+        → (one : Forced) → IsForced basis (focus.Entity at.region) not_null one → HoldsForced basis at.state (values_at basis at) one }
+    ensures links { (basis : Basis) → IsSoundModel basis.schema.model → (at : StandingLink basis) (not_null : List PropId)
+        → (one : Forced) → IsForced basis (focus.Link at.a) not_null one → HoldsForced basis at.state (values_at_link basis at) one }
+{}
+
+/// The law that what is forced is a list: what the focus forces by itself, and what that leads to in as many steps as there are sets, holds just what is
+/// forced, of each basis whose schema is within the limits.
+pub fn forced_entities_are_listed()
+    ensures { (basis : Basis) → IsBasis basis → IsWithinLimits basis.schema → (of : Focus) (not_null : List PropId) (one : Forced)
+        → Contains (forced_by basis of not_null) one ↔ IsForced basis of not_null one }
+{}
