@@ -3,3 +3,4 @@ pub mod Listed
 pub mod Held
 pub mod Spots
 pub mod Walked
+pub mod Examples

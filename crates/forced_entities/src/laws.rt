@@ -1,4 +1,4 @@
-ghost use Rattle.std.specs.Prelude.{◌↔◌, Contains, List};
+ghost use Rattle.std.specs.Prelude.{◌≡◌, ◌↔◌, ◌∷◌, [], Contains, List, None};
 ghost use Rattle.round_trip.specs.Words.{PropId};
 ghost use Rattle.round_trip.specs.soundness.models.Models.{IsSoundModel};
 ghost use Rattle.regions.specs.Basis.{Basis};
@@ -8,6 +8,7 @@ ghost use Rattle.regions.specs.declared.pattern.Focus.TheVariants as focus;
 ghost use Rattle.regions.specs.region_laws.IsBasis.{IsBasis};
 ghost use Rattle.regions.specs.region_laws.Held.{LinkedEntity, StandingLink};
 ghost use Rattle.forced_entities.specs.Forced.{IsForced};
+ghost use Rattle.forced_entities.specs.Examples.{basis_on, employees, forced_in, lines, own, p, region_of};
 ghost use Rattle.forced_entities.specs.Listed.{forced_by};
 ghost use Rattle.forced_entities.specs.Held.{HasNoNull, HoldsForced, values_at, values_at_link};
 ghost use Rattle.forced_entities.specs.declared.member.Forced.{Forced};
@@ -26,4 +27,13 @@ pub fn no_legal_state_lacks_a_forced_entity()
 pub fn forced_entities_are_listed()
     ensures { (basis : Basis) → IsBasis basis → IsWithinLimits basis.schema → (of : Focus) (not_null : List PropId) (one : Forced)
         → Contains (forced_by basis of not_null) one ↔ IsForced basis of not_null one }
+{}
+
+/// What is forced in small models: of a line its order, the order's customer, of whom the account alone is known, and this account; of an employee the
+/// manager, where the manager's number isn't null, and nobody where it may be.
+pub fn forced_entities_of_small_models()
+    ensures lines { forced_by (basis_on lines) (focus.Entity (region_of 0)) []
+        ≡ forced_in 1 (own 0 ∷ own 1 ∷ []) ∷ forced_in 2 (own 0 ∷ None ∷ []) ∷ forced_in 3 (own 0 ∷ []) ∷ [] }
+    ensures managed { forced_by (basis_on employees) (focus.Entity (region_of 0)) (p 2 ∷ []) ≡ forced_in 0 (own 0 ∷ own 2 ∷ []) ∷ [] }
+    ensures alone { forced_by (basis_on employees) (focus.Entity (region_of 0)) [] ≡ [] }
 {}

@@ -9,6 +9,9 @@ mod spots;
 mod stepping;
 mod walk;
 
-pub use laws::{forced_entities_are_listed, no_legal_state_lacks_a_forced_entity};
+pub use laws::{
+    forced_entities_are_listed, forced_entities_of_small_models,
+    no_legal_state_lacks_a_forced_entity,
+};
 pub use member::Forced;
 pub use walk::forced;
