@@ -5,7 +5,7 @@ use Rattle.emc_base.proofs.Lists.{all_from_members, at_once}
 use Rattle.emc_base.proofs.Members.{contains_head, in_map}
 use Rattle.emc_base.proofs.Numbered.{filter_contains}
 use Rattle.round_trip.specs.Words.{PropId, SetId, TypeId, Value, Null, Assoc, Constraint, End, Entity, EntityModel, EntitySet, Link, State, At, HasAllowedNulls, HasEntityAt, HasFittingType, HasPrincipal, HavePrincipals, IsA, IsLegal, dependent_end, entities_in, key_of, key_props, links_in, principal_end, props_of, value_beside, value_of, values_of}
-use Rattle.edm_types.specs.IsA.{chain}
+use Rattle.edm_types.specs.IsA.{chain, same as itself}
 use Rattle.round_trip.specs.soundness.Lookups.{IsNeeded, IsUnderElement}
 use Rattle.round_trip.specs.soundness.mappings.Joined.{prop}
 use Rattle.round_trip.specs.soundness.models.Constraints.{IsSoundAssoc, IsSoundConstraint}
@@ -28,7 +28,7 @@ use Rattle.regions.proofs.region_laws.listing.Listed.{set_is}
 use Rattle.population.proofs.plain.Placed.{place_of}
 use Rattle.population.proofs.principals.PrincipalKeys.{same_length, sound_constraint}
 use Rattle.population.proofs.pruning.KeptLegal.{has_no_constraint}
-use Rattle.forced_entities.specs.Forced.{IsAskedFrom, IsBegun, IsForced, IsKnown, IsLinkEnd, IsPartner, LeadsTo, begins, forced_at, leads, part_beside, part_in, principal_of}
+use Rattle.forced_entities.specs.Forced.{IsAskedFrom, IsBegun, IsForced, IsKnown, IsLinkEnd, IsPartner, LeadsTo, begins, forced_at, leads, own_member, part_beside, part_in, principal_of}
 use Rattle.forced_entities.specs.Held.{HasNoNull, HoldsForced, values_at, values_at_link}
 use Rattle.forced_entities.specs.declared.member.Forced.{Forced}
 use Rattle.forced_entities.proofs.Beside.{beside, part_among, part_map}
@@ -237,6 +237,17 @@ module _ (basis : Basis) (sound : IsSoundModel basis.schema.model) (at : LinkedE
 
   pub entity_forces : (one : Forced) → IsForced basis (focus.Entity at.region) not_null one → HoldsForced basis at.state (values_at basis at) one
   entity_forces one forced = all_stand basis sound at.state at.legal (values_at basis at) (focus.Entity at.region) not_null (λ to begun. ⊎_elim (begun_partner to) (begun_asked to) begun) one forced
+
+-- the entity itself stands, told by its own properties
+pub own_stands : (basis : Basis) → IsSoundModel basis.schema.model → (at : LinkedEntity basis) → HoldsForced basis at.state (values_at basis at) (own_member basis at.region)
+own_stands basis sound at = record {
+  entity = at.entity;
+  stands = subst (λ (s : SetId). Contains (entities_in at.state s) at.entity) (sym (set_is basis at.s at.region at.held.listed)) at.held.stands;
+  typed = subst (λ (t : TypeId). IsA basis.schema.model at.entity.ty t) at.held.holds.typed (itself at.entity.ty);
+  parts = λ p one is.
+      (let heard = told_part basis sound at.state at.legal (values_at basis at) at.region.set at.region.ty (λ q. Some (symbol.Prop q)) p one is in
+      ap (value_under (values_at basis at)) (let same : symbol.Prop p ≡ one = (let told = heard.1 in cc) in same));
+}
 
 -- and so does what a link forces
 module _ (basis : Basis) (sound : IsSoundModel basis.schema.model) (at : StandingLink basis) where

@@ -7,15 +7,17 @@ ghost use Rattle.regions.specs.declared.pattern.Focus.{Focus};
 ghost use Rattle.regions.specs.declared.pattern.Focus.TheVariants as focus;
 ghost use Rattle.regions.specs.region_laws.IsBasis.{IsBasis};
 ghost use Rattle.regions.specs.region_laws.Held.{LinkedEntity, StandingLink};
-ghost use Rattle.forced_entities.specs.Forced.{IsForced};
+ghost use Rattle.forced_entities.specs.Forced.{IsForced, own_member};
 ghost use Rattle.forced_entities.specs.Examples.{basis_on, employees, forced_in, lines, own, p, region_of};
 ghost use Rattle.forced_entities.specs.Listed.{forced_by};
 ghost use Rattle.forced_entities.specs.Held.{HasNoNull, HoldsForced, values_at, values_at_link};
 ghost use Rattle.forced_entities.specs.declared.member.Forced.{Forced};
 
 /// The law that no legal state lacks a forced entity: where a legal state of a sound model holds an entity that a region holds with its partners, and none of
-/// some properties is null in it, the state holds each entity that the region forces with these; and with a link each that the link forces.
+/// some properties is null in it, the state holds that entity, told by its own
+/// properties, and each one that the region forces with these; and with a link each that the link forces.
 pub fn no_legal_state_lacks_a_forced_entity()
+    ensures own { (basis : Basis) → IsSoundModel basis.schema.model → (at : LinkedEntity basis) → HoldsForced basis at.state (values_at basis at) (own_member basis at.region) }
     ensures entities { (basis : Basis) → IsSoundModel basis.schema.model → (at : LinkedEntity basis) (not_null : List PropId) → HasNoNull basis not_null at.entity
         → (one : Forced) → IsForced basis (focus.Entity at.region) not_null one → HoldsForced basis at.state (values_at basis at) one }
     ensures links { (basis : Basis) → IsSoundModel basis.schema.model → (at : StandingLink basis) (not_null : List PropId)
