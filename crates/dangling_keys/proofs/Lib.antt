@@ -1,0 +1,11 @@
+pub mod Matching
+pub mod Rows
+pub mod Members
+pub mod Told
+pub mod Flow
+pub mod FlowValues
+pub mod Serving
+pub mod Reading
+pub mod EntityRead
+pub mod LinkRead
+pub mod LeftOut

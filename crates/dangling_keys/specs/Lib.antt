@@ -1,0 +1,6 @@
+pub mod Showing
+pub mod Dangling
+pub mod Members
+pub mod Flow
+pub mod FlowStates
+pub mod LeftOut
