@@ -9,3 +9,6 @@ pub mod Reading
 pub mod EntityRead
 pub mod LinkRead
 pub mod LeftOut
+pub mod Outer
+pub mod Listing
+pub mod Target

@@ -13,7 +13,7 @@ use Rattle.round_trip.specs.soundness.Lookups.{column_kind}
 use Rattle.round_trip.specs.soundness.Stores.{IsSoundForeignKey}
 use Rattle.dangling_keys.specs.Showing.{col_beside}
 
-Decides-col : (one two : ColId) → Decides (one.index == two.index) (one ≡ two)
+pub Decides-col : (one two : ColId) → Decides (one.index == two.index) (one ≡ two)
 Decides-col one two = Decides-like (one.index == two.index) (λ same i. record { index = same i }) (λ same. ap (λ (c : ColId). c.index) same) (Decides-eqb one.index two.index)
 
 -- a column of the first list has one of the second beside it, where there are as many

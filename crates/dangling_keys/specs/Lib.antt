@@ -4,3 +4,4 @@ pub mod Members
 pub mod Flow
 pub mod FlowStates
 pub mod LeftOut
+pub mod Outer
