@@ -81,7 +81,7 @@ module _ (basis : Basis) (outer : ℕ) (s : SetId) (region : Region) (of : HasRe
   admissible : IsAdmissible basis outer region values
   admissible = flow_admissible basis outer s region of not_null open_
 
-  made : IsMade basis outer s region values (linked_hosts basis region) (wanted_by basis outer (given_by basis outer (linked_hosts basis region) region values))
+  pub made : IsMade basis outer s region values (linked_hosts basis region) (wanted_by basis outer (given_by basis outer (linked_hosts basis region) region values))
   made = focus_made basis outer s region of values admissible (wanted_by basis outer (given_by basis outer (linked_hosts basis region) region values))
       (focus_wants_short basis outer s region of values admissible) (λ to there. there)
 

@@ -56,7 +56,7 @@ no_number n same_value = absurd (let never : number n ≡ Null = same_value in c
 no_letter : (n : ℕ) → letter n ≢ Null
 no_letter n same_value = absurd (let never : letter n ≡ Null = same_value in cc)
 
-fresh_there : (k : Kind) (outer i : ℕ) (value : Value) → value ≡ fresh k outer i → value ≢ Null
+pub fresh_there : (k : Kind) (outer i : ℕ) (value : Value) → value ≡ fresh k outer i → value ≢ Null
 fresh_there kind.Boolean outer i value is null = no_number (5 * i + outer + 7) (sym is ∙ null)
 fresh_there kind.Byte outer i value is null = no_number (5 * i + outer + 7) (sym is ∙ null)
 fresh_there kind.Int16 outer i value is null = no_number (5 * i + outer + 7) (sym is ∙ null)
@@ -74,23 +74,20 @@ pub record HoldsMember (basis : Basis) (of : Focus) (values : Valuation) (state 
 
 module _ (basis : Basis) (is : IsBasis basis) (limits : IsWithinLimits basis.schema) (outer : ℕ) (row : outer ≤ 4) (of : Focus) (not_null : List PropId) (values : Valuation) (state : State)
     (legal : IsLegal basis.schema.model state)
-    (valued : (one : Symbol) (i : ℕ) → IsFlow basis of one i → value_under values one ≢ Null → (k : Kind) × (value_under values one ≡ fresh k outer i))
-    (told : (u : SetId) (entity : Entity) → Contains (entities_in state u) entity
-    → IsNumberKey basis outer u (key_of basis.schema.model entity) ⊎ IsRead basis outer of values (IsMember basis of not_null) u (key_of basis.schema.model entity))
-    (holds : (one : Forced) → IsMember basis of not_null one → HoldsMember basis of values state one) where
+    (valued : (one : Symbol) (i : ℕ) → IsFlow basis of one i → value_under values one ≢ Null → (k : Kind) × (value_under values one ≡ fresh k outer i)) where
   abbrev model : EntityModel
   model = basis.schema.model
 
   -- a part of the set's key is the entity's value
   module _ (u : SetId) (set : EntitySet) (here : At model.sets u.index set) (entity : Entity) (stands : Contains (entities_in state u) entity) where
-    shows : (p : PropId) → Contains (set_key model u) p → value_beside p (set_key model u) (key_of model entity) ≡ value_of model entity p
+    pub shows : (p : PropId) → Contains (set_key model u) p → value_beside p (set_key model u) (key_of model entity) ≡ value_of model entity p
     shows p part =
         let fits : HasFittingType model set entity = All-contains (HasFittingType model set) (entities_in state u) entity (legal.sets u set here).types stands in
         let keys : key_props model entity.ty ≡ set_key model u = (inherits_keys model is.sound.model).same entity.ty set.element fits.under ∙ sym (set_key_is model is.sound.model u set here) in
         ap (λ (props : List PropId). value_beside p (set_key model u) (map (value_of model entity) props)) keys ∙ beside_map (value_of model entity) (set_key model u) p part
 
     -- the value of an entity that is added is none of a symbol
-    not_added : (p : PropId) → Contains (set_key model u) p → (one : Symbol) (i n : ℕ) → IsFlow basis of one i → value_of model entity p ≡ value_under values one
+    pub not_added : (p : PropId) → Contains (set_key model u) p → (one : Symbol) (i n : ℕ) → IsFlow basis of one i → value_of model entity p ≡ value_under values one
         → value_of model entity p ≡ fresh_at model outer p (added_value n) → ⊥
     not_added p part one i n flow same_value is_added =
         let own : IsKeyProp model p = key_prop model is.sound.model p set.element (subst (λ (props : List PropId). Contains props p) (set_key_is model is.sound.model u set here) part) in
@@ -101,7 +98,7 @@ module _ (basis : Basis) (is : IsBasis basis) (limits : IsWithinLimits basis.sch
         absurd (omega (arith, index, small))
 
     -- a part that is read is the symbol that has the value
-    the_part : (one : Forced) (p : PropId) → Contains (set_key model u) p → (part : Symbol) (j : ℕ) → IsFlow basis of part j → value_of model entity p ≡ value_under values part
+    pub the_part : (one : Forced) (p : PropId) → Contains (set_key model u) p → (part : Symbol) (j : ℕ) → IsFlow basis of part j → value_of model entity p ≡ value_under values part
         → (found : Option Symbol) → ReadsPart basis outer of values found p (value_beside p (set_key model u) (key_of model entity)) → found ≡ Some part
     the_part one p among part j flow same_value None read = absurd (not_added p among part j 0 flow same_value (sym (shows p among) ∙ read))
     the_part one p among part j flow same_value (Some other) read =
@@ -110,51 +107,54 @@ module _ (basis : Basis) (is : IsBasis basis) (limits : IsWithinLimits basis.sch
         let index : j ≡ read.0 = (fresh_apart value.0 read.2 outer outer j read.0 row row (sym value.1 ∙ sym same_value ∙ fresh_one)).1 in
         ap Some (flow_once basis is limits of other part read.0 read.1 (subst (IsFlow basis of part) index flow))
 
-  pub leaves_out : LeavesOut basis outer of values not_null state
-  leaves_out = record {
-    legal = legal;
-    read = told;
-    exact = λ u part flows. (
-        λ stands.
-        (let set = set_of_entity basis state legal u stands.0 stands.1 in
-        ⊎_elim
-        (λ (numbered : IsNumberKey basis outer u (key_of model stands.0)).
-        let first = some_part model is.sound.model u set.0 set.1 in
-        let at : PropId → Value = λ q. fresh_at model outer q (added_value numbered.number) in
-        let added : value_of model stands.0 first.0 ≡ at first.0 = sym (shows u set.0 set.1 stands.0 stands.1 first.0 first.1) ∙ ap (value_beside first.0 (set_key model u)) numbered.is
-        ∙ beside_map at (set_key model u) first.0 first.1 in
-        absurd (not_added u set.0 set.1 stands.0 stands.1 first.0 first.1 (part first.0) (flows first.0 first.1).0 numbered.number (flows first.0 first.1).1 (stands.2 first.0 first.1) added))
-        (λ (read : IsRead basis outer of values (IsMember basis of not_null) u (key_of model stands.0)).
-        (read.one, read.is_one, read.of_set, λ p among.
-        the_part u set.0 set.1 stands.0 stands.1 read.one p among (part p) (flows p among).0 (flows p among).1 (stands.2 p among) (part_in basis read.one p) (read.reads p among)))
-        (told u stands.0 stands.1)),
-        λ one.
-        (let held = holds one.0 one.1 in
-        (held.entity, subst (λ (v : SetId). Contains (entities_in state v) held.entity) one.2 held.stands, λ p among. held.parts p (part p) (flows p among).0 (flows p among).1 (one.3 p among))));
-  }
+  module _ (told : (u : SetId) (entity : Entity) → Contains (entities_in state u) entity
+      → IsNumberKey basis outer u (key_of basis.schema.model entity) ⊎ IsRead basis outer of values (IsMember basis of not_null) u (key_of basis.schema.model entity))
+      (holds : (one : Forced) → IsMember basis of not_null one → HoldsMember basis of values state one) where
+    pub leaves_out : LeavesOut basis outer of values not_null state
+    leaves_out = record {
+      legal = legal;
+      read = told;
+      exact = λ u part flows. (
+          λ stands.
+          (let set = set_of_entity basis state legal u stands.0 stands.1 in
+          ⊎_elim
+          (λ (numbered : IsNumberKey basis outer u (key_of model stands.0)).
+          let first = some_part model is.sound.model u set.0 set.1 in
+          let at : PropId → Value = λ q. fresh_at model outer q (added_value numbered.number) in
+          let added : value_of model stands.0 first.0 ≡ at first.0 = sym (shows u set.0 set.1 stands.0 stands.1 first.0 first.1) ∙ ap (value_beside first.0 (set_key model u)) numbered.is
+          ∙ beside_map at (set_key model u) first.0 first.1 in
+          absurd (not_added u set.0 set.1 stands.0 stands.1 first.0 first.1 (part first.0) (flows first.0 first.1).0 numbered.number (flows first.0 first.1).1 (stands.2 first.0 first.1) added))
+          (λ (read : IsRead basis outer of values (IsMember basis of not_null) u (key_of model stands.0)).
+          (read.one, read.is_one, read.of_set, λ p among.
+          the_part u set.0 set.1 stands.0 stands.1 read.one p among (part p) (flows p among).0 (flows p among).1 (stands.2 p among) (part_in basis read.one p) (read.reads p among)))
+          (told u stands.0 stands.1)),
+          λ one.
+          (let held = holds one.0 one.1 in
+          (held.entity, subst (λ (v : SetId). Contains (entities_in state v) held.entity) one.2 held.stands, λ p among. held.parts p (part p) (flows p among).0 (flows p among).1 (one.3 p among))));
+    }
 
 -- the state with an entity of a region
 module _ (basis : Basis) (is : IsBasis basis) (limits : IsWithinLimits basis.schema) (outer : ℕ) (row : outer ≤ 4) (s : SetId) (region : Region) (listed : Contains (regions_of basis s) region)
     (not_null : List PropId) (open_ : AreOpen basis region not_null) where
-  abbrev The : Focus
+  abbrev pub The : Focus
   The = focus.Entity region
 
-  abbrev shown : State
+  abbrev pub shown : State
   shown = flow_state basis outer The not_null
 
-  abbrev own_values : Valuation
+  abbrev pub own_values : Valuation
   own_values = flow_values basis outer region not_null
 
-  of : HasRegion basis outer s region
+  pub of : HasRegion basis outer s region
   of = record { is = is; limits = limits; row = row; listed = listed }
 
-  abbrev at : RegionValues basis
+  abbrev pub at : RegionValues basis
   at = record { s = s; region = region; listed = listed; values = own_values }
 
   pub entity_holds : HoldsFocus basis region own_values shown
   entity_holds = (states_host basis is limits outer row).holds at (flow_admissible basis outer s region of not_null open_)
 
-  abbrev linked : LinkedEntity basis
+  abbrev pub linked : LinkedEntity basis
   linked = record {
     state = shown;
     legal = entity_holds.legal;
@@ -172,7 +172,7 @@ module _ (basis : Basis) (is : IsBasis basis) (limits : IsWithinLimits basis.sch
       there p has = let declared = declared_above basis.schema.model is.sound.model p region.ty (open_ p has).0 in given_there basis outer s region of not_null open_ p declared.0 declared.1 has
 
   -- a symbol that stands for a part of a key has the entity's value
-  symbol_held : (part : Symbol) (i : ℕ) → IsFlow basis The part i → value_under (values_at basis linked) part ≡ value_under own_values part
+  pub symbol_held : (part : Symbol) (i : ℕ) → IsFlow basis The part i → value_under (values_at basis linked) part ≡ value_under own_values part
   symbol_held symbol.Null i flow = refl
   symbol_held (symbol.Const value) i flow = refl
   symbol_held (symbol.Prop p) i (inl by) = has_value basis region own_values p (key_among basis.schema.model is.sound.model p region.ty by.0)
@@ -186,7 +186,7 @@ module _ (basis : Basis) (is : IsBasis basis) (limits : IsWithinLimits basis.sch
     parts = λ p part i flow is_part. held.parts p part is_part ∙ symbol_held part i flow;
   }
 
-  member_held : (one : Forced) → IsMember basis The not_null one → HoldsMember basis The own_values shown one
+  pub member_held : (one : Forced) → IsMember basis The not_null one → HoldsMember basis The own_values shown one
   member_held one (inl own) = as_member one (subst (HoldsForced basis shown (values_at basis linked)) (sym own) (own_stands basis is.sound.model linked))
   member_held one (inr forced) = as_member one (entity_forces basis is.sound.model linked not_null entity_no_null one forced)
 

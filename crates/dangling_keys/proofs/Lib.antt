@@ -12,3 +12,8 @@ pub mod LeftOut
 pub mod Outer
 pub mod Listing
 pub mod Target
+pub mod NoRow
+pub mod Fitting
+pub mod Shown
+pub mod Joined
+pub mod EntityParts
