@@ -17,3 +17,6 @@ pub mod Fitting
 pub mod Shown
 pub mod Joined
 pub mod EntityParts
+pub mod EntityFails
+pub mod OwnTable
+pub mod LinkFails

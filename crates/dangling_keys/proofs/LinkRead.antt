@@ -192,7 +192,7 @@ module _ (basis : Basis) (is : IsBasis basis) (outer : ℕ) (has : HasNumbers ba
       plain_leads basis outer has The not_null link_values one.end.set one.end.ty (key_at model outer one) is_sound.concrete is_sound.under (one_read one found.1) to
       (asked_of model has.sound one.end.set (entity_at model outer one) to found.2) (beyond_zero basis outer has The not_null link_values given wanted to free)
 
-  abbrev Told : Valuation → SetId → Entity → Type 0
+  abbrev pub Told : Valuation → SetId → Entity → Type 0
   Told values u one = IsNumberKey basis outer u (key_of model one) ⊎ IsRead basis outer The values (IsMember basis The not_null) u (key_of model one)
 
   state_read : (u : SetId) (one : Entity) → Contains (entities_in (link_state model outer a assoc) u) one → Told link_values u one
@@ -214,6 +214,8 @@ module _ (basis : Basis) (is : IsBasis basis) (outer : ℕ) (has : HasNumbers ba
   pub link_state_is : flow_state basis outer The not_null ≡ link_state model outer a assoc
   link_state_is = ap (λ found. option_map_or (link_state model outer a) found (empty_state model)) here
 
+  pub own_read : (u : SetId) (one : Entity) → Contains (entities_in (flow_state basis outer The not_null) u) one → Told link_values u one
+  own_read u one stands = state_read u one (subst (λ (state : State). Contains (entities_in state u) one) link_state_is stands)
+
   pub link_read : (u : SetId) (one : Entity) → Contains (entities_in (flow_state basis outer The not_null) u) one → Told (values_of_focus basis outer The not_null) u one
-  link_read u one stands = subst (λ (values : Valuation). Told values u one) (sym link_values_are)
-      (state_read u one (subst (λ (state : State). Contains (entities_in state u) one) link_state_is stands))
+  link_read u one stands = subst (λ (values : Valuation). Told values u one) (sym link_values_are) (own_read u one stands)

@@ -156,6 +156,18 @@ module _ (basis : Basis) (is : IsBasis basis) where
         let told = free_listed key is_key The of_row found.0 found.1 (symbol.Prop p) true (nullable_is (cell_at basis The key.from found.0) p found.2) in
         (listed_prop basis is s region listed key.from found.0 p (listed_from basis is The key.from found.0 (symbol.Prop p) told.0), told.1)
 
+  -- an end that is listed in a link's pattern is a part of a key
+  pub end_flow : (a : AssocId) (t : TableId) (col : ColId) (b : AssocId) (first : Bool) (p : PropId) → Lists (pattern_of basis (focus.Link a)) t col (symbol.End b first p)
+      → (i : ℕ) × IsFlow basis (focus.Link a) (symbol.End b first p) i
+  end_flow a t col b first p lists =
+      let from : IsEndOf basis (focus.Link a) t col b first p = end_of basis (focus.Link a) t col b first p (listed_from basis is (focus.Link a) t col (symbol.End b first p) lists) in
+      let assoc : Assoc = the_assoc basis is from.fragment from.mapped in
+      let here : At basis.schema.model.assocs b.index assoc = subst (λ (c : AssocId). At basis.schema.model.assocs c.index assoc) from.of_assoc (assoc_here basis is from.fragment from.mapped) in
+      let part : Contains (key_props basis.schema.model (end_at first assoc).ty) p = subst (Contains (key_props basis.schema.model (end_at first assoc).ty)) from.at_prop
+      (end_prop basis is from.fragment from.mapped first from.pair from.paired) in
+      let own : IsLinkPart basis a b first p = record { of_assoc = sym from.of_assoc ∙ from.partner; assoc = assoc; is_assoc = here; part = part } in
+      (end_part first (place_in p (key_props basis.schema.model (end_at first assoc).ty)), (own, refl))
+
   -- the symbol of a cell of a link's row is a part of a key
   pub link_symbol : (a : AssocId) (key : ForeignKey) (is_key : Contains basis.schema.store.keys key) → HasRow (pattern_of basis (focus.Link a)) key.from → (col : ColId) → Contains key.from_cols col
       → (one : Symbol) (nullable : Bool) → cell_at basis (focus.Link a) key.from col ≡ free one nullable → (i : ℕ) × IsFlow basis (focus.Link a) one i
@@ -166,13 +178,7 @@ module _ (basis : Basis) (is : IsBasis basis) where
       by (symbol.Const value) lists several = absurd (let never : single value ≡ multi nullable = several in cc)
       by (symbol.Prop p) lists several = absurd (link_no_prop basis is a key.from col p (listed_from basis is (focus.Link a) key.from col (symbol.Prop p) lists))
       by (symbol.End b first p) lists several =
-          let from : IsEndOf basis (focus.Link a) key.from col b first p = end_of basis (focus.Link a) key.from col b first p (listed_from basis is (focus.Link a) key.from col (symbol.End b first p) lists) in
-          let assoc : Assoc = the_assoc basis is from.fragment from.mapped in
-          let here : At basis.schema.model.assocs b.index assoc = subst (λ (c : AssocId). At basis.schema.model.assocs c.index assoc) from.of_assoc (assoc_here basis is from.fragment from.mapped) in
-          let part : Contains (key_props basis.schema.model (end_at first assoc).ty) p = subst (Contains (key_props basis.schema.model (end_at first assoc).ty)) from.at_prop
-          (end_prop basis is from.fragment from.mapped first from.pair from.paired) in
-          let own : IsLinkPart basis a b first p = record { of_assoc = sym from.of_assoc ∙ from.partner; assoc = assoc; is_assoc = here; part = part } in
-          (end_part first (place_in p (key_props basis.schema.model (end_at first assoc).ty)), (own, refl))
+          end_flow a key.from col b first p lists
 
   -- no property is to be not null of a link
   pub link_none : (a : AssocId) (key : ForeignKey) (is_key : Contains basis.schema.store.keys key) → HasRow (pattern_of basis (focus.Link a)) key.from → (p : PropId)

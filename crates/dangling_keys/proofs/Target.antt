@@ -27,6 +27,7 @@ use Rattle.regions.specs.region_laws.pattern.Listed.{Lists}
 use Rattle.region_states.specs.focus.Held.{HasRow, IsRowOfOne, ListsValue}
 use Rattle.region_states.proofs.focus.Demanded.{row_of_one}
 use Rattle.dangling_keys.specs.Dangling.{OwnsTable}
+use Rattle.dangling_keys.specs.Failing.{FailsBy}
 use Rattle.dangling_keys.specs.Showing.{MayRefer, cell_at, col_beside, not_null_for, nullable_in, shown_at}
 use Rattle.dangling_keys.proofs.Listing.{free_listed, key_is_sound}
 use Rattle.dangling_keys.proofs.Matching.{found_alike, pair_alike}
@@ -57,10 +58,10 @@ pub record IsShown (basis : Basis) (told : AllowedFocus basis) (key : ForeignKey
   pub cells : (col : ColId) (value : Value) → DemandsCell basis.schema c key.from (row_key table row) col value ↔ ListsValue (pattern_of basis told.of) told.values key.from col value
 
 module _ (basis : Basis) (is : IsBasis basis) (told : AllowedFocus basis) (key : ForeignKey) (c : State) (shown : IsShown basis told key c) where
-  demanded : HasDemandedCells basis.schema c key.from shown.table shown.row
+  pub demanded : HasDemandedCells basis.schema c key.from shown.table shown.row
   demanded = cells_demanded basis.schema c shown.tables shown.are key.from shown.table shown.is_table shown.row shown.among
 
-  holds : (col : ColId) → Contains key.from_cols col → HoldsSettled told.values (cell_at basis told.of key.from col) (cell_of shown.row col)
+  pub holds : (col : ColId) → Contains key.from_cols col → HoldsSettled told.values (cell_at basis told.of key.from col) (cell_of shown.row col)
   holds col has = from_holds basis is told c key.from shown.table shown.is_table shown.row shown.cells demanded key shown.is_key refl shown.may.row col has
 
   -- the row refers: none of its cells in the key is null
@@ -123,23 +124,27 @@ module _ (basis : Basis) (is : IsBasis basis) (told : AllowedFocus basis) (key :
     target_owned u entity at = record { owned = at.owned; written = target_written }
 
   -- where there is no such row, the state fails
-  pub shown_fails : ((target : Row) → Contains (rows_in shown.tables key.to) target → cells_of target key.to_cols ≡ cells_of shown.row key.from_cols → ⊥)
-      → FailsAt basis.schema kind.Dangling (place_at shown.table.name (row_key shown.table shown.row) key.name) c c
+  pub shown_fails : ((target : Row) → Contains (rows_in shown.tables key.to) target → cells_of target key.to_cols ≡ cells_of shown.row key.from_cols → ⊥) → FailsBy basis key
   shown_fails none = record {
-    legal = shown.legal;
+    place = place_at shown.table.name (row_key shown.table shown.row) key.name;
+    state = c;
     fails = record {
-      tables = shown.tables;
-      defined = shown.are;
-      key = key;
-      table = shown.table;
-      row = shown.row;
-      is_key = shown.is_key;
-      is_table = shown.is_table;
-      is_row = shown.among;
-      refers = refers;
-      no_row = λ some.
-          (let found = of_any (λ (target : Row). cells_of target key.to_cols ≡ cells_of shown.row key.from_cols) (rows_in shown.tables key.to) some in
-          none found.0 found.1 found.2);
-      place_is = refl;
+      legal = shown.legal;
+      fails = record {
+        tables = shown.tables;
+        defined = shown.are;
+        key = key;
+        table = shown.table;
+        row = shown.row;
+        is_key = shown.is_key;
+        is_table = shown.is_table;
+        is_row = shown.among;
+        refers = refers;
+        no_row = λ some.
+            (let found = of_any (λ (target : Row). cells_of target key.to_cols ≡ cells_of shown.row key.from_cols) (rows_in shown.tables key.to) some in
+            none found.0 found.1 found.2);
+        place_is = refl;
+      };
     };
+    of_key = refl;
   }

@@ -5,3 +5,4 @@ pub mod Flow
 pub mod FlowStates
 pub mod LeftOut
 pub mod Outer
+pub mod Failing
