@@ -20,3 +20,6 @@ pub mod EntityParts
 pub mod EntityFails
 pub mod OwnTable
 pub mod LinkFails
+pub mod Actor
+pub mod OtherValues
+pub mod OtherState

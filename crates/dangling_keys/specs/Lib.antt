@@ -6,3 +6,4 @@ pub mod FlowStates
 pub mod LeftOut
 pub mod Outer
 pub mod Failing
+pub mod OtherStates
