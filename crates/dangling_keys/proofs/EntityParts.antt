@@ -28,6 +28,7 @@ use Rattle.region_states.specs.defaults.Candidates.{first_free}
 use Rattle.region_states.specs.focus.Held.{HasRow}
 use Rattle.region_states.proofs.Entities.{has_value}
 use Rattle.forced_entities.specs.Forced.{part_in}
+use Rattle.forced_entities.specs.declared.member.Forced.{Forced}
 use Rattle.forced_entities.specs.Held.{values_at}
 use Rattle.dangling_keys.specs.Flow.{IsFlow}
 use Rattle.dangling_keys.specs.FlowStates.{AreOpen, flow_state}
@@ -90,7 +91,7 @@ module _ (basis : Basis) (is : IsBasis basis) (limits : IsWithinLimits basis.sch
   abbrev pub values : Valuation
   values = values_at basis linked
 
-  abbrev usual : Valuation
+  abbrev pub usual : Valuation
   usual = left.own_values basis is limits outer row s region listed not_null open_
 
   symbol_is : (one : Symbol) (i : ℕ) → IsFlow basis The one i → value_under values one ≡ value_under usual one
@@ -102,22 +103,26 @@ module _ (basis : Basis) (is : IsBasis basis) (limits : IsWithinLimits basis.sch
       let told = flow_value basis outer s region (left.of basis is limits outer row s region listed not_null open_) not_null open_ one i flow (subst (λ (v : Value). v ≢ Null) (symbol_is one i flow) there) in
       (told.0, symbol_is one i flow ∙ told.1)
 
-  reads_as : (found : Option Symbol) (p : PropId) (value : Value) → ReadsPart basis outer The usual found p value → ReadsPart basis outer The values found p value
+  pub reads_as : (found : Option Symbol) (p : PropId) (value : Value) → ReadsPart basis outer The usual found p value → ReadsPart basis outer The values found p value
   reads_as None p value read = read
   reads_as (Some one) p value read = (read.0, read.1, read.2, read.3, read.4 ∙ sym (symbol_is one read.0 read.1))
+
+  -- what tells a key by the values of the state tells it by the entity's
+  abbrev pub as_read : (IsOne : Forced → Type 0) (u : SetId) (at : List Value) → IsRead basis outer The usual IsOne u at → IsRead basis outer The values IsOne u at
+  as_read IsOne u at read = record {
+    one = read.one;
+    is_one = read.is_one;
+    of_set = read.of_set;
+    under = read.under;
+    reads = λ p part. reads_as (part_in basis read.one p) p (value_beside p (set_key basis.schema.model u) at) (read.reads p part);
+  }
 
   -- each entity of the state is one of a number, or told by what is forced
   pub told_read : (u : SetId) (one : Entity) → Contains (entities_in linked.state u) one
       → IsNumberKey basis outer u (key_of basis.schema.model one) ⊎ IsRead basis outer The values (IsMember basis The not_null) u (key_of basis.schema.model one)
   told_read u one stands = ⊎_elim
       (λ (numbered : IsNumberKey basis outer u (key_of basis.schema.model one)). inl numbered)
-      (λ (read : IsRead basis outer The usual (IsMember basis The not_null) u (key_of basis.schema.model one)). inr (record {
-        one = read.one;
-        is_one = read.is_one;
-        of_set = read.of_set;
-        under = read.under;
-        reads = λ p part. reads_as (part_in basis read.one p) p (value_beside p (set_key basis.schema.model u) (key_of basis.schema.model one)) (read.reads p part);
-      }))
+      (λ (read : IsRead basis outer The usual (IsMember basis The not_null) u (key_of basis.schema.model one)). inr (as_read (IsMember basis The not_null) u (key_of basis.schema.model one) read))
       (entity_read basis outer s region (left.of basis is limits outer row s region listed not_null open_) not_null open_ u one stands)
 
   -- a property that is no dependent one has the value that was set apart

@@ -69,32 +69,32 @@ module _ (basis : Basis) (outer : ℕ) (s : SetId) (region : Region) (of : HasRe
   abbrev model : EntityModel
   model = basis.schema.model
 
-  abbrev values : Valuation
+  abbrev pub values : Valuation
   values = flow_values basis outer region not_null
 
-  abbrev entity : Entity
+  abbrev pub entity : Entity
   entity = focus_entity basis region values
 
-  abbrev The : Focus
+  abbrev pub The : Focus
   The = focus.Entity region
 
-  admissible : IsAdmissible basis outer region values
+  pub admissible : IsAdmissible basis outer region values
   admissible = flow_admissible basis outer s region of not_null open_
 
   pub made : IsMade basis outer s region values (linked_hosts basis region) (wanted_by basis outer (given_by basis outer (linked_hosts basis region) region values))
   made = focus_made basis outer s region of values admissible (wanted_by basis outer (given_by basis outer (linked_hosts basis region) region values))
       (focus_wants_short basis outer s region of values admissible) (λ to there. there)
 
-  abbrev given : List Placed
+  abbrev pub given : List Placed
   given = given_by basis outer (linked_hosts basis region) region values
 
-  abbrev wanted : List PlacedKey
+  abbrev pub wanted : List PlacedKey
   wanted = wanted_by basis outer given
 
-  abbrev Forces : SetId → List Value → Type 0
+  abbrev pub Forces : SetId → List Value → Type 0
   Forces = ReadForced basis outer (numbers basis outer s region of) The not_null values given wanted
 
-  abbrev Reads : SetId → List Value → Type 0
+  abbrev pub Reads : SetId → List Value → Type 0
   Reads = ReadMember basis outer (numbers basis outer s region of) The not_null values given wanted
 
   -- the value of a property of the region's type
@@ -154,6 +154,16 @@ module _ (basis : Basis) (outer : ℕ) (s : SetId) (region : Region) (of : HasRe
         under = sound.under;
         reads = subst Part (end_key basis.schema of.is.sound far sound) parts;
       }
+
+  -- which entities tell these keys
+  pub own_told : (read : Reads s (key_of model entity)) × (read.one ≡ own_member basis region)
+  unfolding own_read
+  own_told = (own_read, refl)
+
+  pub partner_told : (host : Host) (assoc : Assoc) → IsLinkedHost basis s region host assoc
+      → (read : Forces (partner_end host.first_hosts assoc).set (told_key basis values host assoc)) × (read.one.ty ≡ (partner_end host.first_hosts assoc).ty)
+  unfolding partner_read
+  partner_told host assoc by = (partner_read host assoc by, refl)
 
   -- a given entity is the focus or a partner
   given_read : (placed : Placed) → IsGiven basis outer s region of values admissible (linked_hosts basis region) made.each made.order placed → Reads placed.set (key_of model placed.entity)

@@ -19,6 +19,7 @@ use Rattle.regions.specs.declared.pattern.Focus.{Focus}
 use Rattle.regions.specs.declared.pattern.Symbol.{Symbol}
 use Rattle.regions.specs.region_laws.IsBasis.{IsBasis}
 use Rattle.population.specs.Given.{HasNumbers}
+use Rattle.population.specs.Numbered.{number_count, numbered_key}
 use Rattle.population.proofs.plain.Numbered.{number_small, set_key_is, some_part}
 use Rattle.forced_entities.specs.Forced.{part_in}
 use Rattle.forced_entities.specs.declared.member.Forced.{Forced}
@@ -96,20 +97,24 @@ module _ (basis : Basis) (is : IsBasis basis) (limits : IsWithinLimits basis.sch
       let found = in_map (λ (pair : Pair). pair.prop) pairing part.0 (All-contains (Contains (props_in pairing)) (key_props model set.element) part.0 owns.owned.paired keyed) in
       (found.0, found.1)
 
+  -- its key is none of a number
+  pub never_numbered : (number : ℕ) → number < number_count model → key_of model entity ≢ numbered_key model outer u number
+  never_numbered number below is_key =
+      let pair = some_pair in
+      let at : PropId → Value = λ q. fresh_at model outer q (added_value number) in
+      not_shown pair.0 pair.1 number (number_small model outer has number below)
+      (sym (shows basis is limits outer row of not_null values state legal valued u set here entity stands pair.0.prop (in_key pair.0 pair.1))
+      ∙ ap (value_beside pair.0.prop (set_key model u)) is_key ∙ beside_map at (set_key model u) pair.0.prop (in_key pair.0 pair.1))
+
+  -- what tells its key fits
+  pub read_fits : {IsOne : Forced → Type 0} (read : IsRead basis outer of values IsOne u (key_of model entity)) → Fits basis of key u pairing read.one
+  read_fits read = record {
+    of_set = read.of_set;
+    parts = all_from_members (λ (pair : Pair). IsShownPart (shown_at basis of key pair.col) (part_in basis read.one pair.prop)) pairing (λ pair among.
+        read_shown read.one pair among (shown_at basis of key pair.col) (seen pair among) (parts pair among) (part_in basis read.one pair.prop) (read.reads pair.prop (in_key pair among)) refl);
+  }
+
   pub fitting_one : IsNumberKey basis outer u (key_of model entity) ⊎ IsRead basis outer of values (IsMember basis of not_null) u (key_of model entity)
       → (one : Forced) × IsMember basis of not_null one × Fits basis of key u pairing one
-  fitting_one (inl numbered) =
-      let pair = some_pair in
-      let at : PropId → Value = λ q. fresh_at model outer q (added_value numbered.number) in
-      absurd (not_shown pair.0 pair.1 numbered.number (number_small model outer has numbered.number numbered.below)
-      (sym (shows basis is limits outer row of not_null values state legal valued u set here entity stands pair.0.prop (in_key pair.0 pair.1))
-      ∙ ap (value_beside pair.0.prop (set_key model u)) numbered.is ∙ beside_map at (set_key model u) pair.0.prop (in_key pair.0 pair.1)))
-  fitting_one (inr read) = (
-    read.one,
-    read.is_one,
-    record {
-      of_set = read.of_set;
-      parts = all_from_members (λ (pair : Pair). IsShownPart (shown_at basis of key pair.col) (part_in basis read.one pair.prop)) pairing (λ pair among.
-          read_shown read.one pair among (shown_at basis of key pair.col) (seen pair among) (parts pair among) (part_in basis read.one pair.prop) (read.reads pair.prop (in_key pair among)) refl);
-    },
-  )
+  fitting_one (inl numbered) = absurd (never_numbered numbered.number numbered.below numbered.is)
+  fitting_one (inr read) = (read.one, read.is_one, read_fits read)

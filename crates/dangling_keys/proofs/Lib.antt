@@ -23,3 +23,5 @@ pub mod LinkFails
 pub mod Actor
 pub mod OtherValues
 pub mod OtherState
+pub mod KeyNumbers
+pub mod OtherEntity

@@ -160,7 +160,7 @@ module _ (basis : Basis) (outer : ℕ) (region : Region) (of : HasRegion basis o
     all_given = other_given basis outer region values given
 
     -- an entity that isn't kept has the key and the set
-    kept_or_not : (placed : Placed) → (keeps basis outer region values placed ≡ true) ⊎ ((placed.set ≡ region.set) × (key_of model placed.entity ≡ K))
+    pub kept_or_not : (placed : Placed) → (keeps basis outer region values placed ≡ true) ⊎ ((placed.set ≡ region.set) × (key_of model placed.entity ≡ K))
     kept_or_not placed = by ((placed.set.index == region.set.index) && same_key (key_of model placed.entity) K) refl
       where
         by : (b : Bool) → ((placed.set.index == region.set.index) && same_key (key_of model placed.entity) K) ≡ b → (not b ≡ true) ⊎ ((placed.set ≡ region.set) × (key_of model placed.entity ≡ K))
