@@ -25,3 +25,5 @@ pub mod OtherValues
 pub mod OtherState
 pub mod KeyNumbers
 pub mod OtherEntity
+pub mod ShownEntity
+pub mod OtherLink

@@ -51,14 +51,14 @@ module _ (basis : Basis) (is : IsBasis basis) (outer : ℕ) (has : HasNumbers ba
   abbrev model : EntityModel
   model = basis.schema.model
 
-  abbrev The : Focus
+  abbrev pub The : Focus
   The = focus.Link a
 
   -- the values of the link
   abbrev pub link_values : Valuation
   link_values = by_link model assoc (plain_link model outer assoc)
 
-  abbrev Read : SetId → List Value → Type 0
+  abbrev pub Read : SetId → List Value → Type 0
   Read u key = IsRead basis outer The link_values (IsForced basis The not_null) u key
 
   is_assoc : Contains model.assocs assoc
@@ -115,13 +115,13 @@ module _ (basis : Basis) (is : IsBasis basis) (outer : ℕ) (has : HasNumbers ba
       read_end : Read end.set (key_from model outer end.set index)
       read_end = record { one = one; is_one = forced; of_set = refl; under = sound.under; reads = subst ReadsParts same_keys own_parts }
 
-  abbrev end : Bool → PlainEnd
+  abbrev pub end : Bool → PlainEnd
   end side = at_end model outer side assoc
 
-  abbrev both : List PlainEnd
+  abbrev pub both : List PlainEnd
   both = at_first model outer assoc ∷ (at_second model outer assoc ∷ [])
 
-  sound_at : (side : Bool) → IsSoundEnd model (end side).end
+  pub sound_at : (side : Bool) → IsSoundEnd model (end side).end
   sound_at true = sound_end model has.sound assoc is_assoc true
   sound_at false = sound_end model has.sound assoc is_assoc false
 
@@ -132,6 +132,12 @@ module _ (basis : Basis) (is : IsBasis basis) (outer : ℕ) (has : HasNumbers ba
   end_read false = read_end false assoc.second (sound_at false) 12 (λ p. refl)
       (λ p part. (record { of_assoc = refl; assoc = assoc; is_assoc = here; part = part }, refl))
       (begins (forced_at basis assoc.second.set assoc.second.ty (λ p. Some (symbol.End a false p))) (record { assoc = assoc; is_assoc = here; first = false; is = refl }))
+
+  -- by the entities of the ends' types
+  pub end_told : (side : Bool) → (read : Read (end side).end.set (key_at model outer (end side))) × (read.one.ty ≡ (end side).end.ty)
+  unfolding end_read read_end
+  end_told true = (end_read true, refl)
+  end_told false = (end_read false, refl)
 
   -- a symbol that stands for a part has the value of its number
   pub link_value : (one : Symbol) (i : ℕ) → IsFlow basis The one i → (k : Kind) × (value_under link_values one ≡ fresh k outer i)
@@ -161,23 +167,23 @@ module _ (basis : Basis) (is : IsBasis basis) (outer : ℕ) (has : HasNumbers ba
       (contains_cons_cases (at_second model outer assoc) [] one later))
       (contains_cons_cases (at_first model outer assoc) (at_second model outer assoc ∷ []) one there)
 
-  small_at : (side : Bool) → (end side).index ≤ 1900
+  pub small_at : (side : Bool) → (end side).index ≤ 1900
   small_at true = omega arith
   small_at false = omega arith
 
-  sound : (one : PlainEnd) → Contains both one → IsSoundEnd model one.end
+  pub sound : (one : PlainEnd) → Contains both one → IsSoundEnd model one.end
   sound one there = let of = which one there in subst (λ (it : PlainEnd). IsSoundEnd model it.end) (sym of.1) (sound_at of.0)
 
-  small : (one : PlainEnd) → Contains both one → one.index ≤ 1900
+  pub small : (one : PlainEnd) → Contains both one → one.index ≤ 1900
   small one there = let of = which one there in subst (λ (it : PlainEnd). it.index ≤ 1900) (sym of.1) (small_at of.0)
 
-  apart : AllPairs (λ one two. one.index ≢ two.index) both
+  pub apart : AllPairs (λ one two. one.index ≢ two.index) both
   apart = pairs_two (λ (one two : PlainEnd). one.index ≢ two.index) (at_first model outer assoc) (at_second model outer assoc) (λ equal. absurd (omega (arith, equal)))
 
   one_read : (one : PlainEnd) → Contains both one → Read one.end.set (key_at model outer one)
   one_read one there = let of = which one there in subst (λ (it : PlainEnd). Read it.end.set (key_at model outer it)) (sym of.1) (end_read of.0)
 
-  abbrev given : List Placed
+  abbrev pub given : List Placed
   given = map (placed_at model outer) both
 
   abbrev wanted : List PlacedKey

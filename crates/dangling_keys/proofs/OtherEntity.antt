@@ -63,7 +63,7 @@ use Rattle.dangling_keys.specs.Showing.{Fits, MayRefer, shown_at}
 use Rattle.dangling_keys.proofs.Actor.{HasFlagLinks, HasOwnLinks, actor_holds, link_by}
 use Rattle.dangling_keys.proofs.EntityParts as parts
 use Rattle.dangling_keys.proofs.EntityRead as reading
-use Rattle.dangling_keys.proofs.Fitting as fitting
+use Rattle.dangling_keys.proofs.ShownEntity as at_key
 use Rattle.dangling_keys.proofs.Fitting.{IsPartOrOuter}
 use Rattle.dangling_keys.proofs.FlowValues.{flow_admissible}
 use Rattle.dangling_keys.proofs.KeyNumbers.{key_numbered, same_side}
@@ -147,39 +147,30 @@ module _ (basis : Basis) (is : IsBasis basis) (limits : IsWithinLimits basis.sch
   abbrev e : Entity
   e = held.entity
 
-  e_stands : Contains (entities_in x.state q.set) e
-  e_stands = subst (λ (v : SetId). Contains (entities_in x.state v) e) fits.of_set held.stands
-
-  e_shown : HasShownKey basis The key values pairing e
-  e_shown = fitting_shown basis The key values q.set pairing one e fits held.parts
-
-  e_told : IsNumberKey basis outer q.set (key_of model e) ⊎ IsRead basis outer The values (IsMember basis The not_null) q.set (key_of model e)
-  e_told = parts.told_read basis is limits s region listed key is_key may q.set e e_stands
-
-  numbered : (p : PropId) → Contains (set_key model q.set) p → (k : Kind) × (i : ℕ) × (i < most_indices) × (value_of model e p ≡ fresh k outer i)
-  numbered = key_numbered basis is limits outer row The not_null values x.state x.legal valued q.set e e_stands e_told
-
-  in_key : (pair : Pair) → Contains pairing pair → Contains (set_key model q.set) pair.prop
-  in_key pair among = subst (λ (props : List PropId). Contains props pair.prop) (sym (set_key_is model is.sound.model q.set owns.owned.set owns.owned.is_set))
-      (All-contains (λ (it : Pair). Contains (key_props model owns.owned.set.element) it.prop) pairing pair owns.owned.keyed among)
-
-  seen : (pair : Pair) → Contains pairing pair → HoldsSettled values (shown_at basis The key pair.col) (value_of model e pair.prop)
-  seen pair has =
-      let told = e_shown pair has in
-      let number = numbered pair.prop (in_key pair has) in
-      let holds : HoldsSettled values (free told.0 told.1) (value_of model e pair.prop) =
-      (told.3, λ null. absurd (fresh_there number.0 outer number.1 (value_of model e pair.prop) number.3 null)) in
-      subst (λ (cell : Settled). HoldsSettled values cell (value_of model e pair.prop)) (sym told.2) holds
-
   cell_parts : (pair : Pair) → Contains pairing pair → IsPartOrOuter basis outer The values (shown_at basis The key pair.col)
   cell_parts = parts.entity_parts basis is limits s region listed key is_key may pairing owns.owned.cols
 
-  -- what tells this key fits
+  told_read : (u : SetId) (entity : Entity) → Contains (entities_in x.state u) entity
+      → IsNumberKey basis outer u (key_of model entity) ⊎ IsRead basis outer The values (IsMember basis The not_null) u (key_of model entity)
+  told_read = parts.told_read basis is limits s region listed key is_key may
+
+  e_stands : Contains (entities_in x.state q.set) e
+  e_stands = at_key.e_stands basis is limits outer row The not_null values x.state x.legal valued told_read key q.set pairing owns cell_parts one fits held
+
+  e_shown : HasShownKey basis The key values pairing e
+  e_shown = at_key.e_shown basis is limits outer row The not_null values x.state x.legal valued told_read key q.set pairing owns cell_parts one fits held
+
+  numbered : (p : PropId) → Contains (set_key model q.set) p → (k : Kind) × (i : ℕ) × (i < most_indices) × (value_of model e p ≡ fresh k outer i)
+  numbered = at_key.numbered basis is limits outer row The not_null values x.state x.legal valued told_read key q.set pairing owns cell_parts one fits held
+
+  in_key : (pair : Pair) → Contains pairing pair → Contains (set_key model q.set) pair.prop
+  in_key = at_key.in_key basis is limits outer row The not_null values x.state x.legal valued told_read key q.set pairing owns cell_parts one fits held
+
   read_fits : {IsOne : Forced → Type 0} (read : IsRead basis outer The values IsOne q.set (key_of model e)) → Fits basis The key q.set pairing read.one
-  read_fits read = fitting.read_fits basis is limits outer row The not_null values x.state x.legal valued key q.set e e_stands pairing owns seen cell_parts read
+  read_fits read = at_key.told_fits basis is limits outer row The not_null values x.state x.legal valued told_read key q.set pairing owns cell_parts one fits held read
 
   never_numbered : (number : ℕ) → number < number_count model → key_of model e ≢ numbered_key model outer q.set number
-  never_numbered = fitting.never_numbered basis is limits outer row The not_null values x.state x.legal valued key q.set e e_stands pairing owns seen cell_parts
+  never_numbered = at_key.e_not_numbered basis is limits outer row The not_null values x.state x.legal valued told_read key q.set pairing owns cell_parts one fits held
 
   -- the focus has another key
   abbrev Told_by : (Forced → Type 0) → (Forced → Type 0) → SetId → List Value → Type 0
@@ -339,7 +330,7 @@ module _ (basis : Basis) (is : IsBasis basis) (limits : IsWithinLimits basis.sch
   all_links = other_links basis outer q q_values links
 
   q_holds : HoldsFocus basis q q_values c
-  q_holds = other.other_holds basis outer q q_of q_values q_allowed q_short not_numbered far_numbered given first_given first_short links first_keys first_links ends replaced apart_at
+  q_holds = other.other_holds basis outer q q_of q_values q_allowed q_short not_numbered far_numbered given first_given first_short links first_links.once first_links.few ends replaced apart_at
 
   abbrev p : LinkedEntity basis
   p = record {
@@ -372,7 +363,7 @@ module _ (basis : Basis) (is : IsBasis basis) (limits : IsWithinLimits basis.sch
       let told = own_is basis outer s region usual hosts wanted made host hosted assoc here link old in
       ((made.each host told.0).1, told.1))
       (λ (new : Contains (links_of (own_links basis outer q q_values) host.assoc) link). absurd (never new))
-      (other.link_cases basis outer q q_of q_values q_allowed q_short not_numbered far_numbered given first_given first_short links first_keys first_links ends replaced apart_at host.assoc link has)
+      (other.link_cases basis outer q q_of q_values q_allowed q_short not_numbered far_numbered given first_given first_short links first_links.once first_links.few ends replaced apart_at host.assoc link has)
     where
       never : Contains (links_of (own_links basis outer q q_values) host.assoc) link → ⊥
       never new =
@@ -402,14 +393,14 @@ module _ (basis : Basis) (is : IsBasis basis) (limits : IsWithinLimits basis.sch
 
   flag_links_x : HasFlagLinks basis s region usual all_links
   flag_links_x host hosted linked assoc here =
-      other.old_link basis outer q q_of q_values q_allowed q_short not_numbered far_numbered given first_given first_short links first_keys first_links ends replaced apart_at host.assoc
+      other.old_link basis outer q q_of q_values q_allowed q_short not_numbered far_numbered given first_given first_short links first_links.once first_links.few ends replaced apart_at host.assoc
       (link_by basis region usual host assoc) (link_there basis outer s region usual hosts wanted made host hosted assoc here (is_linked_host basis is s region listed host hosted linked))
 
   x_holds : HoldsFocus basis region usual c
   x_holds = actor_holds basis outer s region of usual all_given all_keys all_links
       (other.other_given_well basis outer q q_of q_values q_allowed q_short not_numbered far_numbered given first_given first_short)
       (other.other_keys_well basis outer q q_of q_values q_allowed q_short not_numbered far_numbered given first_given first_short)
-      (other.other_linked basis outer q q_of q_values q_allowed q_short not_numbered far_numbered given first_given first_short links first_keys first_links ends replaced apart_at)
+      (other.other_linked basis outer q q_of q_values q_allowed q_short not_numbered far_numbered given first_given first_short links first_links.once first_links.few ends replaced apart_at)
       x_given own_links_x flag_links_x
 
   abbrev x_new : LinkedEntity basis

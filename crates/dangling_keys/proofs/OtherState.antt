@@ -300,7 +300,9 @@ module _ (basis : Basis) (outer : ℕ) (region : Region) (of : HasRegion basis o
           numbered_has model outer (numbers basis outer region.set region of) end.set set of_end.under.1 number below,
         )
 
-    module _ (links : List PlacedLink) (first_keys : List PlacedKey) (first_links : AreLinked basis.schema.model outer given first_keys links)
+    module _ (links : List PlacedLink) (first_once : (a : AssocId) → AreApart (links_of links a))
+        (first_few : (a : AssocId) (assoc : Assoc) → At basis.schema.model.assocs a.index assoc → (side : Bool) → (end_of (not side) assoc).mult ≢ Many
+        → AllPairs (λ one two. end_key side one ≢ end_key side two) (links_of links a))
         (ends : (placed : PlacedLink) → Contains links placed → (assoc : Assoc) → At basis.schema.model.assocs placed.assoc.index assoc → (side : Bool)
         → (one : Placed) × Contains given one × (one.set ≡ (end_of side assoc).set) × IsA basis.schema.model one.entity.ty (end_of side assoc).ty × (key_of basis.schema.model one.entity ≡ end_key side placed.link))
         (replaced : (placed : PlacedLink) → Contains links placed → (assoc : Assoc) → At basis.schema.model.assocs placed.assoc.index assoc → (side : Bool)
@@ -410,7 +412,7 @@ module _ (basis : Basis) (outer : ℕ) (region : Region) (of : HasRegion basis o
 
       pub other_linked : AreLinked model outer all_given keys all_links
       other_linked = record {
-        once = λ a. cross a (λ x y. x ≢ y) (λ x y apart same. apart true (ap (end_key true) same)) (first_links.once a);
+        once = λ a. cross a (λ x y. x ≢ y) (λ x y apart same. apart true (ap (end_key true) same)) (first_once a);
         ends = λ a assoc here link has side. (
             let Here : AssocId → Type 0 = λ b. At model.assocs b.index assoc in
             let P : Link → Type 0 = λ l. Stands (end_of side assoc) (end_key side l) in
@@ -420,7 +422,7 @@ module _ (basis : Basis) (outer : ℕ) (region : Region) (of : HasRegion basis o
             (λ (new : Contains (links_of (own_links basis outer region values) a) link). let found = link_from (own_links basis outer region values) a link new in
             subst P found.3 (new_end found.0 found.1 assoc (subst Here (sym found.2) here) side))
             (link_cases a link has));
-        few = λ a assoc here side not_many. cross a (λ x y. end_key side x ≢ end_key side y) (λ x y apart. apart side) (first_links.few a assoc here side not_many);
+        few = λ a assoc here side not_many. cross a (λ x y. end_key side x ≢ end_key side y) (λ x y apart. apart side) (first_few a assoc here side not_many);
       }
 
       own_at : HasOwnLinks basis region.set region values all_links
