@@ -27,3 +27,4 @@ pub mod KeyNumbers
 pub mod OtherEntity
 pub mod ShownEntity
 pub mod OtherLink
+pub mod Whole

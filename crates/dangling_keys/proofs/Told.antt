@@ -31,7 +31,7 @@ use Rattle.regions.specs.region_laws.Partners.{part_by}
 use Rattle.regions.specs.region_laws.pattern.Allowed.{AllowedFocus}
 use Rattle.regions.proofs.region_laws.listing.Listed.{set_is}
 use Rattle.region_states.specs.focus.Held.{HasRow, IsRowOfOne, ListsValue}
-use Rattle.region_states.specs.conflicts.There.{NoneFailsBefore}
+use Rattle.region_states.specs.conflicts.There.{NoneFailsBy}
 use Rattle.region_states.proofs.focus.Demanded.{cells, link_cells, link_rows, row_of_one, rows}
 use Rattle.region_states.proofs.focus.Flags.{held_at, some_region}
 use Rattle.region_states.proofs.focus.Partners.{linked_allowed}
@@ -183,13 +183,14 @@ module _ (basis : Basis) (is : IsBasis basis) (limits : IsWithinLimits basis.sch
           (cells_demanded basis.schema c fails.tables fails.defined key.from fails.table fails.is_table row fails.is_row) key fails.is_key refl of_row fails.refers
 
       abbrev Told : Type 0
-      Told = (told_key : DanglingKey) × IsDangling basis told_key
+      Told = (told_key : DanglingKey) × (by : IsDangling basis told_key) × (by.key ≡ key)
 
       tell : (principal : Option Region) → LacksRow basis told.of key principal → Told
       tell principal lack =
           let at = place_of basis.schema.store.keys key fails.is_key in (
             record { focus = told.of; key = record { index = at.0 }; principal = principal },
             record { key = key; is_key = at.1; dangles = record { of_rows = of_rows; refers = refers; lacks = lack } },
+            refl,
           )
 
       by_owner : (u : SetId) (pairing : List Pair) → OwnsTable basis key.to u pairing → Told
@@ -288,7 +289,7 @@ module _ (basis : Basis) (is : IsBasis basis) (limits : IsWithinLimits basis.sch
     own_lacks_row pairing owns by = lacks told_entity entity_row entity_cells entity_stands region.set pairing owns (own_member basis region) by (own_holds basis linked) linked refl
         (sym (set_is basis s region linked.held.listed)) refl
 
-    entity_told : (told_key : DanglingKey) × IsDangling basis told_key
+    entity_told : (told_key : DanglingKey) × (by : IsDangling basis told_key) × (by.key ≡ fails.key)
     entity_told = focus_told told_entity entity_row entity_cells entity_stands (s, linked.held.listed) (λ one same. subst OwnLacksRow (same_region region one same) own_lacks_row)
 
   -- the row of a link
@@ -299,7 +300,7 @@ module _ (basis : Basis) (is : IsBasis basis) (limits : IsWithinLimits basis.sch
     abbrev standing : StandingLink basis
     standing = record { state = c; legal = legal; a = fragment.assoc; assoc = assoc; is_assoc = at.joined.is_assoc; link = link; stands = at.stands }
 
-    link_told : (told_key : DanglingKey) × IsDangling basis told_key
+    link_told : (told_key : DanglingKey) × (by : IsDangling basis told_key) × (by.key ≡ fails.key)
     link_told = focus_told (told_link basis is key.from fragment assoc at.joined c legal link at.stands) ((link_rows basis is its_row).0 demand) (link_cells basis is its_row)
         link_stands (key.from, record { fragment = fragment; assoc = assoc; joined = at.joined; of_assoc = refl }) (λ one never. absurd (never_same one never))
       where
@@ -310,13 +311,13 @@ module _ (basis : Basis) (is : IsBasis basis) (limits : IsWithinLimits basis.sch
         never_same : (one : Region) → focus.Link fragment.assoc ≡ focus.Entity one → ⊥
         never_same one never = let nothing : focus.Link fragment.assoc ≡ focus.Entity one = never in cc
 
-  row_told : (told_key : DanglingKey) × IsDangling basis told_key
+  row_told : (told_key : DanglingKey) × (by : IsDangling basis told_key) × (by.key ≡ fails.key)
   row_told = by (row_of_one basis is c legal key.from row_at demand)
     where
-      by : IsRowOfOne basis c key.from row_at → (told_key : DanglingKey) × IsDangling basis told_key
+      by : IsRowOfOne basis c key.from row_at → (told_key : DanglingKey) × (by : IsDangling basis told_key) × (by.key ≡ fails.key)
       by (inl (s, entity, at)) = entity_told s entity at
       by (inr (fragment, assoc, link, at)) = link_told fragment assoc link at
 
-pub dangling_told : (basis : Basis) → IsBasis basis → IsWithinLimits basis.schema → NoneFailsBefore basis.schema kind.Dangling → (place : Place) (c d : State)
-    → FailsAt basis.schema kind.Dangling place c d → (told_key : DanglingKey) × IsDangling basis told_key
-dangling_told basis is limits none place c d fails = row_told basis is limits (few_by_clear basis is limits (none kind.Clash (omega arith))) c fails.legal place fails.fails
+pub dangling_told : (basis : Basis) → IsBasis basis → IsWithinLimits basis.schema → NoneFailsBy basis.schema kind.Clash → (place : Place) (c d : State)
+    → (fails : FailsAt basis.schema kind.Dangling place c d) → (told_key : DanglingKey) × (by : IsDangling basis told_key) × (by.key ≡ fails.fails.key)
+dangling_told basis is limits none place c d fails = row_told basis is limits (few_by_clear basis is limits none) c fails.legal place fails.fails

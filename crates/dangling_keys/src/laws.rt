@@ -1,26 +1,34 @@
-ghost use Rattle.std.specs.Prelude.{◌≡◌, ◌≤◌, ℕ, Contains, List};
-ghost use Rattle.round_trip.specs.Words.{AssocId, Assoc, At, FailsAt, IsIndependent, Place, PropId, SetId, State};
+ghost use Rattle.std.specs.Prelude.{◌≡◌, ◌↔◌, ◌≤◌, ℕ, Contains, List, Option};
+ghost use Rattle.round_trip.specs.Words.{AssocId, Assoc, At, FailsAt, ForeignKey, IsIndependent, Place, PropId, SetId, State};
 ghost use Rattle.round_trip.specs.declared.FailKind.TheVariants as kind;
 ghost use Rattle.cells.specs.Limits.{IsWithinLimits};
 ghost use Rattle.regions.specs.Basis.{Basis};
 ghost use Rattle.regions.specs.Regions.{regions_of};
+ghost use Rattle.regions.specs.declared.pattern.Focus.{Focus};
 ghost use Rattle.regions.specs.declared.pattern.Focus.TheVariants as focus;
 ghost use Rattle.regions.specs.declared.region.Region.{Region};
 ghost use Rattle.regions.specs.region_laws.IsBasis.{IsBasis};
-ghost use Rattle.region_states.specs.conflicts.There.{NoneFailsBefore};
+ghost use Rattle.region_states.specs.conflicts.There.{NoneFailsBy};
 ghost use Rattle.region_states.specs.Entities.{focus_entity};
 ghost use Rattle.region_states.specs.HoldsFocus.{HoldsFocus};
 ghost use Rattle.population.specs.LinkStates.{HoldsLink};
 ghost use Rattle.forced_entities.specs.Held.{HasNoNull};
-ghost use Rattle.dangling_keys.specs.Dangling.{IsDangling};
+ghost use Rattle.dangling_keys.specs.Dangling.{DanglesAt, IsDangling};
+ghost use Rattle.dangling_keys.specs.Failing.{FailsBy};
 ghost use Rattle.dangling_keys.specs.FlowStates.{AreOpen, flow_state, values_of_focus};
 ghost use Rattle.dangling_keys.specs.LeftOut.{LeavesOut};
 ghost use Rattle.dangling_keys.specs.declared.key.DanglingKey.{DanglingKey};
 
-/// Where a legal state fails by a foreign key that dangles, and none by a kind that is told before, a foreign key dangles at a focus.
-pub fn a_dangling_row_is_told()
-    ensures { (basis : Basis) → IsBasis basis → IsWithinLimits basis.schema → NoneFailsBefore basis.schema kind.Dangling
-        → (place : Place) (c d : State) → FailsAt basis.schema kind.Dangling place c d → (told : DanglingKey) × IsDangling basis told }
+/// The law that dangling keys are decided: where no legal state clashes, some legal state has a row that refers by a foreign key and finds none, exactly where
+/// the key dangles at the region of some entity, or at the links of an association with a table of its own. What is told dangles, of a row that fails the key
+/// is told, and of each that is told some legal state fails. There is no condition on the constraints of the model or on other keys.
+pub fn dangling_keys_are_decided()
+    ensures decided { (basis : Basis) → IsBasis basis → IsWithinLimits basis.schema → NoneFailsBy basis.schema kind.Clash → (key : ForeignKey) → Contains basis.schema.store.keys key
+        → FailsBy basis key ↔ ((of : Focus) × (principal : Option Region) × DanglesAt basis of key principal) }
+    ensures told { (basis : Basis) → IsBasis basis → IsWithinLimits basis.schema → NoneFailsBy basis.schema kind.Clash → (place : Place) (c d : State)
+        → (fails : FailsAt basis.schema kind.Dangling place c d) → (told : DanglingKey) × (by : IsDangling basis told) × (by.key ≡ fails.fails.key) }
+    ensures fails { (basis : Basis) → IsBasis basis → IsWithinLimits basis.schema → NoneFailsBy basis.schema kind.Clash → (told : DanglingKey) (dangling : IsDangling basis told)
+        → FailsBy basis dangling.key }
 {}
 
 /// The law that what isn't forced can be left out: of each focus there is a legal state that holds it, by any of five rows of numbers, in which none of some

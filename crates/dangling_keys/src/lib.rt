@@ -5,4 +5,4 @@ mod key;
 mod laws;
 
 pub use key::DanglingKey;
-pub use laws::{a_dangling_row_is_told, what_is_not_forced_is_left_out};
+pub use laws::{dangling_keys_are_decided, what_is_not_forced_is_left_out};

@@ -1,0 +1,12 @@
+use Rattle.dangling_keys.proofs.Told.{dangling_told}
+use Rattle.dangling_keys.proofs.Whole.{keys_decided, told_fails}
+use Rattle.dangling_keys.proofs.laws.dangling_keys_are_decided.Goals as goal
+
+pub returns-clause-decided : goal.returns-clause-decided
+returns-clause-decided c = keys_decided
+
+pub returns-clause-told : goal.returns-clause-told
+returns-clause-told c = dangling_told
+
+pub returns-clause-fails : goal.returns-clause-fails
+returns-clause-fails c = told_fails
