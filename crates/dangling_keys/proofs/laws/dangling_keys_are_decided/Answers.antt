@@ -1,5 +1,5 @@
-use Rattle.dangling_keys.proofs.Told.{dangling_told}
-use Rattle.dangling_keys.proofs.Whole.{keys_decided, told_fails}
+use Rattle.dangling_keys.proofs.told.Told.{dangling_told}
+use Rattle.dangling_keys.proofs.failing.Whole.{keys_decided, told_fails}
 use Rattle.dangling_keys.proofs.laws.dangling_keys_are_decided.Goals as goal
 
 pub returns-clause-decided : goal.returns-clause-decided

@@ -1,4 +1,4 @@
-use Rattle.dangling_keys.proofs.LeftOut.{entity_holds, entity_leaves, entity_no_null, link_held, link_leaves}
+use Rattle.dangling_keys.proofs.left_out.LeftOut.{entity_holds, entity_leaves, entity_no_null, link_held, link_leaves}
 use Rattle.dangling_keys.proofs.laws.what_is_not_forced_is_left_out.Goals as goal
 
 pub returns-clause-entities : goal.returns-clause-entities

@@ -29,9 +29,9 @@ use Rattle.region_states.proofs.focus.Demanded.{row_of_one}
 use Rattle.dangling_keys.specs.Dangling.{OwnsTable}
 use Rattle.dangling_keys.specs.Failing.{FailsBy}
 use Rattle.dangling_keys.specs.Showing.{MayRefer, cell_at, col_beside, not_null_for, nullable_in, shown_at}
-use Rattle.dangling_keys.proofs.Listing.{free_listed, key_is_sound}
-use Rattle.dangling_keys.proofs.Matching.{found_alike, pair_alike}
-use Rattle.dangling_keys.proofs.Rows.{HoldsSettled, from_holds, pair_shown}
+use Rattle.dangling_keys.proofs.referring.Listing.{free_listed, key_is_sound}
+use Rattle.dangling_keys.proofs.told.Matching.{found_alike, pair_alike}
+use Rattle.dangling_keys.proofs.told.Rows.{HoldsSettled, from_holds, pair_shown}
 
 -- what is written to a table writes it
 pub row_written : (basis : Basis) (c : State) (t : TableId) (key : List Value) → DemandsRow basis.schema c t key → IsWritten basis.schema.mapping t

@@ -30,8 +30,8 @@ use Rattle.forced_entities.specs.Forced.{part_in}
 use Rattle.forced_entities.specs.declared.member.Forced.{Forced}
 use Rattle.dangling_keys.specs.Flow.{IsFlow}
 use Rattle.dangling_keys.specs.LeftOut.{IsMember, IsNumberKey, IsRead, ReadsPart}
-use Rattle.dangling_keys.proofs.Flow.{flow_small}
-use Rattle.dangling_keys.proofs.LeftOut.{shows}
+use Rattle.dangling_keys.proofs.left_out.Flow.{flow_small}
+use Rattle.dangling_keys.proofs.left_out.LeftOut.{shows}
 
 module _ (basis : Basis) (is : IsBasis basis) (limits : IsWithinLimits basis.schema) (outer : ℕ) (row : outer ≤ 4) (of : Focus) (not_null : List PropId) (values : Valuation) (state : State)
     (legal : IsLegal basis.schema.model state)

@@ -44,8 +44,8 @@ use Rattle.failure_laws.specs.Witnesses.{empty_state}
 use Rattle.dangling_keys.specs.Flow.{IsFlow, IsLinkPart, end_part}
 use Rattle.dangling_keys.specs.FlowStates.{flow_state, values_of_focus}
 use Rattle.dangling_keys.specs.LeftOut.{IsMember, IsNumberKey, IsRead, ReadsPart}
-use Rattle.dangling_keys.proofs.Reading.{ReadForced, as_member, beyond_zero, stands_read}
-use Rattle.dangling_keys.proofs.Serving.{plain_leads}
+use Rattle.dangling_keys.proofs.left_out.Reading.{ReadForced, as_member, beyond_zero, stands_read}
+use Rattle.dangling_keys.proofs.left_out.Serving.{plain_leads}
 
 module _ (basis : Basis) (is : IsBasis basis) (outer : ℕ) (has : HasNumbers basis.schema.model outer) (a : AssocId) (assoc : Assoc) (here : At basis.schema.model.assocs a.index assoc) (not_null : List PropId) where
   abbrev model : EntityModel

@@ -19,12 +19,12 @@ use Rattle.dangling_keys.specs.Dangling.{OwnsTable}
 use Rattle.dangling_keys.specs.Flow.{IsFlow}
 use Rattle.dangling_keys.specs.LeftOut.{IsMember, IsNumberKey, IsRead}
 use Rattle.dangling_keys.specs.Showing.{Fits, shown_at}
-use Rattle.dangling_keys.proofs.Fitting as fitting
-use Rattle.dangling_keys.proofs.Fitting.{IsPartOrOuter}
-use Rattle.dangling_keys.proofs.KeyNumbers.{key_numbered}
-use Rattle.dangling_keys.proofs.LeftOut.{fresh_there}
-use Rattle.dangling_keys.proofs.NoRow.{HasShownKey, fitting_shown}
-use Rattle.dangling_keys.proofs.Rows.{HoldsSettled}
+use Rattle.dangling_keys.proofs.referring.Fitting as fitting
+use Rattle.dangling_keys.proofs.referring.Fitting.{IsPartOrOuter}
+use Rattle.dangling_keys.proofs.referring.KeyNumbers.{key_numbered}
+use Rattle.dangling_keys.proofs.left_out.LeftOut.{fresh_there}
+use Rattle.dangling_keys.proofs.referring.NoRow.{HasShownKey, fitting_shown}
+use Rattle.dangling_keys.proofs.told.Rows.{HoldsSettled}
 
 module _ (basis : Basis) (is : IsBasis basis) (limits : IsWithinLimits basis.schema) (outer : ℕ) (row : outer ≤ 4) (of : Focus) (not_null : List PropId) (values : Valuation) (state : State)
     (legal : IsLegal basis.schema.model state)

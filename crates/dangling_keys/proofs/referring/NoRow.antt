@@ -20,8 +20,8 @@ use Rattle.forced_entities.specs.Forced.{part_in}
 use Rattle.forced_entities.specs.declared.member.Forced.{Forced}
 use Rattle.dangling_keys.specs.Dangling.{OwnsTable}
 use Rattle.dangling_keys.specs.Showing.{Fits, IsShownPart, shown_at}
-use Rattle.dangling_keys.proofs.Rows.{HoldsSettled, shown_is}
-use Rattle.dangling_keys.proofs.Target.{IsShown, target_demand, target_key, target_of, target_shows}
+use Rattle.dangling_keys.proofs.told.Rows.{HoldsSettled, shown_is}
+use Rattle.dangling_keys.proofs.referring.Target.{IsShown, target_demand, target_key, target_of, target_shows}
 
 -- the entity has the key that is shown
 abbrev pub HasShownKey : Basis → Focus → ForeignKey → Valuation → List Pair → Entity → Type 0

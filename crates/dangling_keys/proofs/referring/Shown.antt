@@ -22,8 +22,8 @@ use Rattle.region_states.proofs.focus.Partners.{linked_allowed}
 use Rattle.conflict_laws.proofs.same.rows.Rows.{HasRowAt, row_of_pattern}
 use Rattle.failure_laws.proofs.links.LinkRows.{told_link}
 use Rattle.dangling_keys.specs.Showing.{MayRefer, not_null_for}
-use Rattle.dangling_keys.proofs.Listing.{link_none, the_table}
-use Rattle.dangling_keys.proofs.Target.{IsShown}
+use Rattle.dangling_keys.proofs.referring.Listing.{link_none, the_table}
+use Rattle.dangling_keys.proofs.referring.Target.{IsShown}
 
 -- an entity with its values
 abbrev pub told_entity : (basis : Basis) → IsBasis basis → LinkedEntity basis → AllowedFocus basis

@@ -32,7 +32,7 @@ use Rattle.conflict_laws.proofs.same.rows.Cells.{column_of, one_cell}
 use Rattle.forced_entities.specs.Forced.{part_in}
 use Rattle.forced_entities.specs.declared.member.Forced.{Forced}
 use Rattle.dangling_keys.specs.Showing.{Fits, IsShownPart, MayRefer, cell_at, col_beside, not_null_for, nullable_by, nullable_in, shown_at}
-use Rattle.dangling_keys.proofs.Matching.{HasBeside, alike_found, found_alike, from_there, pair_alike, pairs_alike}
+use Rattle.dangling_keys.proofs.told.Matching.{HasBeside, alike_found, found_alike, from_there, pair_alike, pairs_alike}
 
 -- what a cell holds, where this is known of it
 abbrev pub HoldsSettled : Valuation → Settled → Value → Type 0

@@ -57,17 +57,17 @@ use Rattle.dangling_keys.specs.Flow.{IsFlow}
 use Rattle.dangling_keys.specs.LeftOut.{IsMember, IsNumberKey, IsRead}
 use Rattle.dangling_keys.specs.OtherStates.{other_given, other_key, other_links, other_state, other_values, other_wanted}
 use Rattle.dangling_keys.specs.Showing.{Fits, MayRefer, shown_at}
-use Rattle.dangling_keys.proofs.EntityParts.{shown_parts}
-use Rattle.dangling_keys.proofs.Fitting.{IsPartOrOuter}
-use Rattle.dangling_keys.proofs.Joined.{hosts_none}
-use Rattle.dangling_keys.proofs.LinkFails as first
-use Rattle.dangling_keys.proofs.LinkRead as reading
-use Rattle.dangling_keys.proofs.NoRow.{HasShownKey, none_found}
-use Rattle.dangling_keys.proofs.OtherState as other
-use Rattle.dangling_keys.proofs.OtherValues.{other_allowed, other_key_is, other_part, other_short, partner_numbered}
-use Rattle.dangling_keys.proofs.Shown.{link_shown}
-use Rattle.dangling_keys.proofs.ShownEntity as at_key
-use Rattle.dangling_keys.proofs.Target.{IsShown, shown_fails}
+use Rattle.dangling_keys.proofs.referring.EntityParts.{shown_parts}
+use Rattle.dangling_keys.proofs.referring.Fitting.{IsPartOrOuter}
+use Rattle.dangling_keys.proofs.referring.Joined.{hosts_none}
+use Rattle.dangling_keys.proofs.failing.LinkFails as first
+use Rattle.dangling_keys.proofs.left_out.LinkRead as reading
+use Rattle.dangling_keys.proofs.referring.NoRow.{HasShownKey, none_found}
+use Rattle.dangling_keys.proofs.failing.OtherState as other
+use Rattle.dangling_keys.proofs.failing.OtherValues.{other_allowed, other_key_is, other_part, other_short, partner_numbered}
+use Rattle.dangling_keys.proofs.referring.Shown.{link_shown}
+use Rattle.dangling_keys.proofs.referring.ShownEntity as at_key
+use Rattle.dangling_keys.proofs.referring.Target.{IsShown, shown_fails}
 
 module _ (basis : Basis) (is : IsBasis basis) (limits : IsWithinLimits basis.schema) (none : NoneFailsBy basis.schema kind.Clash) (fragment : LinkFragment) (assoc : Assoc) (key : ForeignKey)
     (is_key : Contains basis.schema.store.keys key) (joined : IsJoinedTo basis.schema key.from fragment assoc) (may : MayRefer basis (focus.Link fragment.assoc) key) (q : Region) (pairing : List Pair)

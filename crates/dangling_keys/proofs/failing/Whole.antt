@@ -22,11 +22,11 @@ use Rattle.dangling_keys.specs.Dangling.{DanglesAt, HasRows, IsDangling, IsThere
 use Rattle.dangling_keys.specs.Failing.{FailsBy}
 use Rattle.dangling_keys.specs.Showing.{Fits, MayRefer}
 use Rattle.dangling_keys.specs.declared.key.DanglingKey.{DanglingKey}
-use Rattle.dangling_keys.proofs.EntityFails.{none_fails, own_fails}
-use Rattle.dangling_keys.proofs.LinkFails.{link_none_fails}
-use Rattle.dangling_keys.proofs.OtherEntity.{other_fails}
-use Rattle.dangling_keys.proofs.OtherLink.{other_link_fails}
-use Rattle.dangling_keys.proofs.Told.{dangling_told}
+use Rattle.dangling_keys.proofs.failing.EntityFails.{none_fails, own_fails}
+use Rattle.dangling_keys.proofs.failing.LinkFails.{link_none_fails}
+use Rattle.dangling_keys.proofs.failing.OtherEntity.{other_fails}
+use Rattle.dangling_keys.proofs.failing.OtherLink.{other_link_fails}
+use Rattle.dangling_keys.proofs.told.Told.{dangling_told}
 
 module _ (basis : Basis) (is : IsBasis basis) (limits : IsWithinLimits basis.schema) (none : NoneFailsBy basis.schema kind.Clash) (key : ForeignKey) (is_key : Contains basis.schema.store.keys key) where
   -- another entity that lacks the row, by its own set

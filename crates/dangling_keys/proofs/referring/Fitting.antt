@@ -28,9 +28,9 @@ use Rattle.dangling_keys.specs.Flow.{IsFlow}
 use Rattle.dangling_keys.specs.LeftOut.{IsMember, IsNumberKey, IsRead, ReadsPart}
 use Rattle.dangling_keys.specs.Outer.{IsOuter}
 use Rattle.dangling_keys.specs.Showing.{Fits, IsShownPart, shown_at}
-use Rattle.dangling_keys.proofs.Flow.{flow_small}
-use Rattle.dangling_keys.proofs.LeftOut.{not_added, shows, the_part}
-use Rattle.dangling_keys.proofs.Rows.{HoldsSettled}
+use Rattle.dangling_keys.proofs.left_out.Flow.{flow_small}
+use Rattle.dangling_keys.proofs.left_out.LeftOut.{not_added, shows, the_part}
+use Rattle.dangling_keys.proofs.told.Rows.{HoldsSettled}
 
 -- what a cell holds is a part of a key, or no value of the row of numbers
 abbrev pub IsPartOrOuter : Basis → ℕ → Focus → Valuation → Settled → Type 0

@@ -19,7 +19,7 @@ use Rattle.regions.specs.declared.pattern.Focus.{Focus}
 use Rattle.forced_entities.specs.Forced.{IsForced}
 use Rattle.forced_entities.specs.declared.member.Forced.{Forced}
 use Rattle.dangling_keys.specs.LeftOut.{IsMember, IsNumberKey, IsRead}
-use Rattle.dangling_keys.proofs.Serving.{plain_leads}
+use Rattle.dangling_keys.proofs.left_out.Serving.{plain_leads}
 
 module _ (basis : Basis) (outer : ℕ) (has : HasNumbers basis.schema.model outer) (of : Focus) (not_null : List PropId) (values : Valuation) (given : List Placed) (wanted : List PlacedKey) where
   abbrev model : EntityModel

@@ -34,15 +34,15 @@ use Rattle.dangling_keys.specs.Flow.{IsFlow}
 use Rattle.dangling_keys.specs.FlowStates.{flow_state}
 use Rattle.dangling_keys.specs.Outer.{IsOuter, outer_row, outer_value}
 use Rattle.dangling_keys.specs.Showing.{MayRefer, cell_at, not_null_for}
-use Rattle.dangling_keys.proofs.EntityParts.{cell_outer, outer_small, shown_parts}
-use Rattle.dangling_keys.proofs.Fitting.{IsPartOrOuter, fitting_one}
-use Rattle.dangling_keys.proofs.Joined.{joined_given}
-use Rattle.dangling_keys.proofs.LeftOut.{link_held}
-use Rattle.dangling_keys.proofs.LinkRead.{link_state_is, link_value, own_read}
-use Rattle.dangling_keys.proofs.Listing.{link_symbol}
-use Rattle.dangling_keys.proofs.OwnTable.{never_itself}
-use Rattle.dangling_keys.proofs.Shown.{link_shown}
-use Rattle.dangling_keys.proofs.Target.{IsShown, shown_fails, target_key, target_of, target_owned, target_shows}
+use Rattle.dangling_keys.proofs.referring.EntityParts.{cell_outer, outer_small, shown_parts}
+use Rattle.dangling_keys.proofs.referring.Fitting.{IsPartOrOuter, fitting_one}
+use Rattle.dangling_keys.proofs.referring.Joined.{joined_given}
+use Rattle.dangling_keys.proofs.left_out.LeftOut.{link_held}
+use Rattle.dangling_keys.proofs.left_out.LinkRead.{link_state_is, link_value, own_read}
+use Rattle.dangling_keys.proofs.referring.Listing.{link_symbol}
+use Rattle.dangling_keys.proofs.referring.OwnTable.{never_itself}
+use Rattle.dangling_keys.proofs.referring.Shown.{link_shown}
+use Rattle.dangling_keys.proofs.referring.Target.{IsShown, shown_fails, target_key, target_of, target_owned, target_shows}
 
 module _ (basis : Basis) (is : IsBasis basis) (limits : IsWithinLimits basis.schema) (none : NoneFailsBy basis.schema kind.Clash) (fragment : LinkFragment) (assoc : Assoc) (key : ForeignKey)
     (is_key : Contains basis.schema.store.keys key) (joined : IsJoinedTo basis.schema key.from fragment assoc) (may : MayRefer basis (focus.Link fragment.assoc) key) where

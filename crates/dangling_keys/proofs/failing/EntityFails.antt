@@ -29,15 +29,15 @@ use Rattle.dangling_keys.specs.Dangling.{NoneFits, OwnLacks}
 use Rattle.dangling_keys.specs.Failing.{FailsBy}
 use Rattle.dangling_keys.specs.FlowStates.{flow_values}
 use Rattle.dangling_keys.specs.Showing.{MayRefer}
-use Rattle.dangling_keys.proofs.EntityParts.{entity_parts, linked, not_null, open_, outer, row, told_read, valued, values}
-use Rattle.dangling_keys.proofs.EntityRead.{made}
-use Rattle.dangling_keys.proofs.Fitting.{fitting_one}
-use Rattle.dangling_keys.proofs.Joined.{hosts_none, joined_given}
-use Rattle.dangling_keys.proofs.LeftOut as left
-use Rattle.dangling_keys.proofs.NoRow.{fitting_shown, none_found}
-use Rattle.dangling_keys.proofs.Shown.{entity_shown, told_entity}
-use Rattle.dangling_keys.proofs.Target.{IsShown, shown_fails, target_key, target_of, target_owned, target_shows}
-use Rattle.dangling_keys.proofs.Told.{own_holds}
+use Rattle.dangling_keys.proofs.referring.EntityParts.{entity_parts, linked, not_null, open_, outer, row, told_read, valued, values}
+use Rattle.dangling_keys.proofs.left_out.EntityRead.{made}
+use Rattle.dangling_keys.proofs.referring.Fitting.{fitting_one}
+use Rattle.dangling_keys.proofs.referring.Joined.{hosts_none, joined_given}
+use Rattle.dangling_keys.proofs.left_out.LeftOut as left
+use Rattle.dangling_keys.proofs.referring.NoRow.{fitting_shown, none_found}
+use Rattle.dangling_keys.proofs.referring.Shown.{entity_shown, told_entity}
+use Rattle.dangling_keys.proofs.referring.Target.{IsShown, shown_fails, target_key, target_of, target_owned, target_shows}
+use Rattle.dangling_keys.proofs.told.Told.{own_holds}
 
 module _ (basis : Basis) (is : IsBasis basis) (limits : IsWithinLimits basis.schema) (none : NoneFailsBy basis.schema kind.Clash) (s : SetId) (region : Region) (listed : Contains (regions_of basis s) region)
     (key : ForeignKey) (is_key : Contains basis.schema.store.keys key) (may : MayRefer basis (focus.Entity region) key) where

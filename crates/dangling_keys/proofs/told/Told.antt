@@ -49,9 +49,9 @@ use Rattle.dangling_keys.specs.Dangling.{HasRows, IsDangling, IsOwn, IsThere, La
 use Rattle.dangling_keys.specs.Members.{members, own_members}
 use Rattle.dangling_keys.specs.Showing.{Fits, IsShownPart, MayRefer, col_beside, not_null_for, shown_at}
 use Rattle.dangling_keys.specs.declared.key.DanglingKey.{DanglingKey}
-use Rattle.dangling_keys.proofs.Matching.{alike_found, pair_alike}
-use Rattle.dangling_keys.proofs.Members.{in_members, in_own, some_fits}
-use Rattle.dangling_keys.proofs.Rows.{HoldsSettled, key_sound, may_refer_to, not_null_there, pair_shown, shown_is}
+use Rattle.dangling_keys.proofs.told.Matching.{alike_found, pair_alike}
+use Rattle.dangling_keys.proofs.told.Members.{in_members, in_own, some_fits}
+use Rattle.dangling_keys.proofs.told.Rows.{HoldsSettled, key_sound, may_refer_to, not_null_there, pair_shown, shown_is}
 
 -- each entity of a legal state is of a region, with few partners
 abbrev pub linked_by : (basis : Basis) → IsBasis basis → HaveFewPartners basis → (c : State) → IsLegal basis.schema.model c → (u : SetId) (entity : Entity) → Contains (entities_in c u) entity → LinkedEntity basis

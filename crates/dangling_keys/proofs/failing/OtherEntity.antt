@@ -60,21 +60,21 @@ use Rattle.dangling_keys.specs.FlowStates.{AreOpen}
 use Rattle.dangling_keys.specs.LeftOut.{IsMember, IsNumberKey, IsRead}
 use Rattle.dangling_keys.specs.OtherStates.{keeps, other_given, other_key, other_links, other_state, other_values, other_wanted, own_links}
 use Rattle.dangling_keys.specs.Showing.{Fits, MayRefer, shown_at}
-use Rattle.dangling_keys.proofs.Actor.{HasFlagLinks, HasOwnLinks, actor_holds, link_by}
-use Rattle.dangling_keys.proofs.EntityParts as parts
-use Rattle.dangling_keys.proofs.EntityRead as reading
-use Rattle.dangling_keys.proofs.ShownEntity as at_key
-use Rattle.dangling_keys.proofs.Fitting.{IsPartOrOuter}
-use Rattle.dangling_keys.proofs.FlowValues.{flow_admissible}
-use Rattle.dangling_keys.proofs.KeyNumbers.{key_numbered, same_side}
-use Rattle.dangling_keys.proofs.LeftOut as left
-use Rattle.dangling_keys.proofs.LeftOut.{fresh_there}
-use Rattle.dangling_keys.proofs.NoRow.{HasShownKey, fitting_shown, none_found}
-use Rattle.dangling_keys.proofs.OtherState as other
-use Rattle.dangling_keys.proofs.OtherValues.{other_allowed, other_key_is, other_part, other_short, partner_numbered}
-use Rattle.dangling_keys.proofs.Rows.{HoldsSettled}
-use Rattle.dangling_keys.proofs.Shown.{entity_shown, told_entity}
-use Rattle.dangling_keys.proofs.Target.{IsShown, shown_fails}
+use Rattle.dangling_keys.proofs.failing.Actor.{HasFlagLinks, HasOwnLinks, actor_holds, link_by}
+use Rattle.dangling_keys.proofs.referring.EntityParts as parts
+use Rattle.dangling_keys.proofs.left_out.EntityRead as reading
+use Rattle.dangling_keys.proofs.referring.ShownEntity as at_key
+use Rattle.dangling_keys.proofs.referring.Fitting.{IsPartOrOuter}
+use Rattle.dangling_keys.proofs.left_out.FlowValues.{flow_admissible}
+use Rattle.dangling_keys.proofs.referring.KeyNumbers.{key_numbered, same_side}
+use Rattle.dangling_keys.proofs.left_out.LeftOut as left
+use Rattle.dangling_keys.proofs.left_out.LeftOut.{fresh_there}
+use Rattle.dangling_keys.proofs.referring.NoRow.{HasShownKey, fitting_shown, none_found}
+use Rattle.dangling_keys.proofs.failing.OtherState as other
+use Rattle.dangling_keys.proofs.failing.OtherValues.{other_allowed, other_key_is, other_part, other_short, partner_numbered}
+use Rattle.dangling_keys.proofs.told.Rows.{HoldsSettled}
+use Rattle.dangling_keys.proofs.referring.Shown.{entity_shown, told_entity}
+use Rattle.dangling_keys.proofs.referring.Target.{IsShown, shown_fails}
 
 module _ (basis : Basis) (is : IsBasis basis) (limits : IsWithinLimits basis.schema) (none : NoneFailsBy basis.schema kind.Clash) (s : SetId) (region : Region) (listed : Contains (regions_of basis s) region)
     (key : ForeignKey) (is_key : Contains basis.schema.store.keys key) (may : MayRefer basis (focus.Entity region) key) (q : Region) (pairing : List Pair) (owns : OwnsTable basis key.to q.set pairing)

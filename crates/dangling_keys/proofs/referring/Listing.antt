@@ -42,8 +42,8 @@ use Rattle.conflict_laws.proofs.null.Listed.{cell_there}
 use Rattle.dangling_keys.specs.Flow.{IsFlow, IsLinkPart, IsOwnDependent, IsPartnerPart, end_part}
 use Rattle.dangling_keys.specs.FlowStates.{AreOpen}
 use Rattle.dangling_keys.specs.Showing.{cell_at, not_null_for, nullable_in}
-use Rattle.dangling_keys.proofs.Matching.{Decides-col, as_many}
-use Rattle.dangling_keys.proofs.Rows.{nullable_is}
+use Rattle.dangling_keys.proofs.told.Matching.{Decides-col, as_many}
+use Rattle.dangling_keys.proofs.told.Rows.{nullable_is}
 
 module _ (basis : Basis) (is : IsBasis basis) where
   -- at most four columns point

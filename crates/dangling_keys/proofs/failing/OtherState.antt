@@ -59,7 +59,7 @@ use Rattle.host_states.proofs.focus.Focus.{HasRegion, domain_sort, in_set, numbe
 use Rattle.host_states.proofs.focus.FocusLinks.{side_cases}
 use Rattle.host_states.proofs.focus.HostEnds.{IsLinkedHost, from_assoc, is_linked_host, linked_is, linked_order, near_covers, near_set, pairs_of_hosts, partner_side, to_assoc}
 use Rattle.dangling_keys.specs.OtherStates.{keeps, other_given, other_key, other_links, other_state, other_wanted, own_links}
-use Rattle.dangling_keys.proofs.Actor.{HasFlagLinks, HasOwnLinks, actor_holds, link_by}
+use Rattle.dangling_keys.proofs.failing.Actor.{HasFlagLinks, HasOwnLinks, actor_holds, link_by}
 
 -- pairs of the given entities of each set are pairs of given entities
 pairs_of_given : (R : Entity → Entity → Type 0) (given : List Placed) → ((u : SetId) → AllPairs R (given_in given u)) → AllPairs (λ x y. x.set ≡ y.set → R x.entity y.entity) given

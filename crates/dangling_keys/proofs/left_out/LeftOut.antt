@@ -44,10 +44,10 @@ use Rattle.forced_entities.proofs.Holds.{entity_forces, link_forces, own_stands}
 use Rattle.dangling_keys.specs.Flow.{IsFlow}
 use Rattle.dangling_keys.specs.FlowStates.{AreOpen, flow_state, flow_values, values_of_focus}
 use Rattle.dangling_keys.specs.LeftOut.{IsMember, IsNumberKey, IsRead, LeavesOut, ReadsPart}
-use Rattle.dangling_keys.proofs.EntityRead.{entity_read}
-use Rattle.dangling_keys.proofs.Flow.{flow_once, flow_small}
-use Rattle.dangling_keys.proofs.FlowValues.{flow_admissible, flow_value, given_there}
-use Rattle.dangling_keys.proofs.LinkRead.{link_read, link_state_is, link_value, link_values, link_values_are}
+use Rattle.dangling_keys.proofs.left_out.EntityRead.{entity_read}
+use Rattle.dangling_keys.proofs.left_out.Flow.{flow_once, flow_small}
+use Rattle.dangling_keys.proofs.left_out.FlowValues.{flow_admissible, flow_value, given_there}
+use Rattle.dangling_keys.proofs.left_out.LinkRead.{link_read, link_state_is, link_value, link_values, link_values_are}
 
 -- a numbered value isn't null
 no_number : (n : ℕ) → number n ≢ Null

@@ -35,12 +35,12 @@ use Rattle.conflict_laws.proofs.null.Listed.{cell_there}
 use Rattle.failure_laws.proofs.links.LinkRows.{told_link}
 use Rattle.dangling_keys.specs.Flow.{IsFlow}
 use Rattle.dangling_keys.specs.Showing.{cell_at, col_beside}
-use Rattle.dangling_keys.proofs.Fitting.{IsPartOrOuter}
-use Rattle.dangling_keys.proofs.Flow.{flow_once, flow_small}
-use Rattle.dangling_keys.proofs.Listing.{end_flow, free_listed, key_is_sound}
-use Rattle.dangling_keys.proofs.Matching.{all_alike, as_many}
-use Rattle.dangling_keys.proofs.Rows.{HoldsSettled, held_at}
-use Rattle.dangling_keys.proofs.Target.{IsShown, cell_alike, holds, target_key, to_table}
+use Rattle.dangling_keys.proofs.referring.Fitting.{IsPartOrOuter}
+use Rattle.dangling_keys.proofs.left_out.Flow.{flow_once, flow_small}
+use Rattle.dangling_keys.proofs.referring.Listing.{end_flow, free_listed, key_is_sound}
+use Rattle.dangling_keys.proofs.told.Matching.{all_alike, as_many}
+use Rattle.dangling_keys.proofs.told.Rows.{HoldsSettled, held_at}
+use Rattle.dangling_keys.proofs.referring.Target.{IsShown, cell_alike, holds, target_key, to_table}
 
 -- what stands beside is in the list
 from_among : (cols others : List ColId) (col from : ColId) → col_beside col cols others ≡ Some from → Contains others from

@@ -35,13 +35,13 @@ use Rattle.dangling_keys.specs.FlowStates.{AreOpen, flow_state}
 use Rattle.dangling_keys.specs.LeftOut.{IsMember, IsNumberKey, IsRead, ReadsPart}
 use Rattle.dangling_keys.specs.Outer.{IsOuter, outer_row, outer_value, outer_values}
 use Rattle.dangling_keys.specs.Showing.{MayRefer, cell_at, col_beside, not_null_for, nullable_by, nullable_in, shown_at}
-use Rattle.dangling_keys.proofs.EntityRead.{entity_read}
-use Rattle.dangling_keys.proofs.Fitting.{IsPartOrOuter}
-use Rattle.dangling_keys.proofs.FlowValues.{flow_value, free_some, several_value}
-use Rattle.dangling_keys.proofs.LeftOut as left
-use Rattle.dangling_keys.proofs.Listing.{IsPlainProp, are_open, few_cols, free_listed, key_is_sound, shown_symbol}
-use Rattle.dangling_keys.proofs.Matching.{HasBeside, from_there}
-use Rattle.dangling_keys.proofs.Outer.{row_free, row_outer}
+use Rattle.dangling_keys.proofs.left_out.EntityRead.{entity_read}
+use Rattle.dangling_keys.proofs.referring.Fitting.{IsPartOrOuter}
+use Rattle.dangling_keys.proofs.left_out.FlowValues.{flow_value, free_some, several_value}
+use Rattle.dangling_keys.proofs.left_out.LeftOut as left
+use Rattle.dangling_keys.proofs.referring.Listing.{IsPlainProp, are_open, few_cols, free_listed, key_is_sound, shown_symbol}
+use Rattle.dangling_keys.proofs.told.Matching.{HasBeside, from_there}
+use Rattle.dangling_keys.proofs.referring.Outer.{row_free, row_outer}
 
 -- the row of numbers of a foreign key at a focus
 module _ (basis : Basis) (is : IsBasis basis) (key : ForeignKey) (is_key : Contains basis.schema.store.keys key) (of : Focus) where

@@ -61,9 +61,9 @@ use Rattle.forced_entities.proofs.Beside.{beside, part_map}
 use Rattle.dangling_keys.specs.Flow.{IsFlow, IsOwnDependent, IsPartnerPart}
 use Rattle.dangling_keys.specs.FlowStates.{AreOpen, flow_state, flow_values}
 use Rattle.dangling_keys.specs.LeftOut.{IsMember, IsNumberKey, IsRead, ReadsPart}
-use Rattle.dangling_keys.proofs.FlowValues.{dependent_is_fresh, flow_admissible, key_value, kept_value, part_value, usual_value}
-use Rattle.dangling_keys.proofs.Reading.{ReadForced, ReadMember, as_member, beyond_zero, stands_read}
-use Rattle.dangling_keys.proofs.Serving.{plain_leads}
+use Rattle.dangling_keys.proofs.left_out.FlowValues.{dependent_is_fresh, flow_admissible, key_value, kept_value, part_value, usual_value}
+use Rattle.dangling_keys.proofs.left_out.Reading.{ReadForced, ReadMember, as_member, beyond_zero, stands_read}
+use Rattle.dangling_keys.proofs.left_out.Serving.{plain_leads}
 
 module _ (basis : Basis) (outer : ℕ) (s : SetId) (region : Region) (of : HasRegion basis outer s region) (not_null : List PropId) (open_ : AreOpen basis region not_null) where
   abbrev model : EntityModel

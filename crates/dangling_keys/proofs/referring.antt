@@ -1,0 +1,11 @@
+pub mod Listing
+pub mod Outer
+pub mod Target
+pub mod NoRow
+pub mod Fitting
+pub mod Shown
+pub mod Joined
+pub mod KeyNumbers
+pub mod ShownEntity
+pub mod EntityParts
+pub mod OwnTable

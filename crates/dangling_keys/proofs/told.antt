@@ -1,0 +1,4 @@
+pub mod Matching
+pub mod Rows
+pub mod Members
+pub mod Told
