@@ -7,10 +7,9 @@ use Rattle.schema_laws.specs.short_values.Fresh.{added_value, fresh, fresh_at}
 use Rattle.regions.specs.Basis.{Basis}
 use Rattle.regions.specs.Patterns.{Valuation, value_under}
 use Rattle.regions.specs.declared.pattern.Focus.{Focus}
-use Rattle.regions.specs.declared.pattern.Focus.TheVariants as focus
 use Rattle.regions.specs.declared.pattern.Symbol.{Symbol}
 use Rattle.population.specs.Numbered.{number_count, numbered_key}
-use Rattle.forced_entities.specs.Forced.{IsForced, own_member, part_in}
+use Rattle.forced_entities.specs.Forced.{IsForced, part_in}
 use Rattle.forced_entities.specs.declared.member.Forced.{Forced}
 use Rattle.dangling_keys.specs.Dangling.{IsOwn}
 use Rattle.dangling_keys.specs.Flow.{IsFlow}

@@ -1,6 +1,6 @@
 -- What the row of a focus shows in the columns of a foreign key, and which entity that is forced has the key that is shown.
 -- Source: SSDL version 3, Association and ReferentialConstraint; CSDL version 3, Key.
-use Rattle.std.specs.Prelude.{◌≡◌, ◌==◌, ◌&&◌, List, [], ◌∷◌, flat_map, All, Bool, true, false, not, Option, None, Some, if◌then◌else◌}
+use Rattle.std.specs.Prelude.{◌≡◌, ◌==◌, ◌&&◌, List, [], ◌∷◌, flat_map, All, Bool, false, not, Option, None, Some, if◌then◌else◌}
 use Rattle.std.specs.List.{list_all}
 use Rattle.std.specs.Option.{option_map_or}
 use Rattle.round_trip.specs.Words.{SetId, TableId, ColId, PropId, Null, ForeignKey, Pair}

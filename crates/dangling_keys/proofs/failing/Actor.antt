@@ -1,12 +1,12 @@
 -- An entity of a region in a supported state that has its links, and no other ones at its key: the region holds it, with its partners.
-use Rattle.std.proofs.Common.{◌≡◌, ◌≢◌, ◌⊎◌, ⊎_elim, inl, inr, ℕ, ◌<◌, List, [], ◌∷◌, ◌++◌, filter, get_or, AllPairs, Any, Contains, Bool, true, false, not, if◌then◌else◌, refl, sym, ap, subst, ◌∙◌, arith}
+use Rattle.std.proofs.Common.{◌≡◌, ◌≢◌, ◌⊎◌, ⊎_elim, inl, inr, ℕ, ◌<◌, List, [], ◌∷◌, ◌++◌, get_or, Any, Contains, Bool, true, false, not, if◌then◌else◌, sym, ap, subst, ◌∙◌, arith}
 use Rattle.std.proofs.lemmas.Bool.{and_parts}
 use Rattle.std.proofs.lemmas.List.Elements.{Contains-append_cases, Contains-append_left, Contains-get_or}
 use Rattle.emc_base.proofs.FoundItems.{some_member}
 use Rattle.emc_base.proofs.Lists.{at_once}
 use Rattle.emc_base.proofs.facts.Tests.{not_is}
-use Rattle.round_trip.specs.Words.{SetId, AssocId, PropId, Value, Assoc, End, Entity, Link, State, At, IsA, IsLegal, entities_in, key_of, key_props, links_in, value_beside}
-use Rattle.edm_types.specs.declared.model.Mult.TheVariants.{One, ZeroOrOne}
+use Rattle.round_trip.specs.Words.{SetId, PropId, Value, Assoc, End, Entity, Link, State, At, IsA, IsLegal, entities_in, key_of, key_props, links_in, value_beside}
+use Rattle.edm_types.specs.declared.model.Mult.TheVariants.{One}
 use Rattle.schema_laws.specs.sound_demand.Deriving.{derives}
 use Rattle.schema_laws.specs.state_demand.Selecting.{same_key}
 use Rattle.schema_laws.proofs.sound_demand.Deriving.{decides_types}

@@ -1,17 +1,15 @@
 -- A foreign key that dangles at an entity, where no entity has the key that is shown, or the entity itself: some legal state fails.
-use Rattle.std.proofs.Common.{◌≡◌, ⊎_elim, inl, inr, ℕ, List, Contains, refl, sym, ap, subst, ◌∙◌}
-use Rattle.round_trip.specs.Words.{Assoc, Entity, FailsAt, ForeignKey, Link, LinkFragment, Pair, Place, Row, SetId, State, Value, At, cells_of, links_in, place_at, row_key, rows_in}
+use Rattle.std.proofs.Common.{◌≡◌, inl, inr, List, Contains, refl, sym, subst}
+use Rattle.round_trip.specs.Words.{Assoc, ForeignKey, Link, LinkFragment, Row, SetId, Value, cells_of, rows_in}
 use Rattle.round_trip.specs.declared.FailKind.TheVariants as kind
-use Rattle.schema_laws.specs.state_demand.Owners.{IsJoinedTo}
 use Rattle.cells.specs.Limits.{IsWithinLimits}
 use Rattle.regions.specs.Basis.{Basis, Host}
 use Rattle.regions.specs.Regions.{regions_of}
 use Rattle.regions.specs.declared.pattern.Focus.{Focus}
 use Rattle.regions.specs.declared.pattern.Focus.TheVariants as focus
 use Rattle.regions.specs.declared.region.Region.{Region}
-use Rattle.regions.specs.region_laws.Held.{IsAtLinkRow, IsAtRow, LinkedEntity}
+use Rattle.regions.specs.region_laws.Held.{IsAtLinkRow, LinkedEntity}
 use Rattle.regions.specs.region_laws.IsBasis.{IsBasis}
-use Rattle.regions.specs.region_laws.pattern.Allowed.{AllowedFocus}
 use Rattle.regions.proofs.region_laws.listing.Listed.{set_is}
 use Rattle.region_states.specs.conflicts.There.{NoneFailsBy}
 use Rattle.region_states.specs.focus.Held.{IsRowOfOne}
@@ -24,7 +22,6 @@ use Rattle.population.proofs.supporting.Ends.{link_from}
 use Rattle.host_states.specs.FocusStates.{given_by, linked_hosts, links_by, wanted_by}
 use Rattle.host_states.proofs.focus.FocusLinks.{IsGivenLink, given_link}
 use Rattle.forced_entities.specs.Forced.{own_member}
-use Rattle.forced_entities.proofs.Holds.{own_stands}
 use Rattle.dangling_keys.specs.Dangling.{NoneFits, OwnLacks}
 use Rattle.dangling_keys.specs.Failing.{FailsBy}
 use Rattle.dangling_keys.specs.FlowStates.{flow_values}

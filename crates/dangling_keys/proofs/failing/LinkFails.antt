@@ -1,8 +1,8 @@
 -- A foreign key that dangles at a link, where no entity has the key that is shown: some legal state fails.
-use Rattle.std.proofs.Common.{◌≡◌, ◌⊎◌, ⊎_elim, inl, inr, ℕ, ◌≤◌, List, [], ◌∷◌, map, flat_map, Contains, refl, sym, ap, subst, ◌∙◌}
+use Rattle.std.proofs.Common.{◌≡◌, ⊎_elim, inl, inr, ℕ, ◌≤◌, List, [], ◌∷◌, map, flat_map, Contains, refl, sym, ap, subst, ◌∙◌}
 use Rattle.emc_base.proofs.Lists.{at_once}
 use Rattle.emc_base.proofs.Members.{contains_cons_cases, contains_nil}
-use Rattle.round_trip.specs.Words.{Assoc, AssocId, ColId, EntityModel, ForeignKey, IsIndependent, IsLegal, Kind, Link, LinkFragment, PropId, Row, State, Value, At, cells_of, links_in, rows_in}
+use Rattle.round_trip.specs.Words.{Assoc, ColId, EntityModel, ForeignKey, IsIndependent, Kind, Link, LinkFragment, PropId, Row, State, Value, At, cells_of, links_in, rows_in}
 use Rattle.round_trip.specs.declared.FailKind.TheVariants as kind
 use Rattle.schema_laws.specs.short_values.Fresh.{fresh}
 use Rattle.schema_laws.specs.state_demand.Owners.{IsJoinedTo}
@@ -22,7 +22,7 @@ use Rattle.region_states.specs.conflicts.There.{NoneFailsBy}
 use Rattle.region_states.specs.focus.Held.{IsRowOfOne}
 use Rattle.failure_laws.proofs.links.LinkRows.{told_link}
 use Rattle.population.specs.Given.{HasNumbers}
-use Rattle.population.specs.LinkStates.{HoldsLink, at_first, at_second, entity_at, link_state, of_assoc, placed_at, plain_link}
+use Rattle.population.specs.LinkStates.{HoldsLink, at_first, at_second, entity_at, of_assoc, placed_at, plain_link}
 use Rattle.population.specs.Principals.{principals}
 use Rattle.population.specs.Support.{support}
 use Rattle.population.specs.Supported.{links_of}

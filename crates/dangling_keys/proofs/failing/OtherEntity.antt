@@ -1,29 +1,26 @@
 -- A foreign key that dangles at an entity, where another entity has the key that is shown and may lack the row: some legal state fails.
-use Rattle.std.proofs.Common.{◌≡◌, ◌≢◌, ◌⊎◌, ⊎_elim, inl, inr, ℕ, ◌<◌, ◌≤◌, List, [], ◌∷◌, map, flat_map, Contains, IsTrue, Bool, true, false, not, Option, Some, refl, sym, ap, subst, ◌∙◌, arith}
-use Rattle.std.proofs.lemmas.List.Elements.{All-contains}
+use Rattle.std.proofs.Common.{◌≡◌, ◌≢◌, ◌⊎◌, ⊎_elim, inl, inr, ℕ, ◌<◌, ◌≤◌, List, flat_map, Contains, Bool, true, not, refl, sym, ap, subst, ◌∙◌}
 use Rattle.emc_base.proofs.FoundItems.{contains_flat_map}
 use Rattle.emc_base.proofs.Lists.{at_once}
 use Rattle.emc_base.proofs.Members.{contains_head, contains_tail}
-use Rattle.round_trip.specs.Words.{Assoc, AssocId, End, Entity, EntityModel, ForeignKey, IsA, IsLegal, Kind, Link, Null, key_props, props_of, Pair, PropId, Row, SetId, State, Value, At, entities_in, key_of, links_in, value_of}
+use Rattle.round_trip.specs.Words.{Assoc, AssocId, End, Entity, EntityModel, ForeignKey, IsA, Kind, Null, props_of, Pair, PropId, SetId, State, Value, At, entities_in, key_of, value_of}
 use Rattle.round_trip.specs.declared.FailKind.TheVariants as kind
 use Rattle.round_trip.specs.soundness.Lookups.{set_key}
 use Rattle.round_trip.specs.soundness.models.Constraints.{IsSoundEnd}
 use Rattle.schema_laws.specs.short_values.Fresh.{fresh, most_indices}
 use Rattle.round_trip.specs.soundness.mappings.Joined.{IsDependent}
 use Rattle.schema_laws.specs.short_values.Short.{IsShort}
-use Rattle.schema_laws.specs.state_demand.Owners.{IsOwned}
 use Rattle.cells.specs.Limits.{IsWithinLimits}
 use Rattle.regions.specs.Basis.{Basis, Host, partner_end}
 use Rattle.regions.specs.Patterns.{Valuation, pattern_of, value_under}
 use Rattle.regions.specs.Regions.{regions_of}
-use Rattle.regions.specs.Settled.{Settled, free}
 use Rattle.regions.specs.declared.pattern.Focus.{Focus}
 use Rattle.regions.specs.declared.pattern.Focus.TheVariants as focus
 use Rattle.regions.specs.declared.pattern.Symbol.{Symbol}
 use Rattle.regions.specs.declared.region.Region.{Region}
 use Rattle.regions.specs.region_laws.Held.{LinkedEntity}
 use Rattle.regions.specs.region_laws.IsBasis.{IsBasis, IsHostOf}
-use Rattle.regions.specs.region_laws.pattern.Allowed.{IsAllowed, RegionValues}
+use Rattle.regions.specs.region_laws.pattern.Allowed.{IsAllowed}
 use Rattle.regions.proofs.region_laws.entities.Hosting.{at_set}
 use Rattle.regions.proofs.region_laws.listing.Listed.{set_is}
 use Rattle.region_states.specs.Entities.{focus_entity}
@@ -39,21 +36,21 @@ use Rattle.population.specs.Supported.{end_key, given_in, links_of}
 use Rattle.population.specs.declared.placed.Placed.{Placed}
 use Rattle.population.specs.declared.placed.PlacedKey.{PlacedKey}
 use Rattle.population.specs.declared.placed.PlacedLink.{PlacedLink}
-use Rattle.population.proofs.plain.Numbered.{end_within, set_key_is}
+use Rattle.population.proofs.plain.Numbered.{end_within}
 use Rattle.population.proofs.plain.Plain.{first_is}
 use Rattle.population.proofs.supporting.Ends.{from_given, link_from}
 use Rattle.population.proofs.supporting.Links.{far_key, near_key}
-use Rattle.host_states.specs.FocusStates.{by_assoc, focus, given_by, linked_hosts, links_by, link_to, partner_of, told_key, wanted_by}
+use Rattle.host_states.specs.FocusStates.{by_assoc, focus, given_by, linked_hosts, links_by, partner_of, told_key, wanted_by}
 use Rattle.host_states.proofs.focus.Focus as first
 use Rattle.host_states.proofs.focus.Focus.{HasRegion, IsMade}
 use Rattle.host_states.proofs.focus.FocusLinks.{IsGivenLink, given_link, given_well, link_there, links_well, own_is, side_cases}
 use Rattle.host_states.proofs.focus.FocusLinks as links_first
 use Rattle.host_states.proofs.focus.HostEnds.{IsLinkedHost, far_sound, host_side, is_linked_host, near_covers, near_set, partner_side, to_assoc}
-use Rattle.forced_entities.specs.Forced.{IsForced, own_member, part_in}
+use Rattle.forced_entities.specs.Forced.{IsForced, own_member}
 use Rattle.forced_entities.specs.Held.{HasNoNull, HoldsForced}
 use Rattle.forced_entities.specs.declared.member.Forced.{Forced}
 use Rattle.forced_entities.proofs.Holds.{entity_forces, own_stands}
-use Rattle.dangling_keys.specs.Dangling.{IsThere, OtherLacks, OwnsTable}
+use Rattle.dangling_keys.specs.Dangling.{IsThere, OwnsTable}
 use Rattle.dangling_keys.specs.Failing.{FailsBy}
 use Rattle.dangling_keys.specs.Flow.{IsFlow}
 use Rattle.dangling_keys.specs.FlowStates.{AreOpen}
@@ -66,13 +63,12 @@ use Rattle.dangling_keys.proofs.left_out.EntityRead as reading
 use Rattle.dangling_keys.proofs.referring.ShownEntity as at_key
 use Rattle.dangling_keys.proofs.referring.Fitting.{IsPartOrOuter}
 use Rattle.dangling_keys.proofs.left_out.FlowValues.{flow_admissible}
-use Rattle.dangling_keys.proofs.referring.KeyNumbers.{key_numbered, same_side}
+use Rattle.dangling_keys.proofs.referring.KeyNumbers.{same_side}
 use Rattle.dangling_keys.proofs.left_out.LeftOut as left
 use Rattle.dangling_keys.proofs.left_out.LeftOut.{fresh_there}
-use Rattle.dangling_keys.proofs.referring.NoRow.{HasShownKey, fitting_shown, none_found}
+use Rattle.dangling_keys.proofs.referring.NoRow.{HasShownKey, none_found}
 use Rattle.dangling_keys.proofs.failing.OtherState as other
 use Rattle.dangling_keys.proofs.failing.OtherValues.{other_allowed, other_key_is, other_part, other_short, partner_numbered}
-use Rattle.dangling_keys.proofs.told.Rows.{HoldsSettled}
 use Rattle.dangling_keys.proofs.referring.Shown.{entity_shown, told_entity}
 use Rattle.dangling_keys.proofs.referring.Target.{IsShown, shown_fails}
 

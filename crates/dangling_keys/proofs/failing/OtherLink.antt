@@ -1,11 +1,11 @@
 -- A foreign key that dangles at a link, where an entity that may lack the row has the key that is shown: some legal state fails.
-use Rattle.std.proofs.Common.{◌≡◌, ◌≢◌, ◌⊎◌, ⊎_elim, inl, inr, ℕ, ◌<◌, ◌≤◌, List, [], ◌∷◌, ◌++◌, map, flat_map, AllPairs, Contains, Bool, true, false, not, refl, sym, ap, subst, ◌∙◌, arith}
+use Rattle.std.proofs.Common.{◌≡◌, ◌≢◌, ◌⊎◌, ⊎_elim, inl, inr, ℕ, ◌<◌, ◌≤◌, List, [], ◌∷◌, ◌++◌, map, AllPairs, Contains, Bool, true, false, not, refl, sym, ap, subst, ◌∙◌, arith}
 use Rattle.std.proofs.lemmas.List.Elements.{Contains-append_left}
 use Rattle.emc_base.proofs.Lists.{at_once}
 use Rattle.emc_base.proofs.Mapped.{contains_map}
 use Rattle.emc_base.proofs.Members.{contains_cons_cases, contains_head, contains_nil, contains_tail}
 use Rattle.emc_base.proofs.Numbered.{map_contains}
-use Rattle.round_trip.specs.Words.{Assoc, AssocId, End, Entity, EntityModel, ForeignKey, IsA, IsLegal, Kind, Link, LinkFragment, Null, Pair, PropId, SetId, State, Value, At, entities_in, key_of, links_in, props_of, value_of}
+use Rattle.round_trip.specs.Words.{Assoc, AssocId, End, Entity, EntityModel, ForeignKey, IsA, Kind, Link, LinkFragment, Null, Pair, PropId, SetId, State, Value, At, entities_in, key_of, links_in, props_of, value_of}
 use Rattle.edm_types.specs.declared.model.Mult.TheVariants.{Many}
 use Rattle.round_trip.specs.declared.FailKind.TheVariants as kind
 use Rattle.round_trip.specs.soundness.Lookups.{set_key}
@@ -32,7 +32,7 @@ use Rattle.region_states.specs.focus.Held.{HasRow}
 use Rattle.region_states.proofs.Held.{focus_held}
 use Rattle.failure_laws.proofs.links.LinkRows.{told_link}
 use Rattle.population.specs.Given.{AreGiven, HasNumbers, HasShortParts, IsNotNumbered}
-use Rattle.population.specs.LinkStates.{HoldsLink, PlainEnd, at_end, entity_at, key_at, of_assoc, placed_at}
+use Rattle.population.specs.LinkStates.{HoldsLink, PlainEnd, at_end, key_at, of_assoc, placed_at}
 use Rattle.population.specs.Numbered.{end_number, end_of, number_count, numbered_key}
 use Rattle.population.specs.Principals.{principals}
 use Rattle.population.specs.Support.{support}
@@ -40,7 +40,6 @@ use Rattle.population.specs.Supported.{added_at, end_key, links_of}
 use Rattle.population.specs.declared.placed.Placed.{Placed}
 use Rattle.population.specs.declared.placed.PlacedKey.{PlacedKey}
 use Rattle.population.specs.declared.placed.PlacedLink.{PlacedLink}
-use Rattle.population.proofs.plain.Plain.{first_is}
 use Rattle.population.proofs.supporting.Ends.{are_given, end_has_key, end_principals, end_typed, from_link, link_pairs}
 use Rattle.population.proofs.supporting.Entities.{links_are}
 use Rattle.population.proofs.supporting.Links.{linked_is}
@@ -238,10 +237,13 @@ module _ (basis : Basis) (is : IsBasis basis) (limits : IsWithinLimits basis.sch
   EndIsGiven of_end at = (it : Placed) × Contains given it × (it.set ≡ of_end.set) × IsA model it.entity.ty of_end.ty × (key_of model it.entity ≡ at)
 
   own_end : (side : Bool) → EndIsGiven (end_of side assoc) (end_key side link)
-  own_end side = subst (λ (it : End). EndIsGiven it (end_key side link)) (end_is side)
-      (placed_at model outer (end side), contains_map (placed_at model outer) both (end side) (end_there side), refl,
-      end_typed model outer has (end side) (sound (end side) (end_there side)) (small (end side) (end_there side)),
-      end_has_key model outer has (end side) (sound (end side) (end_there side)) (small (end side) (end_there side)) ∙ link_key side)
+  own_end side = subst (λ (it : End). EndIsGiven it (end_key side link)) (end_is side) (
+    placed_at model outer (end side),
+    contains_map (placed_at model outer) both (end side) (end_there side),
+    refl,
+    end_typed model outer has (end side) (sound (end side) (end_there side)) (small (end side) (end_there side)),
+    end_has_key model outer has (end side) (sound (end side) (end_there side)) (small (end side) (end_there side)) ∙ link_key side,
+  )
 
   ends : (placed : PlacedLink) → Contains links placed → (also : Assoc) → At model.assocs placed.assoc.index also → (side : Bool) → EndIsGiven (end_of side also) (end_key side placed.link)
   ends placed has_link also there side =

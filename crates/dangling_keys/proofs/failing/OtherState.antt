@@ -1,8 +1,7 @@
 -- An entity of a region in place of a plain one: the state is legal and holds the entity, with its partners.
-use Rattle.std.proofs.Common.{◌≡◌, ◌≢◌, ◌⊎◌, ⊎_elim, inl, inr, ℕ, ◌<◌, ◌==◌, ◌&&◌, List, [], ◌∷◌, ◌++◌, map, filter, flat_map, length, slice_get, All, AllPairs, Contains, Bool, true, false, true≢false, not, Option, Some, Decides, refl, sym, ap, subst, ◌∙◌, arith}
+use Rattle.std.proofs.Common.{◌≡◌, ◌≢◌, ◌⊎◌, ⊎_elim, inl, inr, ℕ, ◌<◌, ◌==◌, ◌&&◌, List, [], ◌∷◌, ◌++◌, map, filter, length, All, AllPairs, Contains, Bool, true, false, true≢false, not, Some, refl, sym, ap, subst, ◌∙◌, arith}
 use Rattle.std.specs.Option.{option_map_or}
 use Rattle.std.proofs.lemmas.Bool.{and_parts, cond_both}
-use Rattle.std.proofs.lemmas.Bool.Decides.{Decides-eqb}
 use Rattle.std.proofs.lemmas.List.{length-map, map-append}
 use Rattle.std.proofs.lemmas.List.Elements.{All-contains, Contains-append_cases, Contains-append_left, Contains-append_right, filter-append}
 use Rattle.std.proofs.lemmas.List.Kept.{AllPairs-cons, AllPairs-filter}
@@ -13,17 +12,16 @@ use Rattle.emc_base.proofs.Lists.{all_from_members, at_once}
 use Rattle.emc_base.proofs.Mapped.{contains_at, contains_filter, contains_map}
 use Rattle.emc_base.proofs.Members.{contains_cons_cases, contains_head, contains_tail}
 use Rattle.emc_base.proofs.Numbered.{filter_contains}
-use Rattle.round_trip.specs.Words.{SetId, AssocId, PropId, Value, Null, Assoc, Constraint, End, Entity, EntityModel, EntitySet, EntityType, Link, Prop, State, At, InDomain, IsA, entities_in, dependent_end, key_of, props_of, value_of, values_of}
+use Rattle.round_trip.specs.Words.{SetId, AssocId, PropId, Value, Null, Assoc, Constraint, End, Entity, EntityModel, EntitySet, EntityType, Link, Prop, At, InDomain, IsA, dependent_end, key_of, props_of, value_of, values_of}
 use Rattle.round_trip.specs.legality.Legal.{HasProp}
 use Rattle.round_trip.specs.soundness.mappings.Joined.{IsDependent}
 use Rattle.round_trip.specs.soundness.models.Constraints.{HasMatchedLists, IsSoundEnd}
 use Rattle.edm_types.specs.declared.model.Mult.TheVariants.{Many}
-use Rattle.schema_laws.specs.short_values.Short.{IsOfSort, IsShort}
+use Rattle.schema_laws.specs.short_values.Short.{IsShort}
 use Rattle.schema_laws.specs.state_demand.Selecting.{same_key}
 use Rattle.schema_laws.proofs.short_values.Short.{domain_not_null}
 use Rattle.schema_laws.proofs.sound_types.Inherited.{declared_above, inherits_prop}
-use Rattle.schema_laws.proofs.state_demand.lists.Ids.{Decides-assoc, Decides-set}
-use Rattle.schema_laws.proofs.state_demand.writings.Decisions.{both_or_not, so_or_not}
+use Rattle.schema_laws.proofs.state_demand.lists.Ids.{Decides-set}
 use Rattle.schema_laws.proofs.state_demand.writings.Selecting.{Decides-key}
 use Rattle.regions.specs.Atoms.{Allows}
 use Rattle.regions.specs.Basis.{Basis, Host, partner_end}
@@ -36,7 +34,7 @@ use Rattle.region_states.specs.Entities.{focus_entity}
 use Rattle.region_states.specs.HoldsFocus.{HoldsFocus}
 use Rattle.region_states.proofs.Entities.{carried, has_value}
 use Rattle.population.specs.Given.{AreGiven, AreKeys, AreLinked, AreWanted, HasShortParts, IsNotNumbered, IsShortFor, StandsAtEnd, StandsWell}
-use Rattle.population.specs.Numbered.{end_number, end_of, number_count, numbered, numbered_key}
+use Rattle.population.specs.Numbered.{end_number, end_of, numbered, numbered_key}
 use Rattle.population.specs.Principals.{AsksFor, principals}
 use Rattle.population.specs.Support.{support}
 use Rattle.population.specs.Supported.{end_key, given_in, links_of, stands_in}
@@ -54,7 +52,7 @@ use Rattle.population.proofs.supporting.Ends.{from_given, from_link, given_from,
 use Rattle.population.proofs.supporting.Entities.{given_stands, number_stands}
 use Rattle.population.proofs.supporting.Links.{far_key, near_key}
 use Rattle.population.proofs.supporting.Support.{support_fits}
-use Rattle.host_states.specs.FocusStates.{by_assoc, focus, link_to, linked_hosts, told_key, wanted_by}
+use Rattle.host_states.specs.FocusStates.{by_assoc, focus, link_to, linked_hosts, told_key}
 use Rattle.host_states.proofs.focus.Focus.{HasRegion, domain_sort, in_set, numbers}
 use Rattle.host_states.proofs.focus.FocusLinks.{side_cases}
 use Rattle.host_states.proofs.focus.HostEnds.{IsLinkedHost, from_assoc, is_linked_host, linked_is, linked_order, near_covers, near_set, pairs_of_hosts, partner_side, to_assoc}
@@ -435,9 +433,10 @@ module _ (basis : Basis) (outer : ℕ) (region : Region) (of : HasRegion basis o
           let Of : PlacedLink → Type 0 = λ one. one.assoc ≡ host.assoc in
           let same_id : own.host.assoc ≡ host.assoc = subst Of own.is found.2 in
           let same_host : own.host ≡ host = one_host (basis.hosts region.set) (of.is.order region.set) own.host host own.by.hosts hosted same_id in
-          let same_assoc : own.assoc ≡ assoc = at_once model.assocs host.assoc.index own.assoc assoc (subst (λ (h : Host). At model.assocs h.assoc.index own.assoc) same_host own.by.is_assoc) here in
-          (subst (λ (h : Host). Contains region.linked h.assoc) same_host own.by.linked,
-          sym found.3 ∙ ap (λ (one : PlacedLink). one.link) own.is ∙ ap (λ (h : Host). link_by basis region values h own.assoc) same_host ∙ ap (link_by basis region values host) same_assoc))
+          let same_assoc : own.assoc ≡ assoc = at_once model.assocs host.assoc.index own.assoc assoc (subst (λ (h : Host). At model.assocs h.assoc.index own.assoc) same_host own.by.is_assoc) here in (
+            subst (λ (h : Host). Contains region.linked h.assoc) same_host own.by.linked,
+            sym found.3 ∙ ap (λ (one : PlacedLink). one.link) own.is ∙ ap (λ (h : Host). link_by basis region values h own.assoc) same_host ∙ ap (link_by basis region values host) same_assoc,
+          ))
           (link_cases host.assoc link has)
 
       flags_at : HasFlagLinks basis region.set region values all_links

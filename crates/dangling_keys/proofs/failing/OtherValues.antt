@@ -1,10 +1,10 @@
 -- The values of an entity of a region that has the key of an entity of a state, and whose partners are those of numbers.
-use Rattle.std.proofs.Common.{◌≡◌, ◌≢◌, ◌⊎◌, ⊎_elim, if◌then◌else◌, inl, inr, ℕ, ◌<◌, ◌≤◌, List, map, Contains, Bool, not, Option, Some, None, slice_get, refl, sym, ap, subst, ◌∙◌, arith}
+use Rattle.std.proofs.Common.{◌≡◌, ◌≢◌, ⊎_elim, inl, inr, ℕ, ◌<◌, List, map, Contains, not, sym, ap, subst, ◌∙◌}
 use Rattle.std.proofs.lemmas.Bool.{cond_both, cond-true}
 use Rattle.std.proofs.lemmas.Bool.Decides.{not_from_Decides}
 use Rattle.std.proofs.lemmas.List.Elements.{All-contains}
 use Rattle.emc_base.proofs.Lists.{all_from_members}
-use Rattle.round_trip.specs.Words.{AssocId, Assoc, Entity, EntityModel, EntitySet, IsLegal, Kind, Null, Prop, PropId, SetId, State, TypeId, Value, At, HasAllowedNulls, HasFittingType, HasValuesInDomain, InDomain, IsA, entities_in, key_of, key_props, props_of, value_of}
+use Rattle.round_trip.specs.Words.{Assoc, Entity, EntityModel, EntitySet, IsLegal, Kind, Null, Prop, PropId, SetId, State, Value, At, HasAllowedNulls, HasFittingType, HasValuesInDomain, InDomain, entities_in, key_of, key_props, props_of, value_of}
 use Rattle.round_trip.specs.soundness.Lookups.{set_key}
 use Rattle.round_trip.specs.soundness.mappings.Joined.{IsDependent, prop}
 use Rattle.round_trip.specs.soundness.models.Constraints.{IsSoundEnd}
@@ -17,16 +17,13 @@ use Rattle.schema_laws.proofs.short_values.Places.{Decides-among, fresh_is}
 use Rattle.schema_laws.proofs.short_values.Short.{fresh_fits, fresh_short}
 use Rattle.schema_laws.proofs.sound_demand.Keys.{inherits_keys}
 use Rattle.schema_laws.proofs.sound_demand.owners.Pairing.{end_key}
-use Rattle.schema_laws.proofs.sound_types.Inherited.{declared_above, key_among}
+use Rattle.schema_laws.proofs.sound_types.Inherited.{key_among}
 use Rattle.schema_laws.proofs.state_demand.lists.Places.{map_agree}
-use Rattle.cells.specs.Limits.{IsWithinLimits}
-use Rattle.condition_logic.specs.declared.atoms.Atom.{Atom}
 use Rattle.condition_logic.specs.declared.atoms.AtomOf.{AtomOf}
 use Rattle.regions.specs.Atoms.{Allows, LiesIn}
 use Rattle.regions.specs.Basis.{Basis, Host, partner_end}
 use Rattle.regions.specs.Patterns.{Valuation}
 use Rattle.regions.specs.declared.region.Region.{Region}
-use Rattle.regions.specs.region_laws.IsBasis.{IsBasis}
 use Rattle.regions.specs.region_laws.pattern.Allowed.{HasAllowedParts, IsAllowed}
 use Rattle.region_states.specs.Entities.{focus_entity}
 use Rattle.region_states.specs.defaults.Admissible.{IsAdmissible}
@@ -34,8 +31,7 @@ use Rattle.region_states.specs.defaults.Defaults.{default_valuation}
 use Rattle.region_states.proofs.Entities.{has_value}
 use Rattle.region_states.proofs.defaults.Defaults.{default_admissible}
 use Rattle.region_states.proofs.defaults.Listed.{told_is, tested_no_key}
-use Rattle.population.specs.Given.{HasNumbers}
-use Rattle.population.specs.Numbered.{end_number, number_count, numbered_key}
+use Rattle.population.specs.Numbered.{end_number, numbered_key}
 use Rattle.population.proofs.plain.Numbered.{end_within, number_small, set_key_is}
 use Rattle.host_states.specs.FocusStates.{told_key}
 use Rattle.dangling_keys.specs.OtherStates.{other_values}

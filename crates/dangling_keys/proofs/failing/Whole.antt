@@ -1,13 +1,11 @@
 -- Some legal state fails by a foreign key exactly where the key dangles at a focus.
-use Rattle.std.proofs.Common.{◌≡◌, ◌⊎◌, ◌↔◌, inl, inr, List, Contains, Option, Some, None, refl, sym, ap, subst, ◌∙◌}
-use Rattle.graphs.proofs.base_chains.orders.Orders.{place_of_member}
+use Rattle.std.proofs.Common.{◌≡◌, ◌↔◌, inl, inr, Contains, Option, Some, None, refl, sym, subst, ◌∙◌}
 use Rattle.emc_base.proofs.Mapped.{contains_at}
-use Rattle.round_trip.specs.Words.{Assoc, AssocId, FailsAt, ForeignKey, IsA, LinkFragment, Pair, Place, SetId, State, TableId, At}
+use Rattle.round_trip.specs.Words.{Assoc, AssocId, ForeignKey, IsA, LinkFragment, SetId, TableId}
 use Rattle.round_trip.specs.declared.FailKind.TheVariants as kind
 use Rattle.schema_laws.specs.state_demand.Owners.{IsJoinedTo}
 use Rattle.cells.specs.Limits.{IsWithinLimits}
 use Rattle.regions.specs.Basis.{Basis}
-use Rattle.regions.specs.Patterns.{pattern_of}
 use Rattle.regions.specs.Regions.{regions_of}
 use Rattle.regions.specs.declared.pattern.Focus.{Focus}
 use Rattle.regions.specs.declared.pattern.Focus.TheVariants as focus
@@ -18,7 +16,7 @@ use Rattle.region_states.specs.conflicts.There.{NoneFailsBy}
 use Rattle.region_states.proofs.focus.Listed.{row_joined}
 use Rattle.forced_entities.specs.Forced.{own_member}
 use Rattle.forced_entities.specs.declared.member.Forced.{Forced}
-use Rattle.dangling_keys.specs.Dangling.{DanglesAt, HasRows, IsDangling, IsThere, LacksRow, OtherLacks, OwnLacks, OwnsTable}
+use Rattle.dangling_keys.specs.Dangling.{DanglesAt, IsDangling, IsThere, LacksRow, OtherLacks, OwnLacks, OwnsTable}
 use Rattle.dangling_keys.specs.Failing.{FailsBy}
 use Rattle.dangling_keys.specs.Showing.{Fits, MayRefer}
 use Rattle.dangling_keys.specs.declared.key.DanglingKey.{DanglingKey}

@@ -1,13 +1,13 @@
 -- Each entity of the state with an entity of a region is one of a number, or its key is told by the focus or by what this forces.
-use Rattle.std.proofs.Common.{◌≡◌, ◌≢◌, ◌⊎◌, ⊎_elim, inl, inr, ℕ, List, map, All, Contains, Bool, true, false, true≢false, not, Option, Some, None, refl, sym, ap, subst, ◌∙◌, arith}
+use Rattle.std.proofs.Common.{◌≡◌, ◌≢◌, ◌⊎◌, ⊎_elim, inl, inr, ℕ, List, map, Contains, Bool, true, false, not, Option, Some, None, refl, sym, subst, ◌∙◌}
 use Rattle.std.proofs.lemmas.Bool.{cond-true}
 use Rattle.std.proofs.lemmas.List.Elements.{All-contains}
 use Rattle.emc_base.proofs.Joined.{in_flat_map}
 use Rattle.emc_base.proofs.Lists.{all_from_members}
 use Rattle.emc_base.proofs.Mapped.{contains_map}
 use Rattle.edm_types.specs.IsA.{same as itself}
-use Rattle.round_trip.specs.Words.{SetId, PropId, Value, Null, Assoc, Constraint, End, Entity, EntityModel, EntitySet, Prop, At, IsA, State, dependent_end, entities_in, key_of, key_props, principal_end, props_of, value_beside, value_of, values_of}
-use Rattle.round_trip.specs.soundness.Lookups.{IsNeeded, IsUnderElement, set_key}
+use Rattle.round_trip.specs.Words.{SetId, PropId, Value, Null, Assoc, Constraint, End, Entity, EntityModel, Prop, At, IsA, dependent_end, entities_in, key_of, key_props, principal_end, props_of, value_beside, value_of, values_of}
+use Rattle.round_trip.specs.soundness.Lookups.{set_key}
 use Rattle.round_trip.specs.soundness.models.Constraints.{HasMatchedLists, IsSoundConstraint, IsSoundEnd}
 use Rattle.round_trip.specs.soundness.mappings.Joined.{IsDependent, prop}
 use Rattle.condition_logic.specs.declared.atoms.Atom.{Atom}
@@ -24,7 +24,7 @@ use Rattle.schema_laws.proofs.state_demand.owners.Owners.{beside_map}
 use Rattle.schema_laws.proofs.state_demand.writings.Decisions.{so_or_not}
 use Rattle.regions.specs.Atoms.{LiesIn, atom_at}
 use Rattle.regions.specs.Basis.{Basis, Host, partner_end}
-use Rattle.regions.specs.Patterns.{Valuation, value_under}
+use Rattle.regions.specs.Patterns.{Valuation}
 use Rattle.regions.specs.declared.pattern.Focus.{Focus}
 use Rattle.regions.specs.declared.pattern.Focus.TheVariants as focus
 use Rattle.regions.specs.declared.pattern.Symbol.{Symbol}
@@ -39,10 +39,8 @@ use Rattle.region_states.specs.defaults.Admissible.{IsAdmissible}
 use Rattle.region_states.specs.defaults.Defaults.{some_value, value_by}
 use Rattle.region_states.proofs.Entities.{has_value}
 use Rattle.region_states.proofs.defaults.Defaults.{told_tells}
-use Rattle.population.specs.Given.{HasNumbers}
 use Rattle.population.specs.Principals.{AsksFor, principal_key, principals}
 use Rattle.population.specs.Support.{IsTaken, support}
-use Rattle.population.specs.Supported.{given_in}
 use Rattle.population.specs.declared.placed.Placed.{Placed}
 use Rattle.population.specs.declared.placed.PlacedKey.{PlacedKey}
 use Rattle.population.proofs.principals.Asked.{asked_of}
@@ -51,14 +49,14 @@ use Rattle.population.proofs.principals.Principals.{is_dependent_by, principal_k
 use Rattle.population.proofs.supporting.Ends.{given_from}
 use Rattle.population.proofs.supporting.Entities.{entities_are}
 use Rattle.host_states.specs.FocusStates.{given_by, links_by, linked_hosts, partner_of, told_key, wanted_by}
-use Rattle.host_states.proofs.focus.Focus.{HasRegion, IsGiven, IsMade, a_partner, are_given, focus_key_is, given_cases, in_set, numbers, partner_has, region_key, region_set, the_focus}
+use Rattle.host_states.proofs.focus.Focus.{HasRegion, IsGiven, IsMade, a_partner, focus_key_is, given_cases, in_set, numbers, partner_has, region_key, region_set, the_focus}
 use Rattle.host_states.proofs.focus.FocusLinks.{given_well, keys_well}
 use Rattle.host_states.proofs.pairs.Rivals.{focus_made, focus_wants_short}
 use Rattle.host_states.proofs.focus.HostEnds.{IsLinkedHost, far_sound}
 use Rattle.forced_entities.specs.Forced.{HasValueAtom, IsForced, IsKnown, begins, forced_at, own_member, part_beside, part_in, principal_of}
 use Rattle.forced_entities.specs.declared.member.Forced.{Forced}
 use Rattle.forced_entities.proofs.Beside.{beside, part_map}
-use Rattle.dangling_keys.specs.Flow.{IsFlow, IsOwnDependent, IsPartnerPart}
+use Rattle.dangling_keys.specs.Flow.{IsOwnDependent, IsPartnerPart}
 use Rattle.dangling_keys.specs.FlowStates.{AreOpen, flow_state, flow_values}
 use Rattle.dangling_keys.specs.LeftOut.{IsMember, IsNumberKey, IsRead, ReadsPart}
 use Rattle.dangling_keys.proofs.left_out.FlowValues.{dependent_is_fresh, flow_admissible, key_value, kept_value, part_value, usual_value}

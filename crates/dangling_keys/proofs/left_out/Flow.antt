@@ -1,5 +1,5 @@
 -- Symbols that stand for parts of keys have numbers of their own.
-use Rattle.std.proofs.Common.{◌≡◌, ◌≢◌, ◌⊎◌, ⊎_elim, inl, inr, ℕ, suc, ◌+◌, ◌*◌, ◌<◌, ◌≤◌, ◌==◌, List, [], ◌∷◌, length, slice_get, Contains, Bool, true, false, not, Option, Some, None, refl, sym, ap, subst, ◌∙◌, arith}
+use Rattle.std.proofs.Common.{◌≡◌, ⊎_elim, inl, inr, ℕ, suc, ◌<◌, ◌≤◌, ◌==◌, List, [], ◌∷◌, length, slice_get, Contains, Bool, true, false, not, Option, Some, None, refl, sym, ap, subst, ◌∙◌, arith}
 use Rattle.std.specs.Option.{option_map_or}
 use Rattle.std.proofs.lemmas.Bool.{cond_both}
 use Rattle.std.proofs.lemmas.Bool.Decides.{not_from_Decides}
@@ -9,8 +9,6 @@ use Rattle.emc_base.proofs.Lists.{at_once}
 use Rattle.emc_base.proofs.Mapped.{contains_at}
 use Rattle.emc_base.proofs.Members.{contains_cons_cases, contains_nil}
 use Rattle.round_trip.specs.Words.{AssocId, PropId, TypeId, Assoc, EntityModel, EntityType, At, key_props, props_of}
-use Rattle.round_trip.specs.soundness.models.Models.{IsSoundModel}
-use Rattle.schema_laws.specs.short_values.Fresh.{dependent_value, focus_key, partner_key}
 use Rattle.schema_laws.specs.short_values.Places.{place_in}
 use Rattle.schema_laws.proofs.short_values.Places.{place_within}
 use Rattle.schema_laws.proofs.sound_demand.Keys.{keys_few}
@@ -25,7 +23,7 @@ use Rattle.regions.specs.declared.region.Region.{Region}
 use Rattle.regions.specs.region_laws.IsBasis.{IsBasis}
 use Rattle.regions.specs.region_laws.pattern.Allowed.{end_at}
 use Rattle.regions.proofs.region_laws.entities.Flags.{one_host}
-use Rattle.dangling_keys.specs.Flow.{IsFlow, IsLinkPart, IsOwnDependent, IsPartnerPart, end_part}
+use Rattle.dangling_keys.specs.Flow.{IsFlow, IsLinkPart}
 
 -- a property stands at its place, and so properties with one place are one
 at_place : (p : PropId) (props : List PropId) → Contains props p → At props (place_in p props) p

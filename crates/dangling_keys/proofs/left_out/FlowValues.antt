@@ -2,11 +2,10 @@
 use Rattle.std.proofs.Common.{◌≡◌, ◌≢◌, ◌⊎◌, ⊎_elim, inl, inr, ℕ, List, unwrap_or, slice_get, Contains, Option, Some, None, Bool, true, false, true≢false, not, if◌then◌else◌, refl, sym, ap, subst, ◌∙◌}
 use Rattle.std.specs.Option.{option_map_or}
 use Rattle.std.proofs.lemmas.Bool.{cond-true, cond_both}
-use Rattle.std.proofs.lemmas.Bool.Decides.{not_from_Decides}
 use Rattle.std.proofs.lemmas.Option.{same_Some}
 use Rattle.emc_base.proofs.Lists.{at_once}
 use Rattle.emc_base.proofs.Members.{contains_nil}
-use Rattle.round_trip.specs.Words.{SetId, AssocId, PropId, Value, Null, Kind, Prop, Assoc, End, At, key_props, props_of}
+use Rattle.round_trip.specs.Words.{SetId, AssocId, PropId, Value, Null, Kind, Prop, End, At, key_props, props_of}
 use Rattle.round_trip.specs.soundness.models.Inheritance.{IsKeyProp}
 use Rattle.round_trip.specs.soundness.mappings.Joined.{IsDependent, prop}
 use Rattle.condition_logic.specs.declared.atoms.Atom.{Atom}

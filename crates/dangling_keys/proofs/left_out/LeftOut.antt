@@ -1,8 +1,8 @@
 -- What is read of a state is what is forced: an entity whose key is given in symbols stands exactly where just this key is forced.
-use Rattle.std.proofs.Common.{◌≡◌, ◌≢◌, ◌⊎◌, ◌↔◌, ⊎_elim, inl, inr, ℕ, ◌+◌, ◌*◌, ◌<◌, ◌≤◌, List, map, Contains, Option, Some, None, refl, sym, ap, subst, ◌∙◌, arith}
+use Rattle.std.proofs.Common.{◌≡◌, ◌≢◌, ◌⊎◌, ⊎_elim, inl, inr, ℕ, ◌+◌, ◌*◌, ◌≤◌, List, map, Contains, Option, Some, None, refl, sym, ap, subst, ◌∙◌, arith}
 use Rattle.std.proofs.lemmas.List.Elements.{All-contains}
 use Rattle.emc_base.specs.declared.value.Kind.TheVariants as kind
-use Rattle.round_trip.specs.Words.{SetId, AssocId, PropId, Value, Null, Kind, Assoc, Entity, EntityModel, EntitySet, At, IsA, IsIndependent, IsLegal, State, entities_in, key_of, key_props, props_of, value_beside, value_of}
+use Rattle.round_trip.specs.Words.{SetId, AssocId, PropId, Value, Null, Kind, Assoc, Entity, EntityModel, EntitySet, At, IsIndependent, IsLegal, State, entities_in, key_of, key_props, value_beside, value_of}
 use Rattle.round_trip.specs.legality.Legal.{HasFittingType}
 use Rattle.round_trip.specs.soundness.Lookups.{set_key}
 use Rattle.round_trip.specs.soundness.models.Inheritance.{IsKeyProp}
@@ -31,13 +31,12 @@ use Rattle.region_states.specs.HoldsFocus.{HoldsFocus}
 use Rattle.region_states.proofs.Entities.{has_value}
 use Rattle.region_states.proofs.Held.{focus_held}
 use Rattle.population.specs.Given.{HasNumbers}
-use Rattle.population.specs.LinkStates.{HoldsLink, link_state, plain_link}
-use Rattle.population.specs.Numbered.{number_count, numbered_key}
+use Rattle.population.specs.LinkStates.{HoldsLink, plain_link}
 use Rattle.population.proofs.plain.Numbered.{set_key_is, some_part}
 use Rattle.population.proofs.supporting.LinkStates.{link_holds}
 use Rattle.host_states.proofs.Hosts.{states_host}
 use Rattle.host_states.proofs.focus.Focus.{HasRegion}
-use Rattle.forced_entities.specs.Forced.{IsForced, own_member, part_in}
+use Rattle.forced_entities.specs.Forced.{part_in}
 use Rattle.forced_entities.specs.Held.{HasNoNull, HoldsForced, values_at}
 use Rattle.forced_entities.specs.declared.member.Forced.{Forced}
 use Rattle.forced_entities.proofs.Holds.{entity_forces, link_forces, own_stands}
@@ -115,22 +114,27 @@ module _ (basis : Basis) (is : IsBasis basis) (limits : IsWithinLimits basis.sch
       legal = legal;
       read = told;
       exact = λ u part flows. (
-          λ stands.
-          (let set = set_of_entity basis state legal u stands.0 stands.1 in
-          ⊎_elim
-          (λ (numbered : IsNumberKey basis outer u (key_of model stands.0)).
-          let first = some_part model is.sound.model u set.0 set.1 in
-          let at : PropId → Value = λ q. fresh_at model outer q (added_value numbered.number) in
-          let added : value_of model stands.0 first.0 ≡ at first.0 = sym (shows u set.0 set.1 stands.0 stands.1 first.0 first.1) ∙ ap (value_beside first.0 (set_key model u)) numbered.is
-          ∙ beside_map at (set_key model u) first.0 first.1 in
-          absurd (not_added u set.0 set.1 stands.0 stands.1 first.0 first.1 (part first.0) (flows first.0 first.1).0 numbered.number (flows first.0 first.1).1 (stands.2 first.0 first.1) added))
-          (λ (read : IsRead basis outer of values (IsMember basis of not_null) u (key_of model stands.0)).
-          (read.one, read.is_one, read.of_set, λ p among.
-          the_part u set.0 set.1 stands.0 stands.1 read.one p among (part p) (flows p among).0 (flows p among).1 (stands.2 p among) (part_in basis read.one p) (read.reads p among)))
-          (told u stands.0 stands.1)),
-          λ one.
-          (let held = holds one.0 one.1 in
-          (held.entity, subst (λ (v : SetId). Contains (entities_in state v) held.entity) one.2 held.stands, λ p among. held.parts p (part p) (flows p among).0 (flows p among).1 (one.3 p among))));
+        λ stands.
+            (let set = set_of_entity basis state legal u stands.0 stands.1 in
+            ⊎_elim
+            (λ (numbered : IsNumberKey basis outer u (key_of model stands.0)).
+            let first = some_part model is.sound.model u set.0 set.1 in
+            let at : PropId → Value = λ q. fresh_at model outer q (added_value numbered.number) in
+            let added : value_of model stands.0 first.0 ≡ at first.0 = sym (shows u set.0 set.1 stands.0 stands.1 first.0 first.1) ∙ ap (value_beside first.0 (set_key model u)) numbered.is
+            ∙ beside_map at (set_key model u) first.0 first.1 in
+            absurd (not_added u set.0 set.1 stands.0 stands.1 first.0 first.1 (part first.0) (flows first.0 first.1).0 numbered.number (flows first.0 first.1).1 (stands.2 first.0 first.1) added))
+            (λ (read : IsRead basis outer of values (IsMember basis of not_null) u (key_of model stands.0)). (
+              read.one,
+              read.is_one,
+              read.of_set,
+              λ p among.
+                  the_part u set.0 set.1 stands.0 stands.1 read.one p among (part p) (flows p among).0 (flows p among).1 (stands.2 p among) (part_in basis read.one p) (read.reads p among),
+            ))
+            (told u stands.0 stands.1)),
+        λ one.
+            (let held = holds one.0 one.1 in
+            (held.entity, subst (λ (v : SetId). Contains (entities_in state v) held.entity) one.2 held.stands, λ p among. held.parts p (part p) (flows p among).0 (flows p among).1 (one.3 p among))),
+      );
     }
 
 -- the state with an entity of a region

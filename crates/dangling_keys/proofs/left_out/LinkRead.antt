@@ -1,5 +1,5 @@
 -- Each entity of the state with a link is one of a number, or its key is told by what the link forces.
-use Rattle.std.proofs.Common.{◌≡◌, ◌≢◌, ◌⊎◌, ⊎_elim, ℕ, ◌+◌, ◌≤◌, List, [], ◌∷◌, map, flat_map, AllPairs, Contains, Bool, true, false, Option, Some, None, slice_get, refl, sym, ap, subst, ◌∙◌, arith}
+use Rattle.std.proofs.Common.{◌≡◌, ◌≢◌, ◌⊎◌, ⊎_elim, ℕ, ◌+◌, ◌≤◌, List, [], ◌∷◌, map, flat_map, AllPairs, Contains, Bool, true, false, Option, Some, refl, sym, ap, subst, ◌∙◌, arith}
 use Rattle.std.specs.Option.{option_map_or}
 use Rattle.emc_base.proofs.Joined.{in_flat_map}
 use Rattle.emc_base.proofs.Lists.{at_once}
@@ -25,13 +25,10 @@ use Rattle.regions.specs.region_laws.IsBasis.{IsBasis}
 use Rattle.regions.specs.region_laws.pattern.Allowed.{end_at}
 use Rattle.population.specs.Given.{HasNumbers}
 use Rattle.population.specs.LinkStates.{PlainEnd, at_end, at_first, at_second, entity_at, key_at, key_from, link_state, of_assoc, placed_at, plain_link}
-use Rattle.population.specs.Numbered.{end_of}
 use Rattle.population.specs.Principals.{principals}
 use Rattle.population.specs.Support.{IsTaken, support}
-use Rattle.population.specs.Supported.{given_in}
 use Rattle.population.specs.declared.placed.Placed.{Placed}
 use Rattle.population.specs.declared.placed.PlacedKey.{PlacedKey}
-use Rattle.population.specs.declared.placed.PlacedLink.{PlacedLink}
 use Rattle.population.proofs.plain.Numbered.{sound_end}
 use Rattle.population.proofs.plain.Pairs.{pairs_two}
 use Rattle.population.proofs.principals.Asked.{asked_of}
@@ -44,7 +41,7 @@ use Rattle.failure_laws.specs.Witnesses.{empty_state}
 use Rattle.dangling_keys.specs.Flow.{IsFlow, IsLinkPart, end_part}
 use Rattle.dangling_keys.specs.FlowStates.{flow_state, values_of_focus}
 use Rattle.dangling_keys.specs.LeftOut.{IsMember, IsNumberKey, IsRead, ReadsPart}
-use Rattle.dangling_keys.proofs.left_out.Reading.{ReadForced, as_member, beyond_zero, stands_read}
+use Rattle.dangling_keys.proofs.left_out.Reading.{as_member, beyond_zero, stands_read}
 use Rattle.dangling_keys.proofs.left_out.Serving.{plain_leads}
 
 module _ (basis : Basis) (is : IsBasis basis) (outer : ℕ) (has : HasNumbers basis.schema.model outer) (a : AssocId) (assoc : Assoc) (here : At basis.schema.model.assocs a.index assoc) (not_null : List PropId) where

@@ -1,12 +1,11 @@
 -- Where the keys of given entities, and the wanted keys, are told by the focus and what this forces, so are those of all entities that they support.
-use Rattle.std.proofs.Common.{◌≡◌, ◌≢◌, ◌⊎◌, ⊎_elim, inl, inr, ℕ, ◌<◌, List, Contains, refl, sym, ap, subst, ◌∙◌, arith}
+use Rattle.std.proofs.Common.{◌≢◌, ◌⊎◌, inl, inr, ℕ, List, Contains, sym, subst, arith}
 use Rattle.edm_types.specs.IsA.{same as itself}
 use Rattle.round_trip.specs.Words.{SetId, PropId, Value, Entity, EntityModel, EntitySet, At, key_of}
 use Rattle.population.specs.Given.{AreGiven, AreKeys, HasNumbers}
-use Rattle.population.specs.Numbered.{number_count, numbered, numbered_key}
-use Rattle.population.specs.Plain.{plain}
-use Rattle.population.specs.Support.{IsTaken, steps, support}
-use Rattle.population.specs.Supported.{given_in, keys_in, stands_in}
+use Rattle.population.specs.Numbered.{numbered_key}
+use Rattle.population.specs.Support.{IsTaken, support}
+use Rattle.population.specs.Supported.{given_in, stands_in}
 use Rattle.population.specs.declared.placed.Placed.{Placed}
 use Rattle.population.specs.declared.placed.PlacedKey.{PlacedKey}
 use Rattle.population.proofs.plain.Numbered.{asked_concrete, numbered_has}
@@ -17,7 +16,6 @@ use Rattle.regions.specs.Basis.{Basis}
 use Rattle.regions.specs.Patterns.{Valuation}
 use Rattle.regions.specs.declared.pattern.Focus.{Focus}
 use Rattle.forced_entities.specs.Forced.{IsForced}
-use Rattle.forced_entities.specs.declared.member.Forced.{Forced}
 use Rattle.dangling_keys.specs.LeftOut.{IsMember, IsNumberKey, IsRead}
 use Rattle.dangling_keys.proofs.left_out.Serving.{plain_leads}
 

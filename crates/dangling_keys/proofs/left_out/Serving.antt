@@ -11,7 +11,7 @@ use Rattle.round_trip.specs.soundness.Lookups.{HasConcrete, IsElement, IsNeeded,
 use Rattle.round_trip.specs.soundness.models.Constraints.{DependsByKey, HasMatchedLists, IsSoundConstraint}
 use Rattle.round_trip.specs.soundness.models.Inheritance.{IsKeyProp}
 use Rattle.round_trip.specs.soundness.mappings.Joined.{IsDependent}
-use Rattle.schema_laws.specs.short_values.Fresh.{added_value, fresh, fresh_at}
+use Rattle.schema_laws.specs.short_values.Fresh.{added_value, fresh}
 use Rattle.schema_laws.specs.short_values.Numbers.{number}
 use Rattle.schema_laws.specs.short_values.Places.{is_among, is_dependent}
 use Rattle.schema_laws.proofs.short_values.Places.{Decides-among}

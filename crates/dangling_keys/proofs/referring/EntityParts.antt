@@ -1,11 +1,11 @@
 -- The values that an entity's row shows in the columns of a foreign key: parts of keys, or values that the chosen row of numbers doesn't have.
-use Rattle.std.proofs.Common.{◌≡◌, ◌≢◌, ◌⊎◌, ⊎_elim, inl, inr, ℕ, ◌≤◌, List, [], map, length, slice_get, Contains, Bool, true, false, Option, Some, None, refl, sym, ap, subst, ◌∙◌, arith}
+use Rattle.std.proofs.Common.{◌≡◌, ◌≢◌, ◌⊎◌, ⊎_elim, inl, inr, ℕ, ◌≤◌, List, [], length, Contains, Bool, true, Option, Some, None, refl, sym, ap, subst, ◌∙◌, arith}
 use Rattle.std.specs.Option.{option_map_or}
 use Rattle.std.proofs.lemmas.List.{length-map}
 use Rattle.emc_base.proofs.FoundItems.{contains_flat_map}
 use Rattle.emc_base.proofs.Mapped.{contains_map}
 use Rattle.emc_base.proofs.Members.{contains_head}
-use Rattle.round_trip.specs.Words.{ColId, Entity, ForeignKey, Kind, Null, Pair, Prop, PropId, SetId, State, Value, At, entities_in, key_columns, key_of, value_beside, value_of}
+use Rattle.round_trip.specs.Words.{ColId, Entity, ForeignKey, Kind, Null, Pair, Prop, PropId, SetId, Value, entities_in, key_columns, key_of, value_beside}
 use Rattle.round_trip.specs.soundness.Lookups.{set_key}
 use Rattle.round_trip.specs.soundness.mappings.Joined.{prop}
 use Rattle.schema_laws.specs.short_values.Fresh.{fresh}
@@ -13,9 +13,9 @@ use Rattle.schema_laws.specs.state_demand.WellWritten.{cols_of}
 use Rattle.schema_laws.proofs.sound_types.Inherited.{declared_above}
 use Rattle.cells.specs.Limits.{IsWithinLimits}
 use Rattle.regions.specs.Basis.{Basis}
-use Rattle.regions.specs.Patterns.{Valuation, pattern_of, value_under}
+use Rattle.regions.specs.Patterns.{Valuation, value_under}
 use Rattle.regions.specs.Regions.{regions_of}
-use Rattle.regions.specs.Settled.{Settled, free, known, multi, possible}
+use Rattle.regions.specs.Settled.{Settled, free, known}
 use Rattle.regions.specs.declared.pattern.Focus.{Focus}
 use Rattle.regions.specs.declared.pattern.Focus.TheVariants as focus
 use Rattle.regions.specs.declared.pattern.Symbol.{Symbol}
@@ -23,18 +23,16 @@ use Rattle.regions.specs.declared.pattern.Symbol.TheVariants as symbol
 use Rattle.regions.specs.declared.region.Region.{Region}
 use Rattle.regions.specs.region_laws.Held.{LinkedEntity}
 use Rattle.regions.specs.region_laws.IsBasis.{IsBasis}
-use Rattle.regions.specs.region_laws.pattern.Allowed.{told_of}
 use Rattle.region_states.specs.defaults.Candidates.{first_free}
-use Rattle.region_states.specs.focus.Held.{HasRow}
 use Rattle.region_states.proofs.Entities.{has_value}
 use Rattle.forced_entities.specs.Forced.{part_in}
 use Rattle.forced_entities.specs.declared.member.Forced.{Forced}
 use Rattle.forced_entities.specs.Held.{values_at}
 use Rattle.dangling_keys.specs.Flow.{IsFlow}
-use Rattle.dangling_keys.specs.FlowStates.{AreOpen, flow_state}
+use Rattle.dangling_keys.specs.FlowStates.{AreOpen}
 use Rattle.dangling_keys.specs.LeftOut.{IsMember, IsNumberKey, IsRead, ReadsPart}
 use Rattle.dangling_keys.specs.Outer.{IsOuter, outer_row, outer_value, outer_values}
-use Rattle.dangling_keys.specs.Showing.{MayRefer, cell_at, col_beside, not_null_for, nullable_by, nullable_in, shown_at}
+use Rattle.dangling_keys.specs.Showing.{MayRefer, cell_at, not_null_for, nullable_in, shown_at}
 use Rattle.dangling_keys.proofs.left_out.EntityRead.{entity_read}
 use Rattle.dangling_keys.proofs.referring.Fitting.{IsPartOrOuter}
 use Rattle.dangling_keys.proofs.left_out.FlowValues.{flow_value, free_some, several_value}

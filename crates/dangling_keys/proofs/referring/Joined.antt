@@ -1,7 +1,7 @@
 -- Links of an association with a table of its own, in supported states: they are the given ones.
-use Rattle.std.proofs.Common.{◌≡◌, ◌≢◌, ⊎_elim, inl, inr, ℕ, List, ◌++◌, Contains, Bool, true, false, not, if◌then◌else◌, refl, sym, ap, subst, ◌∙◌}
+use Rattle.std.proofs.Common.{◌≡◌, ◌≢◌, ⊎_elim, inl, inr, ℕ, List, ◌++◌, Contains, Bool, true, false, refl, subst, ◌∙◌}
 use Rattle.std.proofs.lemmas.List.Elements.{Contains-append_cases}
-use Rattle.round_trip.specs.Words.{Assoc, AssocId, EntityModel, Link, LinkFragment, SetId, TableId, At, IsIndependent, links_in}
+use Rattle.round_trip.specs.Words.{Assoc, EntityModel, Link, LinkFragment, SetId, TableId, IsIndependent, links_in}
 use Rattle.edm_types.specs.declared.model.Mult.TheVariants.{One}
 use Rattle.round_trip.specs.FailsAt.{IsHostedAt}
 use Rattle.round_trip.specs.soundness.mappings.Owners.{LinkMaps}
@@ -13,13 +13,12 @@ use Rattle.regions.specs.Basis.{Basis, Host}
 use Rattle.regions.specs.region_laws.IsBasis.{IsBasis, IsHostOf}
 use Rattle.regions.proofs.region_laws.pattern.symbols.Hosting.{one_link}
 use Rattle.regions.proofs.region_laws.pattern.symbols.Origins.{side}
-use Rattle.population.specs.Numbered.{end_of}
 use Rattle.population.specs.Supported.{added_at, links_of, supported}
 use Rattle.population.specs.declared.placed.Placed.{Placed}
 use Rattle.population.specs.declared.placed.PlacedKey.{PlacedKey}
 use Rattle.population.specs.declared.placed.PlacedLink.{PlacedLink}
 use Rattle.population.proofs.supporting.Entities.{links_are}
-use Rattle.population.proofs.supporting.Links.{IsAdded, is_added, linked_is}
+use Rattle.population.proofs.supporting.Links.{is_added, linked_is}
 use Rattle.host_states.proofs.pairs.Alike.{joined_no_one}
 
 module _ (basis : Basis) (is : IsBasis basis) (t : TableId) (fragment : LinkFragment) (assoc : Assoc) (joined : IsJoinedTo basis.schema t fragment assoc) where

@@ -1,8 +1,8 @@
 -- The parts of keys in a state whose entities are told by what is forced are numbered; and an association is hosted at one of its ends.
-use Rattle.std.proofs.Common.{◌≡◌, ◌≢◌, ◌⊎◌, ⊎_elim, inl, inr, ℕ, ◌<◌, ◌≤◌, List, [], map, Contains, Bool, true, false, Option, Some, None, refl, sym, ap, subst, ◌∙◌, arith}
+use Rattle.std.proofs.Common.{◌≡◌, ◌≢◌, ◌⊎◌, inl, inr, ℕ, ◌<◌, ◌≤◌, List, map, Contains, Bool, true, false, Option, Some, None, refl, sym, ap, subst, ◌∙◌, arith}
 use Rattle.std.proofs.lemmas.List.Elements.{All-contains}
 use Rattle.emc_base.proofs.Members.{in_map}
-use Rattle.round_trip.specs.Words.{Assoc, AssocId, ColId, Entity, EntityModel, EntitySet, IsLegal, Kind, LinkFragment, Null, Pair, PropId, SetId, State, Table, TableId, Value, At, entities_in, key_columns, key_of, key_props, value_beside, value_of}
+use Rattle.round_trip.specs.Words.{Assoc, AssocId, ColId, Entity, EntityModel, EntitySet, IsLegal, Kind, LinkFragment, Null, Pair, PropId, SetId, State, TableId, Value, At, entities_in, key_columns, key_of, key_props, value_beside, value_of}
 use Rattle.round_trip.specs.FailsAt.{IsHostedAt}
 use Rattle.round_trip.specs.soundness.Lookups.{set_key}
 use Rattle.round_trip.specs.soundness.models.Inheritance.{IsKeyProp}
@@ -24,10 +24,8 @@ use Rattle.regions.proofs.region_laws.entities.Held.{set_of_entity}
 use Rattle.regions.proofs.region_laws.pattern.symbols.Hosting.{one_link, side_alike}
 use Rattle.regions.proofs.region_laws.pattern.symbols.Origins.{side}
 use Rattle.population.specs.Given.{HasNumbers}
-use Rattle.population.specs.Numbered.{numbered_key}
 use Rattle.population.proofs.plain.Numbered.{number_small, set_key_is, some_part}
 use Rattle.forced_entities.specs.Forced.{part_in}
-use Rattle.forced_entities.specs.declared.member.Forced.{Forced}
 use Rattle.dangling_keys.specs.Flow.{IsFlow}
 use Rattle.dangling_keys.specs.LeftOut.{IsMember, IsNumberKey, IsRead, ReadsPart}
 use Rattle.dangling_keys.proofs.left_out.Flow.{flow_small}

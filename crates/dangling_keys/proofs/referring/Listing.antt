@@ -1,14 +1,11 @@
 -- Which symbols the cells list from which a foreign key points: parts of keys, and properties that are no dependent ones.
-use Rattle.std.proofs.Common.{◌≡◌, ◌≢◌, ◌⊎◌, ⊎_elim, inl, inr, ℕ, ◌<◌, ◌≤◌, ◌==◌, List, [], ◌∷◌, map, length, Contains, Bool, true, false, not, IsTrue, refl, sym, ap, subst, ◌∙◌, arith}
-use Rattle.std.proofs.lemmas.List.{length-map}
+use Rattle.std.proofs.Common.{◌≡◌, ◌⊎◌, ⊎_elim, inl, inr, ℕ, ◌<◌, ◌≤◌, ◌==◌, List, [], ◌∷◌, length, Contains, Bool, true, refl, sym, ap, subst, ◌∙◌, arith}
 use Rattle.std.proofs.lemmas.List.Elements.{All-contains}
 use Rattle.emc_base.proofs.Joined.{in_flat_map}
 use Rattle.emc_base.proofs.Lists.{item_at}
 use Rattle.emc_base.proofs.Mapped.{contains_at}
 use Rattle.emc_base.proofs.Members.{contains_head}
-use Rattle.round_trip.specs.Words.{AssocId, Assoc, ColId, Column, ForeignKey, Null, Pair, PropId, SetId, Table, TableId, At, key_columns, key_props, props_of}
-use Rattle.round_trip.specs.FailsAt.{HasColumn}
-use Rattle.round_trip.specs.soundness.Lookups.{columns_of}
+use Rattle.round_trip.specs.Words.{AssocId, Assoc, ColId, Column, ForeignKey, Null, PropId, SetId, Table, TableId, At, key_columns, key_props, props_of}
 use Rattle.round_trip.specs.soundness.Stores.{HasForeignIds, IsColId, IsSoundForeignKey, IsSoundTable}
 use Rattle.round_trip.specs.soundness.mappings.Joined.{IsDependent}
 use Rattle.round_trip.proofs.Lookups.{key_columns_at}
@@ -16,13 +13,12 @@ use Rattle.schema_laws.specs.short_values.Fresh.{dependent_value, focus_key, par
 use Rattle.schema_laws.specs.short_values.Places.{is_among, is_dependent, place_in}
 use Rattle.schema_laws.proofs.short_values.Places.{Decides-among, Decides-dependent}
 use Rattle.schema_laws.proofs.sound_demand.Fitting.{columns_are}
-use Rattle.schema_laws.proofs.state_demand.lists.Ids.{Decides-prop}
 use Rattle.schema_laws.proofs.state_demand.writings.Decisions.{so_or_not}
 use Rattle.population.proofs.supporting.Least.{no_more}
 use Rattle.regions.specs.Basis.{Basis}
 use Rattle.regions.specs.Patterns.{cell_symbols, pattern_of, writings_of}
 use Rattle.regions.specs.Regions.{regions_of}
-use Rattle.regions.specs.Settled.{Possible, Settled, free, known, multi, possible, settle, settled_by, single}
+use Rattle.regions.specs.Settled.{Possible, free, known, multi, possible, settle, settled_by, single}
 use Rattle.regions.specs.declared.pattern.Focus.{Focus}
 use Rattle.regions.specs.declared.pattern.Focus.TheVariants as focus
 use Rattle.regions.specs.declared.pattern.Symbol.{Symbol}
@@ -33,9 +29,7 @@ use Rattle.regions.specs.region_laws.pattern.Allowed.{end_at, told_of}
 use Rattle.regions.specs.region_laws.pattern.Listed.{HasCell, Lists}
 use Rattle.regions.proofs.region_laws.pattern.Laws.{listed_from}
 use Rattle.regions.proofs.region_laws.pattern.symbols.Hosting.{assoc_here, end_prop, the_assoc}
-use Rattle.regions.proofs.region_laws.pattern.symbols.Origins.{From, IsPartner}
 use Rattle.regions.proofs.region_laws.pattern.symbols.Standing.{IsEndOf, end_of, link_no_prop, listed_prop}
-use Rattle.region_states.specs.conflicts.Facts.{listed_in}
 use Rattle.region_states.specs.focus.Held.{HasRow}
 use Rattle.conflict_laws.proofs.clash.Listed.{cell_is}
 use Rattle.conflict_laws.proofs.null.Listed.{cell_there}

@@ -1,7 +1,7 @@
 -- Where an entity has the key that is shown, and its region has no row of the table, the row that refers finds none.
-use Rattle.std.proofs.Common.{◌≡◌, inl, inr, List, Contains, Bool, Option, Some, refl, sym, ap, subst, ◌∙◌}
+use Rattle.std.proofs.Common.{◌≡◌, inl, inr, List, Contains, Bool, Some, sym, subst, ◌∙◌}
 use Rattle.std.proofs.lemmas.List.Elements.{All-contains}
-use Rattle.round_trip.specs.Words.{Assoc, DemandsRow, Entity, ForeignKey, Link, LinkFragment, Pair, PropId, Row, SetId, State, TableId, Value, cells_of, entities_in, rows_in, value_of}
+use Rattle.round_trip.specs.Words.{DemandsRow, Entity, ForeignKey, Pair, PropId, Row, SetId, State, Value, cells_of, rows_in, value_of}
 use Rattle.schema_laws.specs.state_demand.Owners.{IsOwned, paired_key}
 use Rattle.schema_laws.proofs.sound_demand.owners.OneOwner.{one_owner, owned_or_joined}
 use Rattle.schema_laws.proofs.state_demand.lists.Places.{map_agree}
@@ -11,7 +11,7 @@ use Rattle.regions.specs.Settled.{Settled, free}
 use Rattle.regions.specs.declared.pattern.Focus.{Focus}
 use Rattle.regions.specs.declared.pattern.Focus.TheVariants as focus
 use Rattle.regions.specs.declared.pattern.Symbol.{Symbol}
-use Rattle.regions.specs.region_laws.Held.{IsAtLinkRow, IsAtRow, LinkedEntity}
+use Rattle.regions.specs.region_laws.Held.{IsAtRow, LinkedEntity}
 use Rattle.regions.specs.region_laws.IsBasis.{IsBasis}
 use Rattle.regions.specs.region_laws.pattern.Allowed.{AllowedFocus}
 use Rattle.region_states.specs.focus.Held.{HasRow, IsRowOfOne}

@@ -1,11 +1,10 @@
 -- Of five rows of numbers one has none of four values.
-use Rattle.std.proofs.Common.{◌≡◌, ◌≢◌, ⊎_elim, if◌then◌else◌, ℕ, ◌+◌, ◌*◌, ◌%◌, ◌<◌, ◌≤◌, ◌==◌, List, [], ◌∷◌, map, length, chars, AllPairs, Contains, IsTrue, Bool, true, false, Decides, refl, sym, ap, subst, ◌∙◌, arith}
+use Rattle.std.proofs.Common.{◌≡◌, ⊎_elim, if◌then◌else◌, ℕ, ◌+◌, ◌*◌, ◌%◌, ◌<◌, ◌≤◌, ◌==◌, List, [], ◌∷◌, map, length, Contains, Bool, true, false, refl, sym, ap, subst, ◌∙◌, arith}
 use Rattle.std.proofs.Math.Arith.{digits_mod}
 use Rattle.std.proofs.lemmas.Bool.{cond_both}
 use Rattle.std.proofs.lemmas.Bool.Decides.{Decides-eqb, not_from_Decides}
 use Rattle.std.proofs.lemmas.List.{length-map}
 use Rattle.std.proofs.lemmas.Str.{chars-encodes}
-use Rattle.emc_base.specs.Lists.{AreApart}
 use Rattle.emc_base.proofs.FoundItems.{some_member}
 use Rattle.emc_base.proofs.Mapped.{contains_map}
 use Rattle.emc_base.proofs.Members.{contains_cons_cases, contains_nil}
@@ -16,7 +15,7 @@ use Rattle.schema_laws.specs.short_values.Numbers.{letter, number}
 use Rattle.schema_laws.proofs.short_values.Short.{one_scalar}
 use Rattle.schema_laws.proofs.state_demand.lists.Lists.{Decides-any, of_any}
 use Rattle.population.proofs.supporting.Least.{no_more}
-use Rattle.population.proofs.supporting.Entities.{numbers_apart, smaller}
+use Rattle.population.proofs.supporting.Entities.{numbers_apart}
 use Rattle.schema_laws.specs.short_values.Numbers.{numbers_from}
 use Rattle.dangling_keys.specs.Outer.{IsOuter, is_taken, row_beside, row_of, row_of_letters, row_of_number}
 

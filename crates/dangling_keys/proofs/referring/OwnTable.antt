@@ -1,14 +1,13 @@
 -- A foreign key of a joined association's table that points to the same table: a link's row doesn't refer to itself.
-use Rattle.std.proofs.Common.{◌≡◌, ◌≢◌, ◌⊎◌, ◌↔◌, ⊎_elim, inl, inr, ℕ, ◌<◌, ◌≤◌, List, [], ◌∷◌, map, length, Contains, Bool, false, Option, Some, None, ◌==◌, refl, sym, ap, subst, ◌∙◌, arith}
+use Rattle.std.proofs.Common.{◌≡◌, inl, inr, ℕ, ◌<◌, ◌≤◌, List, [], ◌∷◌, map, length, Contains, false, Some, None, ◌==◌, refl, sym, ap, subst, ◌∙◌, arith}
 use Rattle.std.proofs.lemmas.Bool.{cond_both}
 use Rattle.std.proofs.lemmas.List.Elements.{All-contains}
 use Rattle.std.proofs.lemmas.Option.{same_Some}
 use Rattle.emc_base.proofs.Lists.{item_at}
 use Rattle.emc_base.proofs.Members.{contains_head, contains_tail}
-use Rattle.round_trip.specs.Words.{Assoc, AssocId, ColId, Column, DemandsCell, ForeignKey, IsLegal, Kind, Link, LinkFragment, Null, Row, State, Table, TableId, Tables, TablesAre, Value, At, cell_of, cells_of, key_columns, links_in, row_key, rows_in}
-use Rattle.round_trip.specs.soundness.Lookups.{columns_of}
+use Rattle.round_trip.specs.Words.{Assoc, ColId, Column, ForeignKey, IsLegal, Kind, Link, LinkFragment, Row, State, Table, Value, At, cell_of, cells_of, key_columns, links_in, row_key, rows_in}
 use Rattle.round_trip.specs.soundness.Stores.{HasForeignIds, IsColId, IsSoundForeignKey}
-use Rattle.schema_laws.specs.short_values.Fresh.{fresh, most_indices}
+use Rattle.schema_laws.specs.short_values.Fresh.{fresh}
 use Rattle.schema_laws.specs.short_values.Numbers.{number}
 use Rattle.schema_laws.specs.state_demand.Owners.{IsJoinedTo}
 use Rattle.schema_laws.proofs.short_values.Short.{fresh_apart, number_same}
@@ -28,7 +27,7 @@ use Rattle.regions.specs.region_laws.pattern.Allowed.{AllowedFocus}
 use Rattle.regions.specs.region_laws.pattern.Listed.{HasCell, IsEndCell, Lists}
 use Rattle.regions.proofs.region_laws.pattern.Keys.{end_cell}
 use Rattle.regions.proofs.region_laws.pattern.Laws.{end_once}
-use Rattle.region_states.specs.focus.Held.{HasRow, ListsValue}
+use Rattle.region_states.specs.focus.Held.{HasRow}
 use Rattle.region_states.proofs.focus.Demanded.{link_cells}
 use Rattle.conflict_laws.proofs.clash.Listed.{cell_is}
 use Rattle.conflict_laws.proofs.null.Listed.{cell_there}

@@ -1,8 +1,7 @@
 -- The rows of an entity and of a link that refer, in the tables of a legal state.
-use Rattle.std.proofs.Common.{◌≡◌, ◌≢◌, ◌↔◌, List, Contains, refl, sym, ap, subst, ◌∙◌}
-use Rattle.round_trip.specs.Words.{Assoc, ColId, DemandsCell, DemandsRow, ForeignKey, IsLegal, Link, LinkFragment, Null, PropId, Row, State, Table, TableId, Tables, TablesAre, Value, At, links_in, row_key, rows_in, value_of, written_key}
+use Rattle.std.proofs.Common.{◌≡◌, ◌≢◌, ◌↔◌, List, Contains, refl, sym, subst}
+use Rattle.round_trip.specs.Words.{Assoc, ColId, DemandsCell, DemandsRow, ForeignKey, IsLegal, Link, LinkFragment, Null, PropId, Row, State, Tables, TablesAre, Value, links_in, row_key, rows_in, value_of, written_key}
 use Rattle.round_trip.specs.declared.FailKind.TheVariants as kind
-use Rattle.round_trip.specs.soundness.Stores.{HasForeignIds}
 use Rattle.schema_laws.specs.state_demand.Owners.{IsJoinedTo}
 use Rattle.schema_laws.specs.sound_demand.Made.{tables_for}
 use Rattle.schema_laws.specs.state_demand.Writings.{link_writing}
@@ -12,14 +11,14 @@ use Rattle.schema_laws.proofs.state_demand.tables.ReadBack.{rows_demanded}
 use Rattle.regions.specs.Basis.{Basis}
 use Rattle.regions.specs.Patterns.{by_entity, by_link, pattern_of}
 use Rattle.regions.specs.declared.pattern.Focus.TheVariants as focus
-use Rattle.regions.specs.region_laws.Held.{IsAtLinkRow, IsAtRow, LinkRow, LinkedEntity}
+use Rattle.regions.specs.region_laws.Held.{LinkRow, LinkedEntity}
 use Rattle.regions.specs.region_laws.IsBasis.{IsBasis}
 use Rattle.regions.specs.region_laws.pattern.Allowed.{AllowedFocus}
 use Rattle.region_states.specs.conflicts.There.{NoneFailsBy}
-use Rattle.region_states.specs.focus.Held.{HasRow, ListsValue}
+use Rattle.region_states.specs.focus.Held.{ListsValue}
 use Rattle.region_states.proofs.focus.Demanded.{cells, link_cells, link_rows}
 use Rattle.region_states.proofs.focus.Partners.{linked_allowed}
-use Rattle.conflict_laws.proofs.same.rows.Rows.{HasRowAt, row_of_pattern}
+use Rattle.conflict_laws.proofs.same.rows.Rows.{row_of_pattern}
 use Rattle.failure_laws.proofs.links.LinkRows.{told_link}
 use Rattle.dangling_keys.specs.Showing.{MayRefer, not_null_for}
 use Rattle.dangling_keys.proofs.referring.Listing.{link_none, the_table}

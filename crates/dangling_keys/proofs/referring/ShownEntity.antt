@@ -1,7 +1,7 @@
 -- The entity that has the key that is shown in the state of a focus: its parts are numbered, and what tells its key fits.
-use Rattle.std.proofs.Common.{◌≡◌, ◌≢◌, ◌⊎◌, ℕ, ◌<◌, ◌≤◌, List, Contains, sym, subst, ◌∙◌}
+use Rattle.std.proofs.Common.{◌≡◌, ◌≢◌, ◌⊎◌, ℕ, ◌<◌, ◌≤◌, List, Contains, sym, subst}
 use Rattle.std.proofs.lemmas.List.Elements.{All-contains}
-use Rattle.round_trip.specs.Words.{Entity, EntityModel, ForeignKey, IsLegal, Kind, Null, Pair, PropId, SetId, State, Value, entities_in, key_of, key_props, value_of}
+use Rattle.round_trip.specs.Words.{Entity, EntityModel, ForeignKey, IsLegal, Kind, Null, Pair, PropId, SetId, State, entities_in, key_of, key_props, value_of}
 use Rattle.round_trip.specs.soundness.Lookups.{set_key}
 use Rattle.schema_laws.specs.short_values.Fresh.{fresh, most_indices}
 use Rattle.cells.specs.Limits.{IsWithinLimits}

@@ -1,30 +1,24 @@
 -- The row of a focus that refers by a foreign key, and the row to which it would refer.
-use Rattle.std.proofs.Common.{◌≡◌, ◌≢◌, ◌⊎◌, ◌↔◌, inl, inr, List, [], map, Some, Any, Contains, IsTrue, Bool, true, false, refl, sym, ap, subst, ◌∙◌}
+use Rattle.std.proofs.Common.{◌≡◌, ◌≢◌, ◌↔◌, inl, inr, List, [], map, Some, Contains, IsTrue, Bool, true, false, refl, sym, ap, subst, ◌∙◌}
 use Rattle.std.proofs.lemmas.List.Elements.{All-contains}
-use Rattle.std.proofs.lemmas.Option.{same_Some}
 use Rattle.emc_base.proofs.Lists.{all_from_members, item_at}
-use Rattle.emc_base.proofs.Mapped.{contains_map}
 use Rattle.emc_base.proofs.FoundItems.{contains_flat_map}
 use Rattle.emc_base.proofs.Members.{contains_head, in_map}
-use Rattle.round_trip.specs.Words.{ColId, DemandsCell, DemandsRow, Entity, FailsAt, ForeignKey, Fragment, HasDemandedCells, IsLegal, IsWritten, LinkFragment, Null, Pair, PropId, Refers, Row, SetId, State, Table, TableId, Tables, TablesAre, Value, Writes, Writing, At, cell_of, cells_of, place_at, row_key, rows_in, value_of}
-use Rattle.round_trip.specs.FailsAt.{Dangles}
-use Rattle.round_trip.specs.declared.FailKind.TheVariants as kind
+use Rattle.round_trip.specs.Words.{ColId, DemandsCell, DemandsRow, Entity, ForeignKey, Fragment, HasDemandedCells, IsLegal, IsWritten, LinkFragment, Null, Pair, PropId, Refers, Row, SetId, State, Table, TableId, Tables, TablesAre, Value, Writes, Writing, At, cell_of, cells_of, place_at, row_key, rows_in, value_of}
 use Rattle.round_trip.specs.soundness.Stores.{HasForeignIds}
 use Rattle.round_trip.proofs.Lookups.{key_columns_at}
-use Rattle.schema_laws.specs.state_demand.Owners.{IsOwned, paired_key}
 use Rattle.schema_laws.specs.state_demand.WellWritten.{cols_of}
 use Rattle.schema_laws.proofs.state_demand.lists.Lists.{any_of, of_any}
 use Rattle.schema_laws.proofs.state_demand.tables.ReadBack.{cells_demanded, row_demanded}
 use Rattle.regions.specs.Basis.{Basis}
-use Rattle.regions.specs.Patterns.{Valuation, pattern_of, value_under}
+use Rattle.regions.specs.Patterns.{pattern_of, value_under}
 use Rattle.regions.specs.Settled.{Settled, free, known, multi, possible, single}
 use Rattle.regions.specs.declared.pattern.Symbol.{Symbol}
 use Rattle.regions.specs.declared.pattern.Symbol.TheVariants as symbol
 use Rattle.regions.specs.region_laws.IsBasis.{IsBasis}
-use Rattle.regions.specs.region_laws.Held.{IsAtLinkRow, IsAtRow}
+use Rattle.regions.specs.region_laws.Held.{IsAtRow}
 use Rattle.regions.specs.region_laws.pattern.Allowed.{AllowedFocus, told_of}
-use Rattle.regions.specs.region_laws.pattern.Listed.{Lists}
-use Rattle.region_states.specs.focus.Held.{HasRow, IsRowOfOne, ListsValue}
+use Rattle.region_states.specs.focus.Held.{IsRowOfOne, ListsValue}
 use Rattle.region_states.proofs.focus.Demanded.{row_of_one}
 use Rattle.dangling_keys.specs.Dangling.{OwnsTable}
 use Rattle.dangling_keys.specs.Failing.{FailsBy}

@@ -5,7 +5,7 @@ use Rattle.std.proofs.lemmas.Bool.Decides.{Decides-eqb, Decides-like, not_from_D
 use Rattle.std.proofs.lemmas.List.Elements.{All-contains}
 use Rattle.std.proofs.lemmas.Option.{same_Some}
 use Rattle.std.proofs.lemmas.List.{length-map}
-use Rattle.emc_base.specs.Lists.{AreApart, HoldsEachOnce}
+use Rattle.emc_base.specs.Lists.{AreApart}
 use Rattle.emc_base.proofs.Members.{apart_head, apart_tail, contains_cons_cases, contains_head, contains_nil, contains_tail}
 use Rattle.round_trip.specs.Words.{ColId, ForeignKey, Kind, Pair, Row, StoreModel, TableId, Value, cell_of, cells_of, key_columns}
 use Rattle.round_trip.specs.soundness.Kinds.{without_bound}

@@ -1,5 +1,5 @@
 -- The members are just the focus and what it forces, and whether one has the key that is shown is decided.
-use Rattle.std.proofs.Common.{◌≡◌, ◌⊎◌, ◌↔◌, ⊎_elim, inl, inr, ◌==◌, ◌&&◌, List, [], ◌∷◌, ◌++◌, All, Contains, Decides, Option, Some, None, true, false, refl, sym, ap, subst, ◌∙◌, arith}
+use Rattle.std.proofs.Common.{◌≡◌, ◌⊎◌, ◌↔◌, ⊎_elim, inl, inr, ◌==◌, List, [], ◌∷◌, Contains, Decides, Option, Some, None, true, false, sym, ap, subst, arith}
 use Rattle.std.specs.List.{list_all}
 use Rattle.std.proofs.lemmas.Bool.Decides.{Decides-and, Decides-like}
 use Rattle.std.proofs.lemmas.List.Elements.{Contains-append_cases, Contains-append_left, Contains-append_right}

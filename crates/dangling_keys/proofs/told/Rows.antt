@@ -1,18 +1,13 @@
 -- What the cells of a focus's row hold in a state's tables, and what the row shows for the columns to which a foreign key points.
-use Rattle.std.proofs.Common.{◌≡◌, ◌≢◌, ◌⊎◌, ◌↔◌, ⊎_elim, List, [], ◌∷◌, map, length, All, Contains, IsTrue, Option, Some, None, true, false, refl, sym, ap, subst, ◌∙◌, ◌<◌}
+use Rattle.std.proofs.Common.{◌≡◌, ◌≢◌, ◌↔◌, ⊎_elim, List, [], ◌∷◌, length, Contains, IsTrue, Option, Some, true, false, refl, sym, ap, subst, ◌∙◌, ◌<◌}
 use Rattle.std.specs.Option.{option_map_or}
 use Rattle.std.proofs.lemmas.List.Elements.{All-contains}
-use Rattle.emc_base.proofs.FoundItems.{contains_flat_map}
 use Rattle.emc_base.proofs.Joined.{in_flat_map}
 use Rattle.emc_base.proofs.Lists.{all_from_members, item_at}
 use Rattle.emc_base.proofs.Mapped.{contains_map}
 use Rattle.emc_base.proofs.Members.{contains_cons_cases, contains_head, contains_nil}
-use Rattle.round_trip.specs.Words.{ColId, Column, DemandsCell, ForeignKey, HasDemandedCells, Null, Pair, PropId, Refers, Row, Schema, State, Table, TableId, Value, At, cell_of, cells_of, key_columns, row_key}
-use Rattle.round_trip.specs.FailsAt.{HasColumn}
-use Rattle.round_trip.specs.soundness.Lookups.{columns_of}
+use Rattle.round_trip.specs.Words.{ColId, Column, DemandsCell, ForeignKey, HasDemandedCells, Null, Pair, PropId, Refers, Row, State, Table, TableId, Value, At, cell_of, cells_of, key_columns, row_key}
 use Rattle.round_trip.specs.soundness.Stores.{HasForeignIds, IsColId, IsSoundForeignKey}
-use Rattle.round_trip.specs.soundness.mappings.Mappings.{IsSoundSchema}
-use Rattle.schema_laws.specs.state_demand.Owners.{IsOwned, paired_key}
 use Rattle.schema_laws.specs.state_demand.WellWritten.{cols_of}
 use Rattle.schema_laws.proofs.sound_demand.Fitting.{columns_are}
 use Rattle.regions.specs.Basis.{Basis}
@@ -24,15 +19,12 @@ use Rattle.regions.specs.region_laws.IsBasis.{IsBasis}
 use Rattle.regions.specs.region_laws.pattern.Allowed.{AllowedFocus, CanBe, told_of}
 use Rattle.regions.specs.region_laws.pattern.Listed.{HasCell, Lists}
 use Rattle.regions.proofs.region_laws.pattern.Laws.{symbol_possible}
-use Rattle.region_states.specs.conflicts.Facts.{listed_in}
 use Rattle.region_states.specs.focus.Held.{HasRow, ListsValue}
 use Rattle.conflict_laws.proofs.clash.Listed.{cell_is}
 use Rattle.conflict_laws.proofs.null.Listed.{cell_there}
 use Rattle.conflict_laws.proofs.same.rows.Cells.{column_of, one_cell}
-use Rattle.forced_entities.specs.Forced.{part_in}
-use Rattle.forced_entities.specs.declared.member.Forced.{Forced}
-use Rattle.dangling_keys.specs.Showing.{Fits, IsShownPart, MayRefer, cell_at, col_beside, not_null_for, nullable_by, nullable_in, shown_at}
-use Rattle.dangling_keys.proofs.told.Matching.{HasBeside, alike_found, found_alike, from_there, pair_alike, pairs_alike}
+use Rattle.dangling_keys.specs.Showing.{IsShownPart, MayRefer, cell_at, col_beside, not_null_for, nullable_in, shown_at}
+use Rattle.dangling_keys.proofs.told.Matching.{HasBeside, from_there}
 
 -- what a cell holds, where this is known of it
 abbrev pub HoldsSettled : Valuation → Settled → Value → Type 0

@@ -1,8 +1,7 @@
 -- A row that refers and finds none, in a legal state: a foreign key dangles at the focus whose row it is.
-use Rattle.std.proofs.Common.{◌≡◌, ◌⊎◌, ◌↔◌, ⊎_elim, inl, inr, List, map, Any, Contains, Option, Some, None, refl, sym, ap, subst, ◌∙◌, arith}
+use Rattle.std.proofs.Common.{◌≡◌, ◌⊎◌, ◌↔◌, ⊎_elim, inl, inr, List, map, Any, Contains, Option, Some, None, refl, sym, ap, subst, ◌∙◌}
 use Rattle.std.proofs.lemmas.List.Elements.{All-contains}
 use Rattle.std.proofs.lemmas.Option.{same_Some}
-use Rattle.emc_base.proofs.FoundItems.{some_member}
 use Rattle.emc_base.proofs.Members.{in_map}
 use Rattle.round_trip.specs.Words.{Assoc, ColId, DemandsCell, DemandsRow, Entity, FailsAt, ForeignKey, Fragment, IsA, IsLegal, IsWritten, Link, LinkFragment, Pair, Place, PropId, Row, Schema, SetId, State, TableId, TablesAre, TypeId, Value, cell_of, cells_of, entities_in, key_of, key_props, row_key, rows_in, value_of}
 use Rattle.round_trip.specs.FailsAt.{Dangles}
