@@ -6,3 +6,4 @@ pub mod OtherState
 pub mod OtherEntity
 pub mod OtherLink
 pub mod Whole
+pub mod RoundTrip

@@ -7,3 +7,4 @@ pub mod LeftOut
 pub mod Outer
 pub mod Failing
 pub mod OtherStates
+pub mod NoConflicts

@@ -1,5 +1,5 @@
 ghost use Rattle.std.specs.Prelude.{◌≡◌, ◌↔◌, ◌≤◌, ℕ, Contains, List, Option};
-ghost use Rattle.round_trip.specs.Words.{AssocId, Assoc, At, FailsAt, ForeignKey, IsIndependent, Place, PropId, SetId, State};
+ghost use Rattle.round_trip.specs.Words.{AssocId, Assoc, At, FailsAt, ForeignKey, IsIndependent, Place, PropId, RoundTrips, SetId, State};
 ghost use Rattle.round_trip.specs.declared.FailKind.TheVariants as kind;
 ghost use Rattle.cells.specs.Limits.{IsWithinLimits};
 ghost use Rattle.regions.specs.Basis.{Basis};
@@ -17,6 +17,7 @@ ghost use Rattle.dangling_keys.specs.Dangling.{DanglesAt, IsDangling};
 ghost use Rattle.dangling_keys.specs.Failing.{FailsBy};
 ghost use Rattle.dangling_keys.specs.FlowStates.{AreOpen, flow_state, values_of_focus};
 ghost use Rattle.dangling_keys.specs.LeftOut.{LeavesOut};
+ghost use Rattle.dangling_keys.specs.NoConflicts.{HasNoConflicts};
 ghost use Rattle.dangling_keys.specs.declared.key.DanglingKey.{DanglingKey};
 
 /// The law that dangling keys are decided: where no legal state clashes, some legal state has a row that refers by a foreign key and finds none, exactly where
@@ -29,6 +30,12 @@ pub fn dangling_keys_are_decided()
         → (fails : FailsAt basis.schema kind.Dangling place c d) → (told : DanglingKey) × (by : IsDangling basis told) × (by.key ≡ fails.fails.key) }
     ensures fails { (basis : Basis) → IsBasis basis → IsWithinLimits basis.schema → NoneFailsBy basis.schema kind.Clash → (told : DanglingKey) (dangling : IsDangling basis told)
         → FailsBy basis dangling.key }
+{}
+
+/// The law that `None` of every kind is the round trip: no legal state fails exactly where there is no conflict at any set or at the links of any
+/// association, and no key dangles. There is no condition on the constraints of the model or on the foreign keys of the store.
+pub fn a_mapping_round_trips_by_its_conflicts()
+    ensures { (basis : Basis) → IsBasis basis → IsWithinLimits basis.schema → HasNoConflicts basis ↔ RoundTrips basis.schema }
 {}
 
 /// The law that what isn't forced can be left out: of each focus there is a legal state that holds it, by any of five rows of numbers, in which none of some

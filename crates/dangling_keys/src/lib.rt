@@ -5,4 +5,7 @@ mod key;
 mod laws;
 
 pub use key::DanglingKey;
-pub use laws::{dangling_keys_are_decided, what_is_not_forced_is_left_out};
+pub use laws::{
+    a_mapping_round_trips_by_its_conflicts, dangling_keys_are_decided,
+    what_is_not_forced_is_left_out,
+};
