@@ -36,7 +36,7 @@ module _ (basis : Basis) where
   abbrev pub IsThere : Focus → ForeignKey → Forced → Type 0
   IsThere of key one = IsOwn of one ⊎ IsForced basis of (not_null_for basis of key) one
 
-  -- no such entity has the key that is shown; so it is where no set owns the table
+  -- no such entity has the key that is shown. This holds, too, where no set owns the table.
   abbrev pub NoneFits : Focus → ForeignKey → Type 0
   NoneFits of key = (u : SetId) (pairing : List Pair) → OwnsTable key.to u pairing → (one : Forced) → IsThere of key one → ¬ Fits basis of key u pairing one
 

@@ -1,4 +1,4 @@
--- The states that hold a focus, none of whose given properties is null, and what supports it: by a row of numbers.
+-- States that hold a focus of which given properties aren't null, with what supports it; their keys come from a row of numbers.
 -- Source: this project's choice of the states that it shows.
 use Rattle.std.specs.Prelude.{◌≡◌, ℕ, List, slice_get, Contains, Option, None, Some, true, if◌then◌else◌}
 use Rattle.std.specs.Option.{option_map_or}

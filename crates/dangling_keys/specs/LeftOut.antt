@@ -1,4 +1,4 @@
--- Which entities of a state are told by what is forced: each, but for those of numbers.
+-- Each entity of a state has the key of a number, or a key that is read off the focus or a forced entity.
 -- Source: this project's choice of the states that it shows; CSDL version 3, ReferentialConstraint.
 use Rattle.std.specs.Prelude.{◌≡◌, ◌⊎◌, ◌↔◌, ◌<◌, ℕ, List, Contains, Option, None, Some}
 use Rattle.round_trip.specs.Words.{SetId, PropId, Value, Kind, Entity, IsLegal, State, entities_in, key_of, value_beside, value_of}
@@ -26,7 +26,7 @@ module _ (basis : Basis) where
   IsMember of not_null one = IsOwn basis of one ⊎ IsForced basis of not_null one
 
 module _ (basis : Basis) (outer : ℕ) (of : Focus) (values : Valuation) where
-  -- a part of a key that is known is the symbol's value, which is numbered; one that is unknown is that of the first entity that is added
+  -- a part of a key that is known is the symbol's value, which is numbered; one that is unknown is that of number zero
   abbrev pub ReadsPart : Option Symbol → PropId → Value → Type 0
   ReadsPart (Some one) p value = (i : ℕ) × IsFlow basis of one i × (k : Kind) × (value ≡ fresh k outer i) × (value ≡ value_under values one)
   ReadsPart None p value = value ≡ fresh_at basis.schema.model outer p (added_value 0)

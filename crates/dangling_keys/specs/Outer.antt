@@ -18,7 +18,7 @@ use Rattle.dangling_keys.specs.Showing.{cell_at}
 abbrev pub IsOuter : ℕ → Value → Type 0
 IsOuter outer value = (k : Kind) (i : ℕ) → i < most_indices → value ≢ fresh k outer i
 
--- the row of a number, and of the letters of a text; the fifth where no row has it
+-- the row of a number, and of the letters of a text; 5, which is no row, of another value
 abbrev pub row_of_number : ℕ → ℕ
 row_of_number n = (n + 3) % 5
 
@@ -36,7 +36,7 @@ row_of _ = 5
 abbrev pub is_taken : List Value → ℕ → Bool
 is_taken values row = list_any (λ value. row_of value == row) values
 
--- the first of the five rows of which none of these is
+-- the first of the five rows of which none of these is, where they are at most four
 abbrev pub row_beside : List Value → ℕ
 row_beside values = if is_taken values 0 then (if is_taken values 1 then (if is_taken values 2 then (if is_taken values 3 then 4 else 3) else 2) else 1) else 0
 

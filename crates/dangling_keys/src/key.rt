@@ -8,6 +8,7 @@ pub struct DanglingKey {
     pub focus: Focus,
     /// The foreign key.
     pub key: FkId,
-    /// The region of the entity that has the key to which the row refers, and no row of the table; `None` where no entity has this key.
+    /// The region of the entity whose key the row shows and which has no row in the table to which it refers: the focus's own, where it is the focus itself;
+    /// `None` where no entity has this key.
     pub principal: Option<Region>,
 }

@@ -21,8 +21,9 @@ ghost use Rattle.dangling_keys.specs.NoConflicts.{HasNoConflicts};
 ghost use Rattle.dangling_keys.specs.declared.key.DanglingKey.{DanglingKey};
 
 /// The law that dangling keys are decided: where no legal state clashes, some legal state has a row that refers by a foreign key and finds none, exactly where
-/// the key dangles at the region of some entity, or at the links of an association with a table of its own. What is told dangles, of a row that fails the key
-/// is told, and of each that is told some legal state fails. There is no condition on the constraints of the model or on other keys.
+/// the key dangles at a region, or at the links of an association with a table of its own (`decided`). For each row that fails, its key is told at some focus
+/// (`told`); for each dangling key that is told, some legal state fails by its foreign key (`fails`). There is no condition on the constraints of the model or
+/// on other keys.
 pub fn dangling_keys_are_decided()
     ensures decided { (basis : Basis) → IsBasis basis → IsWithinLimits basis.schema → NoneFailsBy basis.schema kind.Clash → (key : ForeignKey) → Contains basis.schema.store.keys key
         → FailsBy basis key ↔ ((of : Focus) × (principal : Option Region) × DanglesAt basis of key principal) }
@@ -32,16 +33,16 @@ pub fn dangling_keys_are_decided()
         → FailsBy basis dangling.key }
 {}
 
-/// The law that `None` of every kind is the round trip: no legal state fails exactly where there is no conflict at any set or at the links of any
-/// association, and no key dangles. There is no condition on the constraints of the model or on the foreign keys of the store.
+/// The law that a mapping round-trips exactly where nothing is told of it: no conflict at any set or at the links of any association, and no key that dangles.
+/// There is no condition on the constraints of the model or on the foreign keys of the store.
 pub fn a_mapping_round_trips_by_its_conflicts()
     ensures { (basis : Basis) → IsBasis basis → IsWithinLimits basis.schema → HasNoConflicts basis ↔ RoundTrips basis.schema }
 {}
 
-/// The law that what isn't forced can be left out: of each focus there is a legal state that holds it, by any of five rows of numbers, in which none of some
-/// properties is null that needn't be; and in this state an entity whose key is told by symbols, each of which stands for a part of a key, stands exactly where
-/// just this key is that of the focus or is forced. Each other entity there has a number, or a key that a forced entity tells, whose unknown parts have values
-/// that no symbol has.
+/// The law that what isn't forced can be left out: of each focus there is a legal state that holds it, by any of five rows of numbers, in which given
+/// properties aren't null, each of which may be null or not; and in this state an entity whose key is told by symbols, each of which stands for a part of a key, stands exactly where
+/// just this key is that of the focus or is forced. Each other entity there has the key of a number, or one that is read off a forced entity, whose unknown parts are those of number
+/// zero, which no symbol for a part of a key has.
 pub fn what_is_not_forced_is_left_out()
     ensures entities { (basis : Basis) → IsBasis basis → IsWithinLimits basis.schema → (outer : ℕ) → outer ≤ 4 → (s : SetId) (region : Region) → Contains (regions_of basis s) region
         → (not_null : List PropId) → AreOpen basis region not_null
