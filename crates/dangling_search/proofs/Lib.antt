@@ -1,0 +1,5 @@
+pub mod Telling
+pub mod Lists
+pub mod Pairing
+pub mod Owning
+pub mod Searching

@@ -1,0 +1,9 @@
+use Rattle.std.proofs.Common.{All, take}
+use Rattle.regions.specs.declared.pattern.Focus.TheVariants as focus
+use Rattle.region_states.specs.region_basis.BasisOf.{basis_of}
+use Rattle.dangling_search.proofs.Searching.{NeverAt}
+use Rattle.dangling_search.proofs.first.in_set.Given as goal
+
+-- at the regions so far the key doesn't dangle
+abbrev pub invariant-loop-region : goal.invariant-loop-region
+invariant-loop-region l = All (λ region. NeverAt (basis_of l.parts) l.key (focus.Entity region)) (take l.region-index l.region-items)

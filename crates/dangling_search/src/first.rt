@@ -1,0 +1,199 @@
+ghost use Rattle.std.specs.Prelude.{◌≡◌, ◌<◌, ◌↔◌, IfOk, IsSome, IsTrue, None, Some, length};
+ghost use Rattle.std.specs.Option.{option_copied};
+ghost use Rattle.cells.specs.Parts.{AreParts, schema_in};
+ghost use Rattle.round_trip.specs.Words.{SetId};
+ghost use Rattle.round_trip.specs.declared.FailKind.TheVariants as fails;
+ghost use Rattle.regions.specs.Regions.{regions_of};
+ghost use Rattle.regions.specs.declared.pattern.Focus.TheVariants as focus;
+ghost use Rattle.regions.specs.declared.pattern.Focus.TheVariants as focus;
+ghost use Rattle.region_partition.specs.set_regions.Regions.{AreRegions};
+ghost use Rattle.region_states.specs.region_basis.BasisOf.{basis_of};
+ghost use Rattle.region_states.specs.conflicts.There.{NoneFailsBy};
+ghost use Rattle.dangling_keys.specs.Dangling.{HasRows, IsDangling};
+ghost use Rattle.dangling_keys.specs.declared.key.DanglingKey.{DanglingKey};
+ghost use Rattle.dangling_search.specs.Found.{TargetHere};
+ghost use Rattle.dangling_search.specs.Searched.{FindsAt, FindsIn, FindsKey, FindsLink, IsJoinedPlace, SomeFails};
+
+use crate::at_focus::at_focus;
+use crate::target::{Target, target_of};
+use cells::{LinkPlace, Parts};
+use dangling_keys::DanglingKey;
+use edm_types::ForeignKey;
+use emc_base::{AssocId, FkId, Memory, Seq};
+use region_states::parts_are_a_basis;
+use regions::{Focus, Region};
+use std::alloc::Global;
+use symbolic_rows::focus_on;
+
+// A focus at which a key dangles, and whose row is missing.
+#[derive(Drop)]
+struct Spot {
+    of: Focus,
+    principal: Option<Region>,
+}
+
+/// The first foreign key that dangles, with a focus at which it does; `None` exactly where none dangles. The regions are to be those of all sets. Where no
+/// legal state clashes, that is exactly where no legal state has a row that refers by a key and finds none. At which of several focuses it is told no clause
+/// says: sets are looked at before associations. `Memory` comes where memory ran out.
+pub fn first_dangling(
+    alloc: Global,
+    parts: &Parts<'_>,
+    regions: &Seq<Seq<Region>>,
+) -> Result<Option<DanglingKey>, Memory>
+    requires parts { AreParts parts.now }
+    requires regions { AreRegions (basis_of parts.now) regions.now }
+    ensures told { IfOk result (λ found. (told : DanglingKey) → found ≡ Some told → IsDangling (basis_of parts.now) told) }
+    ensures free { IfOk result (λ found. found ≡ None → (told : DanglingKey) → ¬ IsDangling (basis_of parts.now) told) }
+    ensures exact { NoneFailsBy (schema_in parts.now) fails.Clash → IfOk result (λ found. IsSome found ↔ SomeFails (schema_in parts.now)) }
+{
+    parts_are_a_basis();
+    search(alloc, parts, regions)
+}
+
+// The same, by the facts alone.
+fn search(
+    alloc: Global,
+    parts: &Parts<'_>,
+    regions: &Seq<Seq<Region>>,
+) -> Result<Option<DanglingKey>, Memory>
+    requires parts { AreParts parts.now }
+    requires regions { AreRegions (basis_of parts.now) regions.now }
+    ensures told { IfOk result (λ found. (told : DanglingKey) → found ≡ Some told → IsDangling (basis_of parts.now) told) }
+    ensures free { IfOk result (λ found. found ≡ None → (told : DanglingKey) → ¬ IsDangling (basis_of parts.now) told) }
+{
+    for (index, key) in parts.store.keys.as_slice().iter().enumerate() {
+        if let Some(spot) = by_key(alloc, parts, regions, key)? {
+            return Ok(Some(DanglingKey {
+                focus: spot.of,
+                key: FkId {
+                    index: index as u32,
+                },
+                principal: spot.principal,
+            }));
+        }
+    }
+    Ok(None)
+}
+
+// A focus at which a key dangles.
+fn by_key(
+    alloc: Global,
+    parts: &Parts<'_>,
+    regions: &Seq<Seq<Region>>,
+    key: &ForeignKey,
+) -> Result<Option<Spot>, Memory>
+    requires parts { AreParts parts.now }
+    requires regions { AreRegions (basis_of parts.now) regions.now }
+    requires within { key.now.to.index < length parts.now.store.now.tables }
+    ensures { IfOk result (FindsKey (basis_of parts.now) key.now) }
+{
+    let target = target_of(alloc, parts, regions, key)?;
+    by_target(alloc, parts, regions, key, target.as_ref())
+}
+
+// The same, where it is known to what the key points.
+fn by_target(
+    alloc: Global,
+    parts: &Parts<'_>,
+    regions: &Seq<Seq<Region>>,
+    key: &ForeignKey,
+    target: Option<&Target>,
+) -> Result<Option<Spot>, Memory>
+    requires parts { AreParts parts.now }
+    requires regions { AreRegions (basis_of parts.now) regions.now }
+    requires target { TargetHere (basis_of parts.now) key.now (option_copied target) }
+    ensures { IfOk result (FindsKey (basis_of parts.now) key.now) }
+{
+    for of_set in regions.as_slice() {
+        if let Some(spot) = in_set(alloc, parts, key, target, of_set)? {
+            return Ok(Some(spot));
+        }
+    }
+    in_links(alloc, parts, key, target)
+}
+
+// One of the regions of a set at which it does.
+fn in_set(
+    alloc: Global,
+    parts: &Parts<'_>,
+    key: &ForeignKey,
+    target: Option<&Target>,
+    regions: &Seq<Region>,
+) -> Result<Option<Spot>, Memory>
+    requires parts { AreParts parts.now }
+    requires target { TargetHere (basis_of parts.now) key.now (option_copied target) }
+    requires regions { (s : SetId) × (regions.now ≡ regions_of (basis_of parts.now) s) }
+    ensures { IfOk result (FindsIn (basis_of parts.now) key.now regions.now) }
+{
+    for region in regions.as_slice() {
+        let of = focus_on(region)?;
+        if let Some(principal) = at_focus(alloc, parts, key, target, &of)? {
+            return Ok(Some(Spot { of, principal }));
+        }
+    }
+    Ok(None)
+}
+
+// An association with a table of its own at whose links it does.
+fn in_links(
+    alloc: Global,
+    parts: &Parts<'_>,
+    key: &ForeignKey,
+    target: Option<&Target>,
+) -> Result<Option<Spot>, Memory>
+    requires parts { AreParts parts.now }
+    requires target { TargetHere (basis_of parts.now) key.now (option_copied target) }
+    ensures { IfOk result (FindsLink (basis_of parts.now) key.now) }
+{
+    for index in 0..parts.model.assocs.len() {
+        let assoc = AssocId {
+            index: index as u32,
+        };
+        if let Some(spot) = at_links(alloc, parts, key, target, assoc)? {
+            return Ok(Some(spot));
+        }
+    }
+    Ok(None)
+}
+
+// The links of an association, where it dangles there.
+fn at_links(
+    alloc: Global,
+    parts: &Parts<'_>,
+    key: &ForeignKey,
+    target: Option<&Target>,
+    assoc: AssocId,
+) -> Result<Option<Spot>, Memory>
+    requires parts { AreParts parts.now }
+    requires target { TargetHere (basis_of parts.now) key.now (option_copied target) }
+    requires within { assoc.index < length parts.now.model.now.assocs }
+    ensures { IfOk result (FindsAt (basis_of parts.now) key.now assoc) }
+{
+    if !has_table(parts, assoc) {
+        return Ok(None);
+    }
+    let of = Focus::Link(assoc);
+    match at_focus(alloc, parts, key, target, &of)? {
+        Some(principal) => Ok(Some(Spot { of, principal })),
+        None => Ok(None),
+    }
+}
+
+// Whether the links of an association have a table of their own.
+fn has_table(parts: &Parts<'_>, assoc: AssocId) -> bool
+    requires parts { AreParts parts.now }
+    requires within { assoc.index < length parts.now.model.now.assocs }
+    ensures { IsTrue result ↔ HasRows (basis_of parts.now) (focus.Link assoc) }
+{
+    is_joined(parts.cells.link_place(assoc))
+}
+
+// Whether links are rows of a table of their own.
+fn is_joined(place: LinkPlace) -> bool
+    ensures { IsTrue result ↔ IsJoinedPlace place }
+{
+    match place {
+        LinkPlace::Joined(_) => true,
+        _ => false,
+    }
+}
