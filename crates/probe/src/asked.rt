@@ -27,6 +27,8 @@ pub enum Asked {
     Links,
     /// The conflict of each kind at each set.
     Conflicts,
+    /// The foreign key that dangles.
+    Dangling,
     /// The failure that is shown.
     Failure,
     /// The query views.
@@ -82,6 +84,7 @@ impl Asked {
             "regions" => Some(Asked::Regions),
             "links" => Some(Asked::Links),
             "conflicts" => Some(Asked::Conflicts),
+            "dangling" => Some(Asked::Dangling),
             "failure" => Some(Asked::Failure),
             "views" => Some(Asked::Views),
             _ => None,

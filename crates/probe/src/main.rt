@@ -4,6 +4,7 @@
 mod asked;
 mod conditions;
 mod conflicts;
+mod dangling;
 mod data;
 mod mappings;
 mod models;
