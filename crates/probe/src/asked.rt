@@ -27,6 +27,10 @@ pub enum Asked {
     Links,
     /// The conflict of each kind at each set.
     Conflicts,
+    /// What regions and links force.
+    Forced,
+    /// What the first region of the first set forces, many times.
+    ForcedAgain,
     /// The foreign key that dangles.
     Dangling,
     /// The failure that is shown.
@@ -84,6 +88,8 @@ impl Asked {
             "regions" => Some(Asked::Regions),
             "links" => Some(Asked::Links),
             "conflicts" => Some(Asked::Conflicts),
+            "forced" => Some(Asked::Forced),
+            "forced-again" => Some(Asked::ForcedAgain),
             "dangling" => Some(Asked::Dangling),
             "failure" => Some(Asked::Failure),
             "views" => Some(Asked::Views),

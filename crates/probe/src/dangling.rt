@@ -1,10 +1,13 @@
 ghost use Rattle.cells.specs.Parts.{AreParts};
 
+mod forcing;
+
 use crate::printing::put;
 use crate::views::all_regions;
 use cells::Parts;
 use dangling_keys::DanglingKey;
 use dangling_search::first_dangling;
+pub use forcing::{put_forced, put_forced_again};
 use regions::{Focus, Region};
 use std::alloc::Global;
 

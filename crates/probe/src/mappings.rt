@@ -9,7 +9,7 @@ ghost use Rattle.round_trip.specs.soundness.Stores.{IsSoundStore};
 use crate::asked::Asked;
 use crate::conditions::{put_selected, put_shown};
 use crate::conflicts::{put_conflicts, put_failure};
-use crate::dangling::put_dangling;
+use crate::dangling::{put_dangling, put_forced, put_forced_again};
 use crate::models::{put_of_data, put_of_model};
 use crate::owners::put_owners;
 use crate::printing::put;
@@ -214,6 +214,8 @@ fn put_of_parts(alloc: Global, text: &mut String, asked: Asked, parts: &Parts<'_
         Asked::Regions => put_regions(alloc, text, parts),
         Asked::Links => put_links(alloc, text, parts),
         Asked::Conflicts => put_conflicts(alloc, text, parts),
+        Asked::Forced => put_forced(alloc, text, parts),
+        Asked::ForcedAgain => put_forced_again(alloc, text, parts),
         Asked::Dangling => put_dangling(alloc, text, parts),
         Asked::Failure => put_failure(alloc, text, parts),
         Asked::Views => put_views(alloc, text, parts),
