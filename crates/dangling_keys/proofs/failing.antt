@@ -3,6 +3,7 @@ pub mod LinkFails
 pub mod OtherValues
 pub mod Actor
 pub mod OtherState
+pub mod ShownValues
 pub mod OtherEntity
 pub mod OtherLink
 pub mod Whole

@@ -18,9 +18,9 @@ use Rattle.dangling_keys.specs.declared.key.DanglingKey.{DanglingKey}
 
 module _ (basis : Basis) where
   -- the focus is a region of a set, or a link of an association with a table of its own
-  abbrev pub HasRows : Focus → Type 0
-  HasRows (focus.Entity region) = (s : SetId) × Contains (regions_of basis s) region
-  HasRows (focus.Link a) = (t : TableId) × IsTableOf basis a t
+  abbrev pub IsRowFocus : Focus → Type 0
+  IsRowFocus (focus.Entity region) = (s : SetId) × Contains (regions_of basis s) region
+  IsRowFocus (focus.Link a) = (t : TableId) × IsTableOf basis a t
 
   -- the set owns the table by the pairing, and something writes it
   pub record OwnsTable (t : TableId) (u : SetId) (pairing : List Pair) : Type 0 where
@@ -67,7 +67,7 @@ module _ (basis : Basis) where
 
   -- the foreign key dangles at the focus
   pub record DanglesAt (of : Focus) (key : ForeignKey) (principal : Option Region) : Type 0 where
-    pub of_rows : HasRows of
+    pub of_rows : IsRowFocus of
     pub refers : MayRefer basis of key
     pub lacks : LacksRow of key principal
 

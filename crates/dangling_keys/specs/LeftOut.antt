@@ -41,7 +41,7 @@ module _ (basis : Basis) (outer : ℕ) (of : Focus) (values : Valuation) where
 
   -- each entity of the state is one of a number, or told by the focus or by what this forces; so the entity that a key of symbols tells stands in it exactly
   -- where just this key is forced, and it can be left out where it isn't
-  pub record LeavesOut (not_null : List PropId) (state : State) : Type 0 where
+  pub record LeavesUnforcedOut (not_null : List PropId) (state : State) : Type 0 where
     pub legal : IsLegal basis.schema.model state
     pub read : (u : SetId) (entity : Entity) → Contains (entities_in state u) entity
         → IsNumberKey basis outer u (key_of basis.schema.model entity) ⊎ IsRead (IsMember basis of not_null) u (key_of basis.schema.model entity)

@@ -7,4 +7,5 @@ pub mod LeftOut
 pub mod Outer
 pub mod Failing
 pub mod OtherStates
-pub mod NoConflicts
+pub mod DanglingStates
+pub mod Laws

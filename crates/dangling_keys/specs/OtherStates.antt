@@ -1,7 +1,7 @@
 -- The states in which another entity has the key that is shown: one of a region, in place of the plain one.
 -- Source: this project's choice of the states that it shows.
 use Rattle.std.specs.Prelude.{◌==◌, ◌&&◌, ℕ, List, ◌∷◌, ◌++◌, filter, Bool, not, if◌then◌else◌}
-use Rattle.round_trip.specs.Words.{Entity, State, Value, key_of, key_props, value_of}
+use Rattle.round_trip.specs.Words.{PropId, State, Value, key_of, key_props}
 use Rattle.schema_laws.specs.short_values.Fresh.{added_value, fresh_at}
 use Rattle.schema_laws.specs.short_values.Places.{is_among}
 use Rattle.schema_laws.specs.state_demand.Selecting.{same_key}
@@ -19,10 +19,10 @@ use Rattle.region_states.specs.defaults.Defaults.{default_valuation}
 use Rattle.host_states.specs.FocusStates.{focus, linked_hosts, links_by, wanted_by}
 
 module _ (basis : Basis) (outer : ℕ) where
-  -- a property of the key has the value of an entity, another one the usual value; a part of a partner's key is that of the number of its end
-  abbrev pub other_values : Region → Entity → Valuation
-  other_values region e = record {
-    prop = λ p. if is_among p (key_props basis.schema.model region.ty) then value_of basis.schema.model e p else (default_valuation basis outer region).prop p;
+  -- a property of the key has a given value, another one the usual value; a part of a partner's key is that of the number of its end
+  abbrev pub other_values : Region → (PropId → Value) → Valuation
+  other_values region given = record {
+    prop = λ p. if is_among p (key_props basis.schema.model region.ty) then given p else (default_valuation basis outer region).prop p;
     part = λ a first p. fresh_at basis.schema.model outer p (added_value (end_number first a));
   }
 

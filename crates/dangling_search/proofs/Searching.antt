@@ -16,7 +16,7 @@ use Rattle.regions.specs.declared.region.Region.{Region}
 use Rattle.regions.specs.region_laws.IsBasis.{IsBasis}
 use Rattle.regions.proofs.region_laws.listing.Listed.{is_listed}
 use Rattle.region_states.specs.conflicts.There.{NoneFailsBy}
-use Rattle.dangling_keys.specs.Dangling.{DanglesAt, HasRows, IsDangling}
+use Rattle.dangling_keys.specs.Dangling.{DanglesAt, IsRowFocus, IsDangling}
 use Rattle.dangling_keys.specs.declared.key.DanglingKey.{DanglingKey}
 use Rattle.dangling_keys.proofs.failing.Whole.{told_fails}
 use Rattle.dangling_keys.proofs.told.Told.{dangling_told}
@@ -48,7 +48,7 @@ exact_found IsOne Fails (Some made) told free exact = (λ some. exact.0 (made, t
 
 by_law : (basis : Basis) → IsBasis basis → IsWithinLimits basis.schema → NoneFailsBy basis.schema kind.Clash → ((told : DanglingKey) × IsDangling basis told) ↔ SomeFails basis.schema
 by_law basis is limits none = (
-  λ told. (let by = told_fails basis is limits none told.0 told.1 in (by.place, by.state, by.state, by.fails)),
+  λ told. (let by = told_fails basis (record { sound = record { is_basis = is; limits = limits }; none = none }) told.0 told.1 in (by.place, by.state, by.state, by.at.fails)),
   λ fails. (let by = dangling_told basis is limits none fails.0 fails.1 fails.2 fails.3 in (by.0, by.1)),
 )
 
@@ -59,7 +59,7 @@ found_exactly basis is limits none (Ok found) told free = exact_found (IsDanglin
 found_exactly basis is limits none (Err memory) told free = _
 
 -- a focus has rows, and the key dangles there, or not
-pub not_there : (basis : Basis) (key : ForeignKey) (of : Focus) → ¬ HasRows basis of → NeverAt basis key of
+pub not_there : (basis : Basis) (key : ForeignKey) (of : Focus) → ¬ IsRowFocus basis of → NeverAt basis key of
 not_there basis key of none principal dangles = none dangles.of_rows
 
 -- the regions of a list were looked at

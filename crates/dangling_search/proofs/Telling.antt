@@ -25,7 +25,7 @@ use Rattle.conflict_laws.specs.rival.RivalValues.{is_null_cell}
 use Rattle.conflict_laws.proofs.null.Listed.{Decides-row}
 use Rattle.forced_entities.specs.Forced.{AreForced, IsForced, own_member}
 use Rattle.forced_entities.specs.declared.member.Forced.{Forced}
-use Rattle.dangling_keys.specs.Dangling.{DanglesAt, HasRows, IsOwn, OwnsTable, OtherLacks}
+use Rattle.dangling_keys.specs.Dangling.{DanglesAt, IsRowFocus, IsOwn, OwnsTable, OtherLacks}
 use Rattle.dangling_keys.specs.Showing.{Fits, MayRefer, cell_at, fits, may_refer, not_null_for}
 use Rattle.dangling_keys.proofs.told.Members.{Decides-fits}
 use Rattle.dangling_search.specs.Found.{lacks_row}
@@ -47,10 +47,10 @@ module _ (basis : Basis) (of : Focus) (key : ForeignKey) where
   refers_not told principal dangles = not_from_Decides (may_refer basis of key) refer_decided told dangles.refers
 
   -- where no set owns the table nobody fits
-  pub unowned_dangles : HasRows basis of → MayRefer basis of key → ((u : SetId) (pairing : List Pair) → ¬ OwnsTable basis key.to u pairing) → DanglesAt basis of key None
+  pub unowned_dangles : IsRowFocus basis of → MayRefer basis of key → ((u : SetId) (pairing : List Pair) → ¬ OwnsTable basis key.to u pairing) → DanglesAt basis of key None
   unowned_dangles rows may none = record { of_rows = rows; refers = may; lacks = λ u pairing owns one there by. none u pairing owns }
 
-  module _ (is : IsBasis basis) (rows : HasRows basis of) (may : MayRefer basis of key) (u : SetId) (pairing : List Pair) (owns : OwnsTable basis key.to u pairing) where
+  module _ (is : IsBasis basis) (rows : IsRowFocus basis of) (may : MayRefer basis of key) (u : SetId) (pairing : List Pair) (owns : OwnsTable basis key.to u pairing) where
     abbrev FitsHere : Forced → Type 0
     FitsHere one = Fits basis of key u pairing one
 

@@ -5,7 +5,7 @@ ghost use Rattle.cells.specs.Parts.{AreParts};
 ghost use Rattle.round_trip.specs.soundness.models.Models.{IsSoundModel};
 ghost use Rattle.round_trip.specs.Words.{IsA};
 ghost use Rattle.region_states.specs.region_basis.BasisOf.{basis_of};
-ghost use Rattle.dangling_keys.specs.Dangling.{HasRows};
+ghost use Rattle.dangling_keys.specs.Dangling.{IsRowFocus};
 ghost use Rattle.dangling_keys.specs.Showing.{MayRefer, fits};
 ghost use Rattle.dangling_search.specs.Found.{DanglesHere, OwnFits, TargetHere, is_below_all};
 ghost use Rattle.dangling_search.specs.Lent.{IsLook};
@@ -32,7 +32,7 @@ pub fn at_focus(
 ) -> Result<Option<Option<Region>>, Memory>
     requires parts { AreParts parts.now }
     requires target { TargetHere (basis_of parts.now) key.now (option_copied target) }
-    requires of { HasRows (basis_of parts.now) of.now }
+    requires of { IsRowFocus (basis_of parts.now) of.now }
     ensures { IfOk result (DanglesHere (basis_of parts.now) of.now key.now) }
 {
     let pattern = pattern(alloc, parts, of)?;
@@ -60,7 +60,7 @@ fn with_target(
     requires parts { AreParts parts.now }
     requires look { IsLook (basis_of parts.now) look }
     requires target { TargetHere (basis_of parts.now) key.now (Some target.now) }
-    requires of { HasRows (basis_of parts.now) look.of.now }
+    requires of { IsRowFocus (basis_of parts.now) look.of.now }
     requires refers { MayRefer (basis_of parts.now) look.of.now key.now }
     ensures { IfOk result (DanglesHere (basis_of parts.now) look.entry.of.now key.now) }
 {

@@ -9,7 +9,7 @@ ghost use Rattle.regions.specs.declared.pattern.Focus.TheVariants as focus;
 ghost use Rattle.region_partition.specs.set_regions.Regions.{AreRegions};
 ghost use Rattle.region_states.specs.region_basis.BasisOf.{basis_of};
 ghost use Rattle.region_states.specs.conflicts.There.{NoneFailsBy};
-ghost use Rattle.dangling_keys.specs.Dangling.{HasRows, IsDangling};
+ghost use Rattle.dangling_keys.specs.Dangling.{IsRowFocus, IsDangling};
 ghost use Rattle.dangling_keys.specs.declared.key.DanglingKey.{DanglingKey};
 ghost use Rattle.dangling_search.specs.Found.{TargetHere};
 ghost use Rattle.dangling_search.specs.Searched.{FindsAt, FindsIn, FindsKey, FindsLink, IsJoinedPlace, SomeFails};
@@ -183,7 +183,7 @@ fn at_links(
 fn has_table(parts: &Parts<'_>, assoc: AssocId) -> bool
     requires parts { AreParts parts.now }
     requires within { assoc.index < length parts.now.model.now.assocs }
-    ensures { IsTrue result ↔ HasRows (basis_of parts.now) (focus.Link assoc) }
+    ensures { IsTrue result ↔ IsRowFocus (basis_of parts.now) (focus.Link assoc) }
 {
     is_joined(parts.cells.link_place(assoc))
 }

@@ -25,6 +25,7 @@ use Rattle.regions.proofs.region_laws.lists.Found.{filter_none, filter_one}
 use Rattle.region_states.specs.Entities.{focus_entity}
 use Rattle.region_states.specs.HoldsFocus.{HoldsFocus}
 use Rattle.population.specs.Given.{AreGiven, AreKeys, AreLinked}
+use Rattle.population.specs.Kept.{key_at_end}
 use Rattle.population.specs.Numbered.{end_number, end_of, number_count, numbered_key}
 use Rattle.population.specs.Supported.{added_at, end_key, given_in, links_of, stands_in, supported}
 use Rattle.population.specs.declared.placed.Placed.{Placed}
@@ -39,7 +40,8 @@ use Rattle.host_states.specs.FocusStates.{link_to, told_key}
 use Rattle.host_states.proofs.focus.Focus.{HasRegion, in_set, numbers, region_set}
 use Rattle.host_states.proofs.focus.FocusHeld.{one_not_free}
 use Rattle.host_states.proofs.focus.FocusLinks.{side_cases}
-use Rattle.host_states.proofs.focus.HostEnds.{host_key_is, host_side, partner_key_is, partner_side, twice_not}
+use Rattle.host_states.proofs.focus.HostEnds.{IsLinkedHost, host_key_is, host_side, near_set, partner_key_is, partner_side, twice_not}
+use Rattle.host_states.proofs.small.Small.{IsRooted}
 
 -- the entity's link to a partner
 abbrev pub link_by : Basis → Region → Valuation → Host → Assoc → Link
@@ -240,3 +242,39 @@ module _ (basis : Basis) (outer : ℕ) (s : SetId) (region : Region) (of : HasRe
     stands = subst (λ u. Contains (entities_in state u) entity) (sym (region_set basis outer s region of)) focus_stands;
     partners = subst (λ u. HasPartners basis state u entity region values.part) (sym (region_set basis outer s region of)) held_partners;
   }
+
+  -- roots that hold its key, and that of the partner of each flag, name both ends of its links
+  module _ (roots : List PlacedKey) (own_root : Contains roots (record { set = region.set; key = focus_key }))
+      (partner_root : (host : Host) (assoc : Assoc) → IsLinkedHost basis s region host assoc → Contains roots (record { set = (end_of (not host.first_hosts) assoc).set; key = told_key basis values host assoc })) where
+    module _ (host : Host) (hosted : Contains (basis.hosts s) host) (there : Contains region.linked host.assoc) (assoc : Assoc) (here : At basis.schema.model.assocs host.assoc.index assoc) where
+      by_host : IsLinkedHost basis s region host assoc
+      by_host = record { hosts = hosted; linked = there; is_assoc = here }
+
+      abbrev its_link : Link
+      its_link = link_by basis region values host assoc
+
+      near_is : record { set = region.set; key = focus_key } ≡ key_at_end host.first_hosts assoc its_link
+      near_is k = record {
+        set = (region_set basis outer s region of ∙ sym (near_set basis of.is s region of.listed host assoc by_host)) k;
+        key = sym (near_key host.first_hosts focus_key (told_key basis values host assoc)) k;
+      }
+
+      far_is : record { set = (end_of (not host.first_hosts) assoc).set; key = told_key basis values host assoc } ≡ key_at_end (not host.first_hosts) assoc its_link
+      far_is k = record { set = (end_of (not host.first_hosts) assoc).set; key = sym (far_key host.first_hosts focus_key (told_key basis values host assoc)) k }
+
+      ends_rooted : (link : Link) → links_at state host focus_key ≡ link ∷ [] → (side : Bool) → Contains roots (key_at_end side assoc link)
+      ends_rooted link one side =
+          let only : its_link ∷ [] ≡ link ∷ [] = sym (only_link host hosted assoc here there) ∙ one in
+          let is : its_link ≡ link = cc in
+          subst (λ (it : Link). Contains roots (key_at_end side assoc it)) is
+          (⊎_elim
+          (λ (near : side ≡ host.first_hosts). subst (λ b. Contains roots (key_at_end b assoc its_link)) (sym near) (subst (Contains roots) near_is own_root))
+          (λ (far : side ≡ not host.first_hosts). subst (λ b. Contains roots (key_at_end b assoc its_link)) (sym far) (subst (Contains roots) far_is (partner_root host assoc by_host)))
+          (side_cases side host.first_hosts))
+
+    pub actor_rooted : IsRooted basis roots state region values
+    actor_rooted = record {
+      focus = own_root;
+      ends = λ host hosted there assoc here link one side.
+          ends_rooted host (subst (λ u. Contains (basis.hosts u) host) (region_set basis outer s region of) hosted) there assoc here link one side;
+    }

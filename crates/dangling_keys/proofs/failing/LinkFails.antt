@@ -1,8 +1,9 @@
--- A foreign key that dangles at a link, where no entity has the key that is shown: some legal state fails.
-use Rattle.std.proofs.Common.{◌≡◌, ⊎_elim, inl, inr, ℕ, ◌≤◌, List, [], ◌∷◌, map, flat_map, Contains, refl, sym, ap, subst, ◌∙◌}
+-- A foreign key that dangles at a link, where no entity has the key that is shown: the small state of the link fails.
+use Rattle.std.proofs.Common.{◌≡◌, ⊎_elim, inl, inr, ℕ, ◌≤◌, List, [], ◌∷◌, map, flat_map, Contains, Option, refl, sym, ap, subst, ◌∙◌}
+use Rattle.std.specs.Option.{option_map_or}
 use Rattle.emc_base.proofs.Lists.{at_once}
 use Rattle.emc_base.proofs.Members.{contains_cons_cases, contains_nil}
-use Rattle.round_trip.specs.Words.{Assoc, ColId, EntityModel, ForeignKey, IsIndependent, Kind, Link, LinkFragment, PropId, Row, State, Value, At, cells_of, links_in, rows_in}
+use Rattle.round_trip.specs.Words.{Assoc, AssocId, ColId, Entity, EntityModel, ForeignKey, IsIndependent, Kind, Link, LinkFragment, PropId, Row, SetId, State, Value, At, cells_of, entities_in, links_in, place_at, row_key, rows_in}
 use Rattle.round_trip.specs.declared.FailKind.TheVariants as kind
 use Rattle.schema_laws.specs.short_values.Fresh.{fresh}
 use Rattle.schema_laws.specs.state_demand.Owners.{IsJoinedTo}
@@ -20,16 +21,22 @@ use Rattle.regions.specs.region_laws.pattern.Allowed.{AllowedFocus}
 use Rattle.regions.proofs.region_laws.pattern.symbols.Hosting.{one_link}
 use Rattle.region_states.specs.conflicts.There.{NoneFailsBy}
 use Rattle.region_states.specs.focus.Held.{IsRowOfOne}
+use Rattle.failure_laws.specs.SmallLinks.{both_ends, roots_at, small_link}
+use Rattle.failure_laws.specs.Witnesses.{empty_state}
 use Rattle.failure_laws.proofs.links.LinkRows.{told_link}
+use Rattle.failure_laws.proofs.links.SmallLinks.{small_holds}
 use Rattle.population.specs.Given.{HasNumbers}
-use Rattle.population.specs.LinkStates.{HoldsLink, at_first, at_second, entity_at, of_assoc, placed_at, plain_link}
+use Rattle.population.specs.Kept.{HoldsNeeded}
+use Rattle.population.specs.LinkStates.{HoldsLink, at_first, at_second, entity_at, link_state, of_assoc, placed_at, plain_link}
 use Rattle.population.specs.Principals.{principals}
 use Rattle.population.specs.Support.{support}
 use Rattle.population.specs.Supported.{links_of}
 use Rattle.population.specs.declared.placed.PlacedLink.{PlacedLink}
+use Rattle.population.proofs.pruning.NeededParts.{holds_needed}
 use Rattle.population.proofs.supporting.Ends.{link_from}
 use Rattle.dangling_keys.specs.Dangling.{NoneFits}
-use Rattle.dangling_keys.specs.Failing.{FailsBy}
+use Rattle.dangling_keys.specs.DanglingStates.{lone_state}
+use Rattle.dangling_keys.specs.Failing.{FailsAtKey}
 use Rattle.dangling_keys.specs.Flow.{IsFlow}
 use Rattle.dangling_keys.specs.FlowStates.{flow_state}
 use Rattle.dangling_keys.specs.Outer.{IsOuter, outer_row, outer_value}
@@ -41,7 +48,7 @@ use Rattle.dangling_keys.proofs.left_out.LeftOut.{link_held}
 use Rattle.dangling_keys.proofs.left_out.LinkRead.{link_state_is, link_value, own_read}
 use Rattle.dangling_keys.proofs.referring.Listing.{link_symbol}
 use Rattle.dangling_keys.proofs.referring.OwnTable.{never_itself}
-use Rattle.dangling_keys.proofs.referring.Shown.{link_shown}
+use Rattle.dangling_keys.proofs.referring.Shown.{FailsShown, link_place, link_shown}
 use Rattle.dangling_keys.proofs.referring.Target.{IsShown, shown_fails, target_key, target_of, target_owned, target_shows}
 
 module _ (basis : Basis) (is : IsBasis basis) (limits : IsWithinLimits basis.schema) (none : NoneFailsBy basis.schema kind.Clash) (fragment : LinkFragment) (assoc : Assoc) (key : ForeignKey)
@@ -79,11 +86,50 @@ module _ (basis : Basis) (is : IsBasis basis) (limits : IsWithinLimits basis.sch
   abbrev pub values : Valuation
   values = by_link basis.schema.model assoc link
 
-  abbrev pub told : AllowedFocus basis
-  told = told_link basis is key.from fragment assoc joined shown_state held.legal link held.linked
+  -- the small part of the state
+  abbrev small : State
+  small = lone_state basis The key
 
-  pub shown : IsShown basis told key shown_state
-  shown = link_shown basis is none key is_key fragment assoc joined shown_state held.legal link held.linked may
+  lone_is : lone_state basis The key ≡ small_link basis.schema.model outer fragment.assoc assoc
+  lone_is = ap (λ (found : Option Assoc). option_map_or (small_link basis.schema.model outer fragment.assoc) found (empty_state basis.schema.model)) joined.is_assoc
+
+  small_held : HoldsLink basis.schema.model outer fragment.assoc assoc small
+  small_held = subst (HoldsLink basis.schema.model outer fragment.assoc assoc) (sym lone_is) (small_holds basis.schema.model outer has fragment.assoc assoc joined.is_assoc independent)
+
+  abbrev made_state : State
+  made_state = link_state basis.schema.model outer fragment.assoc assoc
+
+  made_is : shown_state ≡ made_state
+  made_is = link_state_is basis is outer has fragment.assoc assoc joined.is_assoc not_null
+
+  made_held : HoldsLink basis.schema.model outer fragment.assoc assoc made_state
+  made_held = subst (HoldsLink basis.schema.model outer fragment.assoc assoc) made_is held
+
+  needed : HoldsNeeded basis.schema.model (made_state ∷ []) (roots_at basis.schema.model outer (both_ends basis.schema.model outer fragment.assoc assoc)) made_state
+  needed = holds_needed basis.schema.model (made_state ∷ []) (roots_at basis.schema.model outer (both_ends basis.schema.model outer fragment.assoc assoc)) made_state made_held.legal
+
+  inside : (u : SetId) (one : Entity) → Contains (entities_in small u) one → Contains (entities_in shown_state u) one
+  inside u one there = subst (λ (state : State). Contains (entities_in state u) one) (sym made_is)
+      ((needed.entities u one).0 (subst (λ (state : State). Contains (entities_in state u) one) lone_is there)).0
+
+  link_inside : (a : AssocId) (other : Assoc) → At basis.schema.model.assocs a.index other → (one : Link) → Contains (links_in small a) one → Contains (links_in shown_state a) one
+  link_inside a other here one there = subst (λ (state : State). Contains (links_in state a) one) (sym made_is)
+      ((needed.links a other here one).0 (subst (λ (state : State). Contains (links_in state a) one) lone_is there)).0
+
+  abbrev told : AllowedFocus basis
+  told = told_link basis is key.from fragment assoc joined small small_held.legal link small_held.linked
+
+  shown : IsShown basis told key small
+  shown = link_shown basis is none key is_key fragment assoc joined small small_held.legal link small_held.linked may
+
+  -- the state fails at the link's row
+  as_shown : FailsAtKey basis key (place_at shown.table.name (row_key shown.table shown.row) key.name) small → FailsShown basis The key small
+  unfolding shown
+  as_shown fails = record {
+    place = place_at shown.table.name (row_key shown.table shown.row) key.name;
+    at = fails;
+    only = link_place basis is none key is_key fragment assoc joined small small_held.legal link small_held.linked may outer refl;
+  }
 
   pub valued : (one : Symbol) (i : ℕ) → IsFlow basis The one i → (k : Kind) × (value_under values one ≡ fresh k outer i)
   valued = link_value basis is outer has fragment.assoc assoc joined.is_assoc not_null
@@ -125,30 +171,32 @@ module _ (basis : Basis) (is : IsBasis basis) (limits : IsWithinLimits basis.sch
 
   module _ (target : Row) (at : Contains (rows_in shown.tables key.to) target) (alike : cells_of target key.to_cols ≡ cells_of shown.row key.from_cols) where
     abbrev at_key : List Value
-    at_key = target_key basis is told key shown_state shown target at alike
+    at_key = target_key basis is told key small shown target at alike
 
-    no_link : (other : LinkFragment) (also : Assoc) (one : Link) → IsAtLinkRow basis shown_state other also one key.to at_key → ⊥
+    no_link : (other : LinkFragment) (also : Assoc) (one : Link) → IsAtLinkRow basis small other also one key.to at_key → ⊥
     no_link other also one by =
-        let same_fragment : fragment ≡ other = one_link basis is fragment other joined.is_fragment by.joined.is_fragment (one_assoc other also one by.joined by.stands) in
+        let stands = link_inside other.assoc also by.joined.is_assoc one by.stands in
+        let same_fragment : fragment ≡ other = one_link basis is fragment other joined.is_fragment by.joined.is_fragment (one_assoc other also one by.joined stands) in
         let same_assoc : assoc ≡ also = at_once model.assocs other.assoc.index assoc also (subst (λ (it : LinkFragment). At model.assocs it.assoc.index assoc) same_fragment joined.is_assoc) by.joined.is_assoc in
-        let same_link : link ≡ one = only_link one (subst (λ (it : LinkFragment). Contains (links_in shown_state it.assoc) one) (sym same_fragment) by.stands) in
-        let AtFragment : LinkFragment → Type 0 = λ it. IsAtLinkRow basis shown_state it also one key.to at_key in
-        let AtAssoc : Assoc → Type 0 = λ it. IsAtLinkRow basis shown_state fragment it one key.to at_key in
-        let AtLink : Link → Type 0 = λ it. IsAtLinkRow basis shown_state fragment assoc it key.to at_key in
-        never_itself basis is limits outer row fragment assoc key joined shown_state held.legal link held.linked shown valued cell_part target at alike
+        let same_link : link ≡ one = only_link one (subst (λ (it : LinkFragment). Contains (links_in shown_state it.assoc) one) (sym same_fragment) stands) in
+        let AtFragment : LinkFragment → Type 0 = λ it. IsAtLinkRow basis small it also one key.to at_key in
+        let AtAssoc : Assoc → Type 0 = λ it. IsAtLinkRow basis small fragment it one key.to at_key in
+        let AtLink : Link → Type 0 = λ it. IsAtLinkRow basis small fragment assoc it key.to at_key in
+        never_itself basis is limits outer row fragment assoc key joined small small_held.legal link small_held.linked shown valued cell_part target at alike
         (subst AtLink (sym same_link) (subst AtAssoc (sym same_assoc) (subst AtFragment (sym same_fragment) by)))
 
-    none_of : NoneFits basis The key → IsRowOfOne basis shown_state key.to at_key → ⊥
+    none_of : NoneFits basis The key → IsRowOfOne basis small key.to at_key → ⊥
     none_of never (inr (other, also, one, by)) = no_link other also one by
     none_of never (inl (u, entity, at_row)) =
-        let owns = target_owned basis is told key shown_state shown target at alike u entity at_row in
-        let fitting = fitting_one basis is limits outer row The not_null values shown_state held.legal (λ one i flow some. valued one i flow) key u entity at_row.at.stands at_row.pairing owns
-        (target_shows basis is told key shown_state shown target at alike u entity at_row) (shown_parts basis is key is_key The values cell_part at_row.pairing at_row.owned.cols)
-        (own_read basis is outer has fragment.assoc assoc joined.is_assoc not_null u entity at_row.at.stands) in
+        let stands = inside u entity at_row.at.stands in
+        let owns = target_owned basis is told key small shown target at alike u entity at_row in
+        let fitting = fitting_one basis is limits outer row The not_null values shown_state held.legal (λ one i flow some. valued one i flow) key u entity stands at_row.pairing owns
+        (target_shows basis is told key small shown target at alike u entity at_row) (shown_parts basis is key is_key The values cell_part at_row.pairing at_row.owned.cols)
+        (own_read basis is outer has fragment.assoc assoc joined.is_assoc not_null u entity stands) in
         never u at_row.pairing owns fitting.0 fitting.1 fitting.2
 
     none_there : NoneFits basis The key → ⊥
-    none_there never = none_of never (target_of basis is told key shown_state shown target at alike)
+    none_there never = none_of never (target_of basis is told key small shown target at alike)
 
-  pub link_none_fails : NoneFits basis The key → FailsBy basis key
-  link_none_fails never = shown_fails basis is told key shown_state shown (λ target at alike. none_there target at alike never)
+  pub link_none_fails : NoneFits basis The key → FailsShown basis The key small
+  link_none_fails never = as_shown (shown_fails basis is told key small shown (λ target at alike. none_there target at alike never))

@@ -1,15 +1,18 @@
--- A foreign key that dangles at an entity, where another entity has the key that is shown and may lack the row: some legal state fails.
-use Rattle.std.proofs.Common.{◌≡◌, ◌≢◌, ◌⊎◌, ⊎_elim, inl, inr, ℕ, ◌<◌, ◌≤◌, List, flat_map, Contains, Bool, true, not, refl, sym, ap, subst, ◌∙◌}
+-- A foreign key that dangles at an entity, where another entity has the key that is shown and may lack the row: the small state of both fails.
+use Rattle.std.proofs.Common.{◌≡◌, ◌≢◌, ◌⊎◌, ⊎_elim, inl, inr, ℕ, ◌<◌, ◌≤◌, List, [], ◌∷◌, flat_map, map, Contains, Bool, true, not, refl, sym, ap, subst, ◌∙◌}
+use Rattle.std.proofs.lemmas.List.Elements.{All-contains, Contains-append_left}
 use Rattle.emc_base.proofs.FoundItems.{contains_flat_map}
-use Rattle.emc_base.proofs.Lists.{at_once}
+use Rattle.emc_base.proofs.Lists.{at_once, only_member}
+use Rattle.emc_base.proofs.Mapped.{contains_map}
 use Rattle.emc_base.proofs.Members.{contains_head, contains_tail}
-use Rattle.round_trip.specs.Words.{Assoc, AssocId, End, Entity, EntityModel, ForeignKey, IsA, Kind, Null, props_of, Pair, PropId, SetId, State, Value, At, entities_in, key_of, value_of}
+use Rattle.round_trip.specs.Words.{Assoc, AssocId, End, Entity, EntityModel, ForeignKey, IsA, IsLegal, Kind, Null, Pair, PropId, SetId, State, Value, At, entities_in, key_of, key_props, place_at, props_of, row_key, value_of}
 use Rattle.round_trip.specs.declared.FailKind.TheVariants as kind
 use Rattle.round_trip.specs.soundness.Lookups.{set_key}
 use Rattle.round_trip.specs.soundness.models.Constraints.{IsSoundEnd}
 use Rattle.schema_laws.specs.short_values.Fresh.{fresh, most_indices}
 use Rattle.round_trip.specs.soundness.mappings.Joined.{IsDependent}
 use Rattle.schema_laws.specs.short_values.Short.{IsShort}
+use Rattle.schema_laws.specs.state_demand.Owners.{props_in}
 use Rattle.cells.specs.Limits.{IsWithinLimits}
 use Rattle.regions.specs.Basis.{Basis, Host, partner_end}
 use Rattle.regions.specs.Patterns.{Valuation, pattern_of, value_under}
@@ -36,28 +39,31 @@ use Rattle.population.specs.Supported.{end_key, given_in, links_of}
 use Rattle.population.specs.declared.placed.Placed.{Placed}
 use Rattle.population.specs.declared.placed.PlacedKey.{PlacedKey}
 use Rattle.population.specs.declared.placed.PlacedLink.{PlacedLink}
-use Rattle.population.proofs.plain.Numbered.{end_within}
+use Rattle.population.proofs.plain.Numbered.{end_within, set_key_is}
 use Rattle.population.proofs.plain.Plain.{first_is}
 use Rattle.population.proofs.supporting.Ends.{from_given, link_from}
 use Rattle.population.proofs.supporting.Links.{far_key, near_key}
 use Rattle.host_states.specs.FocusStates.{by_assoc, focus, given_by, linked_hosts, links_by, partner_of, told_key, wanted_by}
+use Rattle.host_states.specs.SmallStates.{key_of_placed}
 use Rattle.host_states.proofs.focus.Focus as first
 use Rattle.host_states.proofs.focus.Focus.{HasRegion, IsMade}
 use Rattle.host_states.proofs.focus.FocusLinks.{IsGivenLink, given_link, given_well, link_there, links_well, own_is, side_cases}
 use Rattle.host_states.proofs.focus.FocusLinks as links_first
+use Rattle.host_states.proofs.small.Small.{focus_left}
 use Rattle.host_states.proofs.focus.HostEnds.{IsLinkedHost, far_sound, host_side, is_linked_host, near_covers, near_set, partner_side, to_assoc}
 use Rattle.forced_entities.specs.Forced.{IsForced, own_member}
 use Rattle.forced_entities.specs.Held.{HasNoNull, HoldsForced}
 use Rattle.forced_entities.specs.declared.member.Forced.{Forced}
 use Rattle.forced_entities.proofs.Holds.{entity_forces, own_stands}
 use Rattle.dangling_keys.specs.Dangling.{IsThere, OwnsTable}
-use Rattle.dangling_keys.specs.Failing.{FailsBy}
+use Rattle.dangling_keys.specs.DanglingStates.{IsEntityRow, both_roots, both_state, principal_roots, principal_values, shown_value}
 use Rattle.dangling_keys.specs.Flow.{IsFlow}
 use Rattle.dangling_keys.specs.FlowStates.{AreOpen}
 use Rattle.dangling_keys.specs.LeftOut.{IsMember, IsNumberKey, IsRead}
-use Rattle.dangling_keys.specs.OtherStates.{keeps, other_given, other_key, other_links, other_state, other_values, other_wanted, own_links}
+use Rattle.dangling_keys.specs.OtherStates.{keeps, other_given, other_key, other_links, other_state, other_wanted, own_links}
 use Rattle.dangling_keys.specs.Showing.{Fits, MayRefer, shown_at}
-use Rattle.dangling_keys.proofs.failing.Actor.{HasFlagLinks, HasOwnLinks, actor_holds, link_by}
+use Rattle.dangling_keys.proofs.failing.Actor.{HasFlagLinks, HasOwnLinks, actor_holds, actor_rooted, link_by}
+use Rattle.dangling_keys.proofs.failing.ShownValues.{IsSupportedWhole, own_root, partner_roots, shown_is}
 use Rattle.dangling_keys.proofs.referring.EntityParts as parts
 use Rattle.dangling_keys.proofs.left_out.EntityRead as reading
 use Rattle.dangling_keys.proofs.referring.ShownEntity as at_key
@@ -65,11 +71,11 @@ use Rattle.dangling_keys.proofs.referring.Fitting.{IsPartOrOuter}
 use Rattle.dangling_keys.proofs.left_out.FlowValues.{flow_admissible}
 use Rattle.dangling_keys.proofs.referring.KeyNumbers.{same_side}
 use Rattle.dangling_keys.proofs.left_out.LeftOut as left
-use Rattle.dangling_keys.proofs.left_out.LeftOut.{fresh_there}
+use Rattle.dangling_keys.proofs.left_out.LeftOut.{symbol_held}
 use Rattle.dangling_keys.proofs.referring.NoRow.{HasShownKey, none_found}
 use Rattle.dangling_keys.proofs.failing.OtherState as other
 use Rattle.dangling_keys.proofs.failing.OtherValues.{other_allowed, other_key_is, other_part, other_short, partner_numbered}
-use Rattle.dangling_keys.proofs.referring.Shown.{entity_shown, told_entity}
+use Rattle.dangling_keys.proofs.referring.Shown.{FailsShown, entity_place, entity_shown, told_entity}
 use Rattle.dangling_keys.proofs.referring.Target.{IsShown, shown_fails}
 
 module _ (basis : Basis) (is : IsBasis basis) (limits : IsWithinLimits basis.schema) (none : NoneFailsBy basis.schema kind.Clash) (s : SetId) (region : Region) (listed : Contains (regions_of basis s) region)
@@ -188,14 +194,24 @@ module _ (basis : Basis) (is : IsBasis basis) (limits : IsWithinLimits basis.sch
   q_of : HasRegion basis outer q.set q
   q_of = record { is = is; limits = limits; row = row; listed = q_listed }
 
+  abbrev given_value : PropId → Value
+  given_value = shown_value basis The key pairing
+
+  -- a part of its key is what is shown
+  given_is : (p : PropId) → Contains (set_key model q.set) p → given_value p ≡ value_of model e p
+  given_is p part = shown_is basis outer The key values usual (λ it i flow. sym (symbol_held basis is limits outer row s region listed not_null open_ it i flow)) pairing e e_shown cell_parts
+      (λ pair has. numbered pair.prop (in_key pair has)) p
+      (All-contains (Contains (props_in pairing)) (key_props model owns.owned.set.element) p owns.owned.paired
+      (subst (λ (props : List PropId). Contains props p) (set_key_is model is.sound.model q.set owns.owned.set owns.owned.is_set) part))
+
   abbrev q_values : Valuation
-  q_values = other_values basis outer q e
+  q_values = principal_values basis The key pairing q
 
   abbrev p_entity : Entity
   p_entity = focus_entity basis q q_values
 
   p_key : other_key basis outer q q_values ≡ key_of model e
-  p_key = other_key_is basis outer q.set q q_of x.state x.legal e e_stands numbered
+  p_key = other_key_is basis outer q.set q q_of x.state x.legal e e_stands numbered given_value given_is
 
   not_numbered : IsNotNumbered model outer q.set (other_key basis outer q q_values)
   not_numbered number below equal = never_numbered number below (sym p_key ∙ equal)
@@ -295,14 +311,14 @@ module _ (basis : Basis) (is : IsBasis basis) (limits : IsWithinLimits basis.sch
       (sym (ap (end_key own.host.first_hosts) own.link_is ∙ near_key own.host.first_hosts x_key told) ∙ subst EndKey same_first at_key ∙ p_key)
 
   q_allowed : IsAllowed basis q q_values
-  q_allowed = other_allowed basis outer q.set q q_of x.state x.legal e e_stands numbered
+  q_allowed = other_allowed basis outer q.set q q_of x.state x.legal e e_stands numbered given_value given_is
 
   q_short : (p : PropId) → Contains (props_of model q.ty) p → IsDependent model p → q_values.prop p ≢ Null → IsShort (q_values.prop p)
-  q_short = other_short basis outer q.set q q_of x.state x.legal e e_stands numbered
+  q_short = other_short basis outer q.set q q_of x.state x.legal e e_stands numbered given_value given_is
 
   far_numbered : (host : Host) (assoc : Assoc) → IsLinkedHost basis q.set q host assoc
       → told_key basis q_values host assoc ≡ numbered_key model outer (partner_end host.first_hosts assoc).set (end_number (not host.first_hosts) host.assoc)
-  far_numbered = partner_numbered basis outer q.set q q_of x.state x.legal e e_stands numbered
+  far_numbered = partner_numbered basis outer q.set q q_of x.state x.legal e e_stands numbered given_value given_is
 
   first_given : AreGiven model outer given
   first_given = given_well basis outer s region usual hosts wanted made
@@ -328,15 +344,31 @@ module _ (basis : Basis) (is : IsBasis basis) (limits : IsWithinLimits basis.sch
   q_holds : HoldsFocus basis q q_values c
   q_holds = other.other_holds basis outer q q_of q_values q_allowed q_short not_numbered far_numbered given first_given first_short links first_links.once first_links.few ends replaced apart_at
 
+  -- the small part of the state
+  abbrev roots : List PlacedKey
+  roots = both_roots basis The key pairing q
+
+  abbrev small : State
+  small = both_state basis The key pairing q
+
+  legal : (it : State) → Contains (c ∷ []) it → IsLegal model it
+  legal it has = subst (IsLegal model) (sym (only_member (c ∷ []) c it refl has)) q_holds.legal
+
+  q_small : HoldsFocus basis q q_values small
+  q_small = focus_left basis is (c ∷ []) legal roots c (contains_head c []) q q_values
+      (other.other_rooted basis outer q q_of q_values q_allowed q_short not_numbered far_numbered given first_given first_short links first_links.once first_links.few ends replaced apart_at roots
+      (own_root basis is The key pairing q q_listed (map (key_of_placed basis outer) given)) (partner_roots basis is The key pairing q q_listed (map (key_of_placed basis outer) given)))
+      q_holds
+
   abbrev p : LinkedEntity basis
   p = record {
-    state = c;
-    legal = q_holds.legal;
+    state = small;
+    legal = q_small.legal;
     s = q.set;
     entity = p_entity;
     region = q;
     part = q_values.part;
-    held = focus_held basis is (record { s = q.set; region = q; listed = q_listed; values = q_values }) q_allowed c q_holds;
+    held = focus_held basis is (record { s = q.set; region = q; listed = q_listed; values = q_values }) q_allowed small q_small;
   }
 
   -- the focus stands there too
@@ -399,25 +431,64 @@ module _ (basis : Basis) (is : IsBasis basis) (limits : IsWithinLimits basis.sch
       (other.other_linked basis outer q q_of q_values q_allowed q_short not_numbered far_numbered given first_given first_short links first_links.once first_links.few ends replaced apart_at)
       x_given own_links_x flag_links_x
 
+  given_root : (placed : Placed) → Contains given placed → Contains roots (key_of_placed basis outer placed)
+  given_root placed has = Contains-append_left (map (key_of_placed basis outer) given) (principal_roots basis The key pairing q) (key_of_placed basis outer placed)
+      (contains_map (key_of_placed basis outer) given placed has)
+
+  x_partner : (host : Host) (assoc : Assoc) → IsLinkedHost basis s region host assoc
+      → Contains roots (record { set = (end_of (not host.first_hosts) assoc).set; key = told_key basis usual host assoc })
+  x_partner host assoc by =
+      let partner : Placed = partner_of basis outer usual host assoc in
+      let there : Contains given partner = contains_tail (focus basis region usual) (flat_map (by_assoc basis (partner_of basis outer usual)) hosts) partner
+      (contains_flat_map (by_assoc basis (partner_of basis outer usual)) hosts host partner (is_linked_host basis is s region listed host by.hosts by.linked)
+      (to_assoc basis (partner_of basis outer usual) host assoc by.is_assoc)) in
+      let same : key_of_placed basis outer partner ≡ record { set = (end_of (not host.first_hosts) assoc).set; key = told_key basis usual host assoc } =
+      λ k. record {
+        set = ap (λ (end : End). end.set) (partner_side host.first_hosts assoc) k;
+        key = first.partner_has basis outer s region of usual made.admissible host assoc by k;
+      } in
+      subst (Contains roots) same (given_root partner there)
+
+  x_small : HoldsFocus basis region usual small
+  x_small = focus_left basis is (c ∷ []) legal roots c (contains_head c []) region usual
+      (actor_rooted basis outer s region of usual all_given all_keys all_links
+      (other.other_given_well basis outer q q_of q_values q_allowed q_short not_numbered far_numbered given first_given first_short)
+      (other.other_keys_well basis outer q q_of q_values q_allowed q_short not_numbered far_numbered given first_given first_short)
+      (other.other_linked basis outer q q_of q_values q_allowed q_short not_numbered far_numbered given first_given first_short links first_links.once first_links.few ends replaced apart_at)
+      x_given own_links_x flag_links_x roots
+      (given_root (focus basis region usual) (contains_head (focus basis region usual) (flat_map (by_assoc basis (partner_of basis outer usual)) hosts))) x_partner)
+      x_holds
+
   abbrev x_new : LinkedEntity basis
   x_new = record {
-    state = c;
-    legal = x_holds.legal;
+    state = small;
+    legal = x_small.legal;
     s = s;
     entity = x.entity;
     region = region;
     part = usual.part;
-    held = focus_held basis is (record { s = s; region = region; listed = listed; values = usual }) (flow_admissible basis outer s region of not_null open_).allowed c x_holds;
+    held = focus_held basis is (record { s = s; region = region; listed = listed; values = usual }) (flow_admissible basis outer s region of not_null open_).allowed small x_small;
   }
 
-  shown : IsShown basis (told_entity basis is x_new) key c
+  shown : IsShown basis (told_entity basis is x_new) key small
   shown = entity_shown basis is none key is_key x_new may no_null
 
   p_shown : HasShownKey basis The key values pairing p_entity
   p_shown pair has =
       let told = e_shown pair has in
-      (told.0, told.1, told.2, other_part basis outer q.set q q_of x.state x.legal e e_stands numbered pair.prop (in_key pair has) ∙ told.3)
+      (told.0, told.1, told.2, other_part basis outer q.set q q_of x.state x.legal e e_stands numbered given_value given_is pair.prop (in_key pair has) ∙ told.3)
 
-  pub other_fails : FailsBy basis key
-  other_fails = shown_fails basis is (told_entity basis is x_new) key c shown (λ target at alike.
-      none_found basis is (told_entity basis is x_new) key c shown q.set pairing owns p refl refl p_shown no_row target at alike)
+  pub other_fails : FailsShown basis The key small
+  unfolding shown
+  other_fails = record {
+    place = place_at shown.table.name (row_key shown.table shown.row) key.name;
+    at = shown_fails basis is (told_entity basis is x_new) key small shown (λ target at alike.
+        none_found basis is (told_entity basis is x_new) key small shown q.set pairing owns p refl refl p_shown no_row target at alike);
+    only = λ it named. entity_place basis is none key is_key x_new may no_null it (subst (λ u. IsEntityRow basis key.from key.name u x.entity it) (set_is basis s region listed) named);
+  }
+
+  pub other_supported : IsSupportedWhole basis The key pairing q
+  other_supported = record {
+    legal = q_holds.legal;
+    short = other.other_short_wanted basis outer q q_of q_values q_allowed q_short not_numbered far_numbered given first_given first_short;
+  }

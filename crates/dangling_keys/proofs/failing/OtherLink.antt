@@ -1,11 +1,12 @@
--- A foreign key that dangles at a link, where an entity that may lack the row has the key that is shown: some legal state fails.
-use Rattle.std.proofs.Common.{◌≡◌, ◌≢◌, ◌⊎◌, ⊎_elim, inl, inr, ℕ, ◌<◌, ◌≤◌, List, [], ◌∷◌, ◌++◌, map, AllPairs, Contains, Bool, true, false, not, refl, sym, ap, subst, ◌∙◌, arith}
-use Rattle.std.proofs.lemmas.List.Elements.{Contains-append_left}
-use Rattle.emc_base.proofs.Lists.{at_once}
+-- A foreign key that dangles at a link, where an entity that may lack the row has the key that is shown: the small state of both fails.
+use Rattle.std.proofs.Common.{◌≡◌, ◌≢◌, ◌⊎◌, ⊎_elim, inl, inr, ℕ, ◌<◌, ◌≤◌, List, [], ◌∷◌, ◌++◌, map, AllPairs, Contains, Bool, true, false, not, Option, refl, sym, ap, subst, ◌∙◌, arith}
+use Rattle.std.specs.Option.{option_map_or}
+use Rattle.std.proofs.lemmas.List.Elements.{All-contains, Contains-append_left}
+use Rattle.emc_base.proofs.Lists.{at_once, only_member}
 use Rattle.emc_base.proofs.Mapped.{contains_map}
 use Rattle.emc_base.proofs.Members.{contains_cons_cases, contains_head, contains_nil, contains_tail}
 use Rattle.emc_base.proofs.Numbered.{map_contains}
-use Rattle.round_trip.specs.Words.{Assoc, AssocId, End, Entity, EntityModel, ForeignKey, IsA, Kind, Link, LinkFragment, Null, Pair, PropId, SetId, State, Value, At, entities_in, key_of, links_in, props_of, value_of}
+use Rattle.round_trip.specs.Words.{Assoc, AssocId, End, Entity, EntityModel, ForeignKey, IsA, IsLegal, Kind, Link, LinkFragment, Null, Pair, PropId, SetId, State, Value, At, entities_in, key_of, key_props, links_in, place_at, props_of, row_key, value_of}
 use Rattle.edm_types.specs.declared.model.Mult.TheVariants.{Many}
 use Rattle.round_trip.specs.declared.FailKind.TheVariants as kind
 use Rattle.round_trip.specs.soundness.Lookups.{set_key}
@@ -13,7 +14,7 @@ use Rattle.round_trip.specs.soundness.mappings.Joined.{IsDependent}
 use Rattle.round_trip.specs.soundness.models.Constraints.{IsSoundEnd}
 use Rattle.schema_laws.specs.short_values.Fresh.{fresh, most_indices}
 use Rattle.schema_laws.specs.short_values.Short.{IsShort}
-use Rattle.schema_laws.specs.state_demand.Owners.{IsJoinedTo}
+use Rattle.schema_laws.specs.state_demand.Owners.{IsJoinedTo, props_in}
 use Rattle.cells.specs.Limits.{IsWithinLimits}
 use Rattle.regions.specs.Basis.{Basis, Host, partner_end}
 use Rattle.regions.specs.Patterns.{Valuation, pattern_of, value_under}
@@ -30,10 +31,15 @@ use Rattle.region_states.specs.HoldsFocus.{HoldsFocus}
 use Rattle.region_states.specs.conflicts.There.{NoneFailsBy}
 use Rattle.region_states.specs.focus.Held.{HasRow}
 use Rattle.region_states.proofs.Held.{focus_held}
+use Rattle.failure_laws.specs.SmallLinks.{both_ends}
 use Rattle.failure_laws.proofs.links.LinkRows.{told_link}
 use Rattle.population.specs.Given.{AreGiven, HasNumbers, HasShortParts, IsNotNumbered}
-use Rattle.population.specs.LinkStates.{HoldsLink, PlainEnd, at_end, key_at, of_assoc, placed_at}
+use Rattle.population.specs.LinkStates.{HoldsLink, PlainEnd, at_end, key_at, of_assoc, placed_at, plain_link}
+use Rattle.population.specs.Kept.{key_at_end, part_of}
 use Rattle.population.specs.Numbered.{end_number, end_of, number_count, numbered_key}
+use Rattle.population.proofs.plain.Numbered.{set_key_is}
+use Rattle.population.proofs.pruning.Needed.{root_needed}
+use Rattle.population.proofs.pruning.NeededParts.{holds_needed}
 use Rattle.population.specs.Principals.{principals}
 use Rattle.population.specs.Support.{support}
 use Rattle.population.specs.Supported.{added_at, end_key, links_of}
@@ -44,6 +50,8 @@ use Rattle.population.proofs.supporting.Ends.{are_given, end_has_key, end_princi
 use Rattle.population.proofs.supporting.Entities.{links_are}
 use Rattle.population.proofs.supporting.Links.{linked_is}
 use Rattle.host_states.specs.FocusStates.{told_key}
+use Rattle.host_states.specs.SmallStates.{key_of_placed}
+use Rattle.host_states.proofs.small.Small.{focus_left}
 use Rattle.host_states.proofs.focus.Focus.{HasRegion}
 use Rattle.host_states.proofs.focus.HostEnds.{IsLinkedHost}
 use Rattle.forced_entities.specs.Forced.{IsForced}
@@ -51,10 +59,11 @@ use Rattle.forced_entities.specs.Held.{HoldsForced}
 use Rattle.forced_entities.specs.declared.member.Forced.{Forced}
 use Rattle.forced_entities.proofs.Holds.{link_forces}
 use Rattle.dangling_keys.specs.Dangling.{IsThere, OwnsTable}
-use Rattle.dangling_keys.specs.Failing.{FailsBy}
+use Rattle.dangling_keys.specs.DanglingStates.{both_state, lone_given, lone_links, principal_roots, principal_values, shown_value, whole_state}
 use Rattle.dangling_keys.specs.Flow.{IsFlow}
 use Rattle.dangling_keys.specs.LeftOut.{IsMember, IsNumberKey, IsRead}
-use Rattle.dangling_keys.specs.OtherStates.{other_given, other_key, other_links, other_state, other_values, other_wanted}
+use Rattle.dangling_keys.specs.FlowStates.{values_of_focus}
+use Rattle.dangling_keys.specs.OtherStates.{other_given, other_key, other_links, other_state, other_wanted}
 use Rattle.dangling_keys.specs.Showing.{Fits, MayRefer, shown_at}
 use Rattle.dangling_keys.proofs.referring.EntityParts.{shown_parts}
 use Rattle.dangling_keys.proofs.referring.Fitting.{IsPartOrOuter}
@@ -63,8 +72,9 @@ use Rattle.dangling_keys.proofs.failing.LinkFails as first
 use Rattle.dangling_keys.proofs.left_out.LinkRead as reading
 use Rattle.dangling_keys.proofs.referring.NoRow.{HasShownKey, none_found}
 use Rattle.dangling_keys.proofs.failing.OtherState as other
+use Rattle.dangling_keys.proofs.failing.ShownValues.{IsSupportedWhole, own_root, partner_roots, shown_is}
 use Rattle.dangling_keys.proofs.failing.OtherValues.{other_allowed, other_key_is, other_part, other_short, partner_numbered}
-use Rattle.dangling_keys.proofs.referring.Shown.{link_shown}
+use Rattle.dangling_keys.proofs.referring.Shown.{FailsShown, link_place, link_shown}
 use Rattle.dangling_keys.proofs.referring.ShownEntity as at_key
 use Rattle.dangling_keys.proofs.referring.Target.{IsShown, shown_fails}
 
@@ -155,27 +165,40 @@ module _ (basis : Basis) (is : IsBasis basis) (limits : IsWithinLimits basis.sch
   q_of : HasRegion basis outer q.set q
   q_of = record { is = is; limits = limits; row = row; listed = q_listed }
 
+  abbrev given_value : PropId → Value
+  given_value = shown_value basis The key pairing
+
+  values_are : values_of_focus basis outer The not_null ≡ values
+  values_are = reading.link_values_are basis is outer has fragment.assoc assoc here not_null
+
+  -- a part of its key is what is shown
+  given_is : (p : PropId) → Contains (set_key model q.set) p → given_value p ≡ value_of model e p
+  given_is p part = shown_is basis outer The key values (values_of_focus basis outer The not_null) (λ it i flow. ap (λ (made : Valuation). value_under made it) values_are) pairing e e_shown cell_parts
+      (λ pair among. numbered pair.prop (in_key pair among)) p
+      (All-contains (Contains (props_in pairing)) (key_props model owns.owned.set.element) p owns.owned.paired
+      (subst (λ (props : List PropId). Contains props p) (set_key_is model is.sound.model q.set owns.owned.set owns.owned.is_set) part))
+
   abbrev q_values : Valuation
-  q_values = other_values basis outer q e
+  q_values = principal_values basis The key pairing q
 
   abbrev p_entity : Entity
   p_entity = focus_entity basis q q_values
 
   p_key : other_key basis outer q q_values ≡ key_of model e
-  p_key = other_key_is basis outer q.set q q_of first_state first_held.legal e e_stands numbered
+  p_key = other_key_is basis outer q.set q q_of first_state first_held.legal e e_stands numbered given_value given_is
 
   not_numbered : IsNotNumbered model outer q.set (other_key basis outer q q_values)
   not_numbered number below equal = never_numbered number below (sym p_key ∙ equal)
 
   q_allowed : IsAllowed basis q q_values
-  q_allowed = other_allowed basis outer q.set q q_of first_state first_held.legal e e_stands numbered
+  q_allowed = other_allowed basis outer q.set q q_of first_state first_held.legal e e_stands numbered given_value given_is
 
   q_short : (p : PropId) → Contains (props_of model q.ty) p → IsDependent model p → q_values.prop p ≢ Null → IsShort (q_values.prop p)
-  q_short = other_short basis outer q.set q q_of first_state first_held.legal e e_stands numbered
+  q_short = other_short basis outer q.set q q_of first_state first_held.legal e e_stands numbered given_value given_is
 
   far_numbered : (host : Host) (also : Assoc) → IsLinkedHost basis q.set q host also
       → told_key basis q_values host also ≡ numbered_key model outer (partner_end host.first_hosts also).set (end_number (not host.first_hosts) host.assoc)
-  far_numbered = partner_numbered basis outer q.set q q_of first_state first_held.legal e e_stands numbered
+  far_numbered = partner_numbered basis outer q.set q q_of first_state first_held.legal e e_stands numbered given_value given_is
 
   -- the entities at the ends, and the link
   abbrev both : List PlainEnd
@@ -193,16 +216,16 @@ module _ (basis : Basis) (is : IsBasis basis) (limits : IsWithinLimits basis.sch
   sound : (end : PlainEnd) → Contains both end → IsSoundEnd model end.end
   sound = reading.sound basis is outer has fragment.assoc assoc here not_null
 
-  small : (end : PlainEnd) → Contains both end → end.index ≤ 1900
-  small = reading.small basis is outer has fragment.assoc assoc here not_null
+  small_end : (end : PlainEnd) → Contains both end → end.index ≤ 1900
+  small_end = reading.small basis is outer has fragment.assoc assoc here not_null
 
   first_given : AreGiven model outer given
-  first_given = are_given model outer has both sound small (reading.apart basis is outer has fragment.assoc assoc here not_null)
+  first_given = are_given model outer has both sound small_end (reading.apart basis is outer has fragment.assoc assoc here not_null)
 
   first_short : (placed : Placed) → Contains given placed → (to : PlacedKey) → Contains (principals model placed.set placed.entity) to → HasShortParts model to.set to.key
   first_short placed there to asked =
       let found = map_contains (placed_at model outer) both placed there in
-      end_principals model outer has found.0 (sound found.0 found.1) (small found.0 found.1) to
+      end_principals model outer has found.0 (sound found.0 found.1) (small_end found.0 found.1) to
       (subst (λ (it : Placed). Contains (principals model it.set it.entity) to) (sym found.2) asked)
 
   -- of one link there is one
@@ -241,8 +264,8 @@ module _ (basis : Basis) (is : IsBasis basis) (limits : IsWithinLimits basis.sch
     placed_at model outer (end side),
     contains_map (placed_at model outer) both (end side) (end_there side),
     refl,
-    end_typed model outer has (end side) (sound (end side) (end_there side)) (small (end side) (end_there side)),
-    end_has_key model outer has (end side) (sound (end side) (end_there side)) (small (end side) (end_there side)) ∙ link_key side,
+    end_typed model outer has (end side) (sound (end side) (end_there side)) (small_end (end side) (end_there side)),
+    end_has_key model outer has (end side) (sound (end side) (end_there side)) (small_end (end side) (end_there side)) ∙ link_key side,
   )
 
   ends : (placed : PlacedLink) → Contains links placed → (also : Assoc) → At model.assocs placed.assoc.index also → (side : Bool) → EndIsGiven (end_of side also) (end_key side placed.link)
@@ -281,15 +304,34 @@ module _ (basis : Basis) (is : IsBasis basis) (limits : IsWithinLimits basis.sch
   q_holds : HoldsFocus basis q q_values c
   q_holds = other.other_holds basis outer q q_of q_values q_allowed q_short not_numbered far_numbered given first_given first_short links (alone (λ x y. x ≢ y)) first_few ends replaced apart_at
 
+  -- the small part of the state
+  abbrev first_roots : List PlacedKey
+  first_roots = map (key_of_placed basis outer) given
+
+  abbrev roots : List PlacedKey
+  roots = first_roots ++ principal_roots basis The key pairing q
+
+  abbrev small : State
+  small = part_of model (c ∷ []) roots c
+
+  legal : (it : State) → Contains (c ∷ []) it → IsLegal model it
+  legal it there = subst (IsLegal model) (sym (only_member (c ∷ []) c it refl there)) q_holds.legal
+
+  q_small : HoldsFocus basis q q_values small
+  q_small = focus_left basis is (c ∷ []) legal roots c (contains_head c []) q q_values
+      (other.other_rooted basis outer q q_of q_values q_allowed q_short not_numbered far_numbered given first_given first_short links (alone (λ x y. x ≢ y)) first_few ends replaced apart_at roots
+      (own_root basis is The key pairing q q_listed first_roots) (partner_roots basis is The key pairing q q_listed first_roots))
+      q_holds
+
   abbrev p : LinkedEntity basis
   p = record {
-    state = c;
-    legal = q_holds.legal;
+    state = small;
+    legal = q_small.legal;
     s = q.set;
     entity = p_entity;
     region = q;
     part = q_values.part;
-    held = focus_held basis is (record { s = q.set; region = q; listed = q_listed; values = q_values }) q_allowed c q_holds;
+    held = focus_held basis is (record { s = q.set; region = q; listed = q_listed; values = q_values }) q_allowed small q_small;
   }
 
   -- the link stands there too
@@ -305,14 +347,60 @@ module _ (basis : Basis) (is : IsBasis basis) (limits : IsWithinLimits basis.sch
       ∙ linked_is model outer all_given all_keys all_links fragment.assoc assoc here (first.independent basis is limits none fragment assoc key is_key joined may)))
       (Contains-append_left own (added_at model outer all_given all_keys true fragment.assoc assoc own ++ added_at model outer all_given all_keys false fragment.assoc assoc own) link among)
 
-  shown : IsShown basis (told_link basis is key.from fragment assoc joined c q_holds.legal link stands) key c
-  shown = link_shown basis is none key is_key fragment assoc joined c q_holds.legal link stands may
+  -- and in the part
+  end_root : (side : Bool) → Contains roots (key_at_end side assoc link)
+  end_root side =
+      let placed : Placed = placed_at model outer (end side) in
+      let same : key_of_placed basis outer placed ≡ key_at_end side assoc link = λ k. record {
+        set = ap (λ (it : End). it.set) (end_is side) k;
+        key = (end_has_key model outer has (end side) (sound (end side) (end_there side)) (small_end (end side) (end_there side)) ∙ link_key side) k;
+      } in
+      subst (Contains roots) same (Contains-append_left first_roots (principal_roots basis The key pairing q) (key_of_placed basis outer placed)
+      (contains_map (key_of_placed basis outer) given placed (contains_map (placed_at model outer) both (end side) (end_there side))))
+
+  stands_small : Contains (links_in small fragment.assoc) link
+  stands_small = ((holds_needed model (c ∷ []) roots c q_holds.legal).links fragment.assoc assoc here link).1
+      (stands, λ side. root_needed model (c ∷ []) roots (key_at_end side assoc link) (end_root side))
+
+  shown : IsShown basis (told_link basis is key.from fragment assoc joined small q_small.legal link stands_small) key small
+  shown = link_shown basis is none key is_key fragment assoc joined small q_small.legal link stands_small may
 
   p_shown : HasShownKey basis The key values pairing p_entity
   p_shown pair among =
       let told = e_shown pair among in
-      (told.0, told.1, told.2, other_part basis outer q.set q q_of first_state first_held.legal e e_stands numbered pair.prop (in_key pair among) ∙ told.3)
+      (told.0, told.1, told.2, other_part basis outer q.set q q_of first_state first_held.legal e e_stands numbered given_value given_is pair.prop (in_key pair among) ∙ told.3)
 
-  pub other_link_fails : FailsBy basis key
-  other_link_fails = shown_fails basis is (told_link basis is key.from fragment assoc joined c q_holds.legal link stands) key c shown (λ target at alike.
-      none_found basis is (told_link basis is key.from fragment assoc joined c q_holds.legal link stands) key c shown q.set pairing owns p refl refl p_shown no_row target at alike)
+  small_fails : FailsShown basis The key small
+  unfolding shown
+  small_fails = record {
+    place = place_at shown.table.name (row_key shown.table shown.row) key.name;
+    at = shown_fails basis is (told_link basis is key.from fragment assoc joined small q_small.legal link stands_small) key small shown (λ target at alike.
+        none_found basis is (told_link basis is key.from fragment assoc joined small q_small.legal link stands_small) key small shown q.set pairing owns p refl refl p_shown no_row target at alike);
+    only = link_place basis is none key is_key fragment assoc joined small q_small.legal link stands_small may outer refl;
+  }
+
+  -- the state is made of the entities at the ends and of the link
+  given_are : lone_given basis The key ≡ given
+  given_are = ap (λ (found : Option Assoc). option_map_or (λ (it : Assoc). map (placed_at model outer) (both_ends model outer fragment.assoc it)) found []) here
+
+  links_are_so : lone_links basis The key ≡ links
+  links_are_so = ap (λ (found : Option Assoc). option_map_or (λ (it : Assoc). of_assoc model outer fragment.assoc (plain_link model outer it) ∷ []) found []) here
+
+  abbrev State_of : List Placed → List PlacedLink → State
+  State_of some_given some_links = part_of model (other_state basis outer q q_values some_given some_links ∷ []) (map (key_of_placed basis outer) some_given ++ principal_roots basis The key pairing q)
+      (other_state basis outer q q_values some_given some_links)
+
+  pub other_link_fails : FailsShown basis The key (both_state basis The key pairing q)
+  other_link_fails =
+      let same : both_state basis The key pairing q ≡ small = λ k. State_of (given_are k) (links_are_so k) in
+      subst (FailsShown basis The key) (sym same) small_fails
+
+  pub other_link_supported : IsSupportedWhole basis The key pairing q
+  other_link_supported =
+      let Whole : List Placed → List PlacedLink → State = other_state basis outer q q_values in
+      let whole_is : c ≡ whole_state basis The key pairing q = λ k. Whole (sym given_are k) (sym links_are_so k) in
+      let Short : List Placed → Type 0 = λ all. (to : PlacedKey) → Contains (other_wanted basis outer q q_values all) to → HasShortParts model to.set to.key in
+      record {
+        legal = subst (IsLegal model) whole_is q_holds.legal;
+        short = subst Short (sym given_are) (other.other_short_wanted basis outer q q_of q_values q_allowed q_short not_numbered far_numbered given first_given first_short);
+      }

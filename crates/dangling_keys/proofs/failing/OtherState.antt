@@ -57,7 +57,8 @@ use Rattle.host_states.proofs.focus.Focus.{HasRegion, domain_sort, in_set, numbe
 use Rattle.host_states.proofs.focus.FocusLinks.{side_cases}
 use Rattle.host_states.proofs.focus.HostEnds.{IsLinkedHost, from_assoc, is_linked_host, linked_is, linked_order, near_covers, near_set, pairs_of_hosts, partner_side, to_assoc}
 use Rattle.dangling_keys.specs.OtherStates.{keeps, other_given, other_key, other_links, other_state, other_wanted, own_links}
-use Rattle.dangling_keys.proofs.failing.Actor.{HasFlagLinks, HasOwnLinks, actor_holds, link_by}
+use Rattle.host_states.proofs.small.Small.{IsRooted}
+use Rattle.dangling_keys.proofs.failing.Actor.{HasFlagLinks, HasOwnLinks, actor_holds, actor_rooted, link_by}
 
 -- pairs of the given entities of each set are pairs of given entities
 pairs_of_given : (R : Entity → Entity → Type 0) (given : List Placed) → ((u : SetId) → AllPairs R (given_in given u)) → AllPairs (λ x y. x.set ≡ y.set → R x.entity y.entity) given
@@ -230,6 +231,10 @@ module _ (basis : Basis) (outer : ℕ) (region : Region) (of : HasRegion basis o
             → Contains (principals model placed.set placed.entity) to → HasShortParts model to.set to.key
         short_of placed (inl is) to asked = other_principals to (subst (λ (one : Placed). Contains (principals model one.set one.entity) to) is asked)
         short_of placed (inr kept) to asked = first_short placed kept.0 to asked
+
+    -- what it asks for has short keys
+    pub other_short_wanted : (to : PlacedKey) → Contains wanted to → HasShortParts model to.set to.key
+    other_short_wanted = are_wanted.short
 
     pub other_keys_well : AreKeys model outer all_given keys
     other_keys_well = support_fits model outer (numbers basis outer region.set region of) all_given wanted other_given_well are_wanted
@@ -447,4 +452,12 @@ module _ (basis : Basis) (outer : ℕ) (region : Region) (of : HasRegion basis o
       -- the state holds the entity, with its partners
       pub other_holds : HoldsFocus basis region values (other_state basis outer region values given links)
       other_holds = actor_holds basis outer region.set region of values all_given keys all_links other_given_well other_keys_well other_linked
+          (from_given all_given (focus basis region values) (contains_head (focus basis region values) (filter (keeps basis outer region values) given))) own_at flags_at
+
+      -- and roots that hold its key and those of its partners name both ends of its links
+      pub other_rooted : (roots : List PlacedKey) → Contains roots (record { set = region.set; key = K })
+          → ((host : Host) (assoc : Assoc) → IsLinkedHost basis region.set region host assoc
+          → Contains roots (record { set = (end_of (not host.first_hosts) assoc).set; key = told_key basis values host assoc }))
+          → IsRooted basis roots (other_state basis outer region values given links) region values
+      other_rooted = actor_rooted basis outer region.set region of values all_given keys all_links other_given_well other_keys_well other_linked
           (from_given all_given (focus basis region values) (contains_head (focus basis region values) (filter (keeps basis outer region values) given))) own_at flags_at

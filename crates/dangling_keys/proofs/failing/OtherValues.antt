@@ -40,7 +40,8 @@ use Rattle.host_states.proofs.focus.HostEnds.{IsLinkedHost, far_sound}
 
 module _ (basis : Basis) (outer : ℕ) (u : SetId) (region : Region) (of : HasRegion basis outer u region) (c : State) (legal : IsLegal basis.schema.model c) (e : Entity)
     (stands : Contains (entities_in c u) e)
-    (numbered : (p : PropId) → Contains (set_key basis.schema.model u) p → (k : Kind) × (i : ℕ) × (i < most_indices) × (value_of basis.schema.model e p ≡ fresh k outer i)) where
+    (numbered : (p : PropId) → Contains (set_key basis.schema.model u) p → (k : Kind) × (i : ℕ) × (i < most_indices) × (value_of basis.schema.model e p ≡ fresh k outer i))
+    (given : PropId → Value) (alike : (p : PropId) → Contains (set_key basis.schema.model u) p → given p ≡ value_of basis.schema.model e p) where
   abbrev model : EntityModel
   model = basis.schema.model
 
@@ -48,7 +49,7 @@ module _ (basis : Basis) (outer : ℕ) (u : SetId) (region : Region) (of : HasRe
   keys = key_props model region.ty
 
   abbrev values : Valuation
-  values = other_values basis outer region e
+  values = other_values basis outer region given
 
   abbrev usual : Valuation
   usual = default_valuation basis outer region
@@ -56,10 +57,16 @@ module _ (basis : Basis) (outer : ℕ) (u : SetId) (region : Region) (of : HasRe
   usual_is : IsAdmissible basis outer region usual
   usual_is = default_admissible basis of.is of.limits u region of.listed outer of.row
 
+  key_same : keys ≡ set_key model u
+  key_same = region_key basis outer u region of
+
+  alike_in : (p : PropId) → Contains keys p → given p ≡ value_of model e p
+  alike_in p part = alike p (subst (λ (props : List PropId). Contains props p) key_same part)
+
   -- a value is the entity's, or a usual one
   by_key : (p : PropId) (P : Value → Type 0) → (Contains keys p → P (value_of model e p)) → (¬ Contains keys p → P (usual.prop p)) → P (values.prop p)
-  by_key p P part other = cond_both (is_among p keys) (value_of model e p) (usual.prop p) P
-      (λ told. part ((Decides-among keys p).0 told))
+  by_key p P part other = cond_both (is_among p keys) (given p) (usual.prop p) P
+      (λ told. let among = (Decides-among keys p).0 told in subst P (sym (alike_in p among)) (part among))
       (λ told. other (not_from_Decides (is_among p keys) (Decides-among keys p) told))
 
   -- the set, of whose key the parts are
@@ -69,14 +76,11 @@ module _ (basis : Basis) (outer : ℕ) (u : SetId) (region : Region) (of : HasRe
   fits : HasFittingType model set.0 e
   fits = All-contains (HasFittingType model set.0) (entities_in c u) e (legal.sets u set.0 set.1).types stands
 
-  key_same : keys ≡ set_key model u
-  key_same = region_key basis outer u region of
-
   own_keys : key_props model e.ty ≡ set_key model u
   own_keys = (inherits_keys model of.is.sound.model).same e.ty set.0.element fits.under ∙ sym (set_key_is model of.is.sound.model u set.0 set.1)
 
   key_value : (p : PropId) → Contains keys p → values.prop p ≡ value_of model e p
-  key_value p part = cond-true (is_among p keys) (value_of model e p) (usual.prop p) ((Decides-among keys p).1 part)
+  key_value p part = cond-true (is_among p keys) (given p) (usual.prop p) ((Decides-among keys p).1 part) ∙ alike_in p part
 
   -- it has the entity's key
   pub other_key_is : key_of model (focus_entity basis region values) ≡ key_of model e

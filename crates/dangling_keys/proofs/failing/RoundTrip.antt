@@ -10,17 +10,23 @@ use Rattle.region_states.specs.conflicts.There.{NoneFailsBefore, NoneFailsBy}
 use Rattle.conflict_laws.proofs.Exact.{exact}
 use Rattle.failure_laws.proofs.links.LinkExact.{links_exact}
 use Rattle.failure_laws.proofs.places.There.{links_fail, none_fails, set_fails}
-use Rattle.dangling_keys.specs.NoConflicts.{HasNoConflicts}
+use Rattle.dangling_keys.specs.Laws.{HasNoConflicts, IsSoundBasis}
 use Rattle.dangling_keys.proofs.failing.Whole.{told_fails}
 use Rattle.dangling_keys.proofs.told.Told.{dangling_told}
 
-module _ (basis : Basis) (is : IsBasis basis) (limits : IsWithinLimits basis.schema) where
+module _ (basis : Basis) (sound : IsSoundBasis basis) where
+  is : IsBasis basis
+  is = sound.is_basis
+
+  limits : IsWithinLimits basis.schema
+  limits = sound.limits
+
   module _ (nothing : HasNoConflicts basis) where
     -- none fails by a kind by which none before fails
     by_kind : (of : FailKind) → of ≢ kind.Dangling → NoneFailsBefore basis.schema of → NoneFailsBy basis.schema of
     by_kind of other before = none_fails basis is limits of other before
-        (λ s set here fails. let found = (exact basis is limits of before s).1 fails in nothing.sets of other s set here found.0 found.1)
-        (λ a assoc here fails. let found = (links_exact basis is limits of before a).1 fails in nothing.links of other a assoc here found.0 found.1)
+        (λ s set here fails. let found = (exact basis is limits of before s).1 fails in nothing.sets of s set here found.0 found.1)
+        (λ a assoc here fails. let found = (links_exact basis is limits of before a).1 fails in nothing.links of a assoc here found.0 found.1)
 
     none_clash : NoneFailsBy basis.schema kind.Clash
     none_clash = by_kind kind.Clash not_this before
@@ -87,13 +93,14 @@ module _ (basis : Basis) (is : IsBasis basis) (limits : IsWithinLimits basis.sch
   -- each thing that is told is of a state that fails
   nothing_told : RoundTrips basis.schema → HasNoConflicts basis
   nothing_told round_trips = record {
-    sets = λ of other s set here conflict is_conflict.
+    sets = λ of s set here conflict is_conflict.
         (let failing = set_fails basis s of ((exact basis is limits of (λ earlier less. round_trips earlier) s).0 (conflict, is_conflict)) in
         round_trips of failing.0 failing.1 failing.2 failing.3);
-    links = λ of other a assoc here conflict is_conflict.
+    links = λ of a assoc here conflict is_conflict.
         (let failing = links_fail basis a of ((links_exact basis is limits of (λ earlier less. round_trips earlier) a).0 (conflict, is_conflict)) in
         round_trips of failing.0 failing.1 failing.2 failing.3);
-    keys = λ told dangling. (let failing = told_fails basis is limits (round_trips kind.Clash) told dangling in round_trips kind.Dangling failing.place failing.state failing.state failing.fails);
+    keys = λ told dangling.
+        (let failing = told_fails basis (record { sound = sound; none = round_trips kind.Clash }) told dangling in round_trips kind.Dangling failing.place failing.state failing.state failing.at.fails);
   }
 
   pub by_conflicts : HasNoConflicts basis ↔ RoundTrips basis.schema

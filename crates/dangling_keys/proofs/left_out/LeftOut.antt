@@ -42,7 +42,7 @@ use Rattle.forced_entities.specs.declared.member.Forced.{Forced}
 use Rattle.forced_entities.proofs.Holds.{entity_forces, link_forces, own_stands}
 use Rattle.dangling_keys.specs.Flow.{IsFlow}
 use Rattle.dangling_keys.specs.FlowStates.{AreOpen, flow_state, flow_values, values_of_focus}
-use Rattle.dangling_keys.specs.LeftOut.{IsMember, IsNumberKey, IsRead, LeavesOut, ReadsPart}
+use Rattle.dangling_keys.specs.LeftOut.{IsMember, IsNumberKey, IsRead, LeavesUnforcedOut, ReadsPart}
 use Rattle.dangling_keys.proofs.left_out.EntityRead.{entity_read}
 use Rattle.dangling_keys.proofs.left_out.Flow.{flow_once, flow_small}
 use Rattle.dangling_keys.proofs.left_out.FlowValues.{flow_admissible, flow_value, given_there}
@@ -109,7 +109,7 @@ module _ (basis : Basis) (is : IsBasis basis) (limits : IsWithinLimits basis.sch
   module _ (told : (u : SetId) (entity : Entity) → Contains (entities_in state u) entity
       → IsNumberKey basis outer u (key_of basis.schema.model entity) ⊎ IsRead basis outer of values (IsMember basis of not_null) u (key_of basis.schema.model entity))
       (holds : (one : Forced) → IsMember basis of not_null one → HoldsMember basis of values state one) where
-    pub leaves_out : LeavesOut basis outer of values not_null state
+    pub leaves_out : LeavesUnforcedOut basis outer of values not_null state
     leaves_out = record {
       legal = legal;
       read = told;
@@ -194,7 +194,7 @@ module _ (basis : Basis) (is : IsBasis basis) (limits : IsWithinLimits basis.sch
   member_held one (inl own) = as_member one (subst (HoldsForced basis shown (values_at basis linked)) (sym own) (own_stands basis is.sound.model linked))
   member_held one (inr forced) = as_member one (entity_forces basis is.sound.model linked not_null entity_no_null one forced)
 
-  pub entity_leaves : LeavesOut basis outer The own_values not_null shown
+  pub entity_leaves : LeavesUnforcedOut basis outer The own_values not_null shown
   entity_leaves = leaves_out basis is limits outer row The not_null own_values shown entity_holds.legal (flow_value basis outer s region of not_null open_)
       (entity_read basis outer s region of not_null open_) member_held
 
@@ -220,11 +220,11 @@ module _ (basis : Basis) (is : IsBasis basis) (limits : IsWithinLimits basis.sch
       let held = link_forces basis is.sound.model (link_at (flow_state basis outer Link_focus not_null) link_held) not_null one forced in
       record { entity = held.entity; stands = held.stands; parts = λ p part i flow is_part. held.parts p part is_part }
 
-  pub link_leaves : LeavesOut basis outer Link_focus (values_of_focus basis outer Link_focus not_null) not_null (flow_state basis outer Link_focus not_null)
+  pub link_leaves : LeavesUnforcedOut basis outer Link_focus (values_of_focus basis outer Link_focus not_null) not_null (flow_state basis outer Link_focus not_null)
   link_leaves =
       let made : Valuation = link_values basis is outer has a assoc here not_null in
       let same_values : values_of_focus basis outer Link_focus not_null ≡ made = link_values_are basis is outer has a assoc here not_null in
-      let Leaves : Valuation → Type 0 = λ values. LeavesOut basis outer Link_focus values not_null (flow_state basis outer Link_focus not_null) in
+      let Leaves : Valuation → Type 0 = λ values. LeavesUnforcedOut basis outer Link_focus values not_null (flow_state basis outer Link_focus not_null) in
       let Told : Valuation → Type 0 = λ values. (u : SetId) (entity : Entity) → Contains (entities_in (flow_state basis outer Link_focus not_null) u) entity
       → IsNumberKey basis outer u (key_of basis.schema.model entity) ⊎ IsRead basis outer Link_focus values (IsMember basis Link_focus not_null) u (key_of basis.schema.model entity) in
       subst Leaves (sym same_values)

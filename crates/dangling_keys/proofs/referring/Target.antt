@@ -21,7 +21,7 @@ use Rattle.regions.specs.region_laws.pattern.Allowed.{AllowedFocus, told_of}
 use Rattle.region_states.specs.focus.Held.{IsRowOfOne, ListsValue}
 use Rattle.region_states.proofs.focus.Demanded.{row_of_one}
 use Rattle.dangling_keys.specs.Dangling.{OwnsTable}
-use Rattle.dangling_keys.specs.Failing.{FailsBy}
+use Rattle.dangling_keys.specs.Failing.{FailsAtKey}
 use Rattle.dangling_keys.specs.Showing.{MayRefer, cell_at, col_beside, not_null_for, nullable_in, shown_at}
 use Rattle.dangling_keys.proofs.referring.Listing.{free_listed, key_is_sound}
 use Rattle.dangling_keys.proofs.told.Matching.{found_alike, pair_alike}
@@ -118,10 +118,9 @@ module _ (basis : Basis) (is : IsBasis basis) (told : AllowedFocus basis) (key :
     target_owned u entity at = record { owned = at.owned; written = target_written }
 
   -- where there is no such row, the state fails
-  pub shown_fails : ((target : Row) → Contains (rows_in shown.tables key.to) target → cells_of target key.to_cols ≡ cells_of shown.row key.from_cols → ⊥) → FailsBy basis key
+  pub shown_fails : ((target : Row) → Contains (rows_in shown.tables key.to) target → cells_of target key.to_cols ≡ cells_of shown.row key.from_cols → ⊥)
+      → FailsAtKey basis key (place_at shown.table.name (row_key shown.table shown.row) key.name) c
   shown_fails none = record {
-    place = place_at shown.table.name (row_key shown.table shown.row) key.name;
-    state = c;
     fails = record {
       legal = shown.legal;
       fails = record {

@@ -44,7 +44,7 @@ use Rattle.forced_entities.specs.Held.{HoldsForced}
 use Rattle.forced_entities.specs.declared.member.Forced.{Forced}
 use Rattle.forced_entities.proofs.Holds.{entity_forces, link_forces}
 use Rattle.forced_entities.proofs.Beside.{part_among, part_map}
-use Rattle.dangling_keys.specs.Dangling.{HasRows, IsDangling, IsOwn, IsThere, LacksRow, OwnsTable}
+use Rattle.dangling_keys.specs.Dangling.{IsRowFocus, IsDangling, IsOwn, IsThere, LacksRow, OwnsTable}
 use Rattle.dangling_keys.specs.Members.{members, own_members}
 use Rattle.dangling_keys.specs.Showing.{Fits, IsShownPart, MayRefer, col_beside, not_null_for, shown_at}
 use Rattle.dangling_keys.specs.declared.key.DanglingKey.{DanglingKey}
@@ -174,7 +174,7 @@ module _ (basis : Basis) (is : IsBasis basis) (limits : IsWithinLimits basis.sch
           fails.no_row (any_of (λ (target : Row). cells_of target key.to_cols ≡ cells_of row key.from_cols) (rows_in fails.tables key.to) found.row found.among alike)
 
     -- what has the key that is shown lacks a row, or nothing has it
-    module _ (of_rows : HasRows basis told.of)
+    module _ (of_rows : IsRowFocus basis told.of)
         (own_lacks : (region : Region) → told.of ≡ focus.Entity region → (pairing : List Pair) → OwnsTable basis key.to region.set pairing → Fits basis (focus.Entity region) key region.set pairing (own_member basis region)
         → ¬ HasRow (pattern_of basis (focus.Entity region)) key.to) where
       refers : MayRefer basis told.of key

@@ -1,0 +1,95 @@
+-- What the laws on foreign keys that dangle rest on, and what they say.
+-- Source: this project's; the round-trip criterion of Melnik, Adya and Bernstein, SIGMOD 2007.
+use Rattle.std.specs.Prelude.{◌≡◌, ◌≤◌, ℕ, Contains, List, Option, None, Some}
+use Rattle.round_trip.specs.Words.{Assoc, AssocId, At, EntitySet, ForeignKey, IsIndependent, Pair, Place, PropId, SetId}
+use Rattle.round_trip.specs.declared.FailKind.{FailKind}
+use Rattle.round_trip.specs.declared.FailKind.TheVariants as kind
+use Rattle.cells.specs.Limits.{IsWithinLimits}
+use Rattle.regions.specs.Basis.{Basis}
+use Rattle.regions.specs.Regions.{regions_of}
+use Rattle.regions.specs.declared.pattern.Focus.{Focus}
+use Rattle.regions.specs.declared.pattern.Focus.TheVariants as focus
+use Rattle.regions.specs.declared.region.Region.{Region}
+use Rattle.regions.specs.region_laws.IsBasis.{IsBasis}
+use Rattle.region_states.specs.Entities.{focus_entity}
+use Rattle.region_states.specs.HoldsFocus.{HoldsFocus}
+use Rattle.region_states.specs.conflicts.Conflicts.{IsConflictAt, IsLinkConflictAt}
+use Rattle.region_states.specs.conflicts.There.{NoneFailsBy}
+use Rattle.region_states.specs.declared.conflicts.conflict.Conflict.{Conflict}
+use Rattle.population.specs.LinkStates.{HoldsLink}
+use Rattle.forced_entities.specs.Held.{HasNoNull}
+use Rattle.dangling_keys.specs.Dangling.{DanglesAt, IsDangling, OwnsTable}
+use Rattle.dangling_keys.specs.DanglingStates.{IsRowPlace, dangling_state}
+use Rattle.dangling_keys.specs.Failing.{FailsAtKey}
+use Rattle.dangling_keys.specs.FlowStates.{AreOpen, flow_state, values_of_focus}
+use Rattle.dangling_keys.specs.LeftOut.{LeavesUnforcedOut}
+use Rattle.dangling_keys.specs.declared.key.DanglingKey.{DanglingKey}
+
+-- a sound mapping within the limits
+pub record IsSoundBasis (basis : Basis) : Type 0 where
+  pub is_basis : IsBasis basis
+  pub limits : IsWithinLimits basis.schema
+
+-- and no legal state clashes
+pub record HasNoClash (basis : Basis) : Type 0 where
+  pub sound : IsSoundBasis basis
+  pub none : NoneFailsBy basis.schema kind.Clash
+
+-- nothing is told of the mapping: there is no conflict at a set, none at the links of an association, and no key dangles
+pub record HasNoConflicts (basis : Basis) : Type 0 where
+  pub sets : (of : FailKind) (s : SetId) (set : EntitySet) → At basis.schema.model.sets s.index set → (conflict : Conflict) → ¬ IsConflictAt basis s of conflict
+  pub links : (of : FailKind) (a : AssocId) (assoc : Assoc) → At basis.schema.model.assocs a.index assoc → (conflict : Conflict) → ¬ IsLinkConflictAt basis a of conflict
+  pub keys : (told : DanglingKey) → ¬ IsDangling basis told
+
+-- the key dangles at some focus
+abbrev pub Dangles : Basis → ForeignKey → Type 0
+Dangles basis key = (of : Focus) × (principal : Option Region) × DanglesAt basis of key principal
+
+-- something is told of the key
+abbrev pub IsToldOf : Basis → ForeignKey → Type 0
+IsToldOf basis key = (told : DanglingKey) × (by : IsDangling basis told) × (by.key ≡ key)
+
+-- where the row of a region's entity is missing, its set owns the table to which the key points, by this pairing
+abbrev pub IsPairedBy : Basis → ForeignKey → List Pair → Option Region → Type 0
+IsPairedBy basis key pairing None = key ≡ key
+IsPairedBy basis key pairing (Some region) = OwnsTable basis key.to region.set pairing
+
+-- the small state that is shown of what is told fails by the key, at the place of the row of the focus
+abbrev pub IsShownToFail : (basis : Basis) (told : DanglingKey) → IsDangling basis told → Type 0
+IsShownToFail basis told dangling = (pairing : List Pair) → IsPairedBy basis dangling.key pairing told.principal → (place : Place) → IsRowPlace basis told.focus dangling.key place
+    → FailsAtKey basis dangling.key place (dangling_state basis told.focus dangling.key pairing told.principal)
+
+-- one of the five rows of numbers
+abbrev pub IsRow : ℕ → Type 0
+IsRow outer = outer ≤ 4
+
+-- a row of numbers; a region of a set, and properties of its type that may be null and are to be none
+pub record IsEntityOf (basis : Basis) (outer : ℕ) (region : Region) (not_null : List PropId) : Type 0 where
+  pub row : IsRow outer
+  pub s : SetId
+  pub listed : Contains (regions_of basis s) region
+  pub open_ : AreOpen basis region not_null
+
+-- a row of numbers, and an independent association
+pub record IsLinkOf (basis : Basis) (outer : ℕ) (a : AssocId) (assoc : Assoc) : Type 0 where
+  pub row : IsRow outer
+  pub here : At basis.schema.model.assocs a.index assoc
+  pub independent : IsIndependent assoc
+
+-- the state that holds the entity of the region, or the link, leaves out what isn't forced
+abbrev pub LeavesOutAtEntity : Basis → ℕ → Region → List PropId → Type 0
+LeavesOutAtEntity basis outer region not_null =
+    LeavesUnforcedOut basis outer (focus.Entity region) (values_of_focus basis outer (focus.Entity region) not_null) not_null (flow_state basis outer (focus.Entity region) not_null)
+
+abbrev pub LeavesOutAtLink : Basis → ℕ → AssocId → List PropId → Type 0
+LeavesOutAtLink basis outer a not_null =
+    LeavesUnforcedOut basis outer (focus.Link a) (values_of_focus basis outer (focus.Link a) not_null) not_null (flow_state basis outer (focus.Link a) not_null)
+
+-- it holds the entity, none of whose given properties is null
+pub record HoldsEntity (basis : Basis) (outer : ℕ) (region : Region) (not_null : List PropId) : Type 0 where
+  pub holds : HoldsFocus basis region (values_of_focus basis outer (focus.Entity region) not_null) (flow_state basis outer (focus.Entity region) not_null)
+  pub no_null : HasNoNull basis not_null (focus_entity basis region (values_of_focus basis outer (focus.Entity region) not_null))
+
+-- it holds the plain link
+abbrev pub HoldsLinkOf : Basis → ℕ → AssocId → Assoc → List PropId → Type 0
+HoldsLinkOf basis outer a assoc not_null = HoldsLink basis.schema.model outer a assoc (flow_state basis outer (focus.Link a) not_null)
