@@ -1,10 +1,11 @@
 -- The states that are shown of foreign keys that dangle: small parts, which hold a focus whose row refers by the key and what it needs, and nothing else.
 -- Source: this project's choice of the states that it shows, and of how places are told.
-use Rattle.std.specs.Prelude.{◌≡◌, ◌==◌, ℕ, List, [], ◌∷◌, ◌++◌, find, flat_map, map, slice_get, Bool, false, Option, None, Some, if◌then◌else◌}
+use Rattle.std.specs.Prelude.{◌≡◌, ◌==◌, ℕ, List, [], ◌∷◌, ◌++◌, find, flat_map, map, slice_get, Contains, Bool, false, Option, None, Some, if◌then◌else◌}
 use Rattle.std.specs.Option.{option_map_or}
-use Rattle.round_trip.specs.Words.{Assoc, AssocId, At, Entity, ForeignKey, LinkFragment, Null, Pair, Place, PropId, SetId, State, Table, TableId, Value, place_at, written_key}
+use Rattle.round_trip.specs.Words.{Assoc, AssocId, At, Entity, ForeignKey, IsLegal, LinkFragment, Null, Pair, Place, PropId, SetId, State, Table, TableId, Value, place_at, written_key}
 use Rattle.schema_laws.specs.state_demand.Owners.{IsJoinedTo, IsOwned, paired_key}
 use Rattle.schema_laws.specs.state_demand.Writings.{link_writing}
+use Rattle.population.specs.Given.{HasShortParts}
 use Rattle.population.specs.Kept.{part_of}
 use Rattle.population.specs.LinkStates.{of_assoc, placed_at, plain_link}
 use Rattle.population.specs.declared.placed.Placed.{Placed}
@@ -23,7 +24,7 @@ use Rattle.failure_laws.specs.SmallLinks.{both_ends, small_link}
 use Rattle.failure_laws.specs.Witnesses.{empty_state}
 use Rattle.forced_entities.specs.Forced.{own_member}
 use Rattle.dangling_keys.specs.FlowStates.{flow_values, values_of_focus}
-use Rattle.dangling_keys.specs.OtherStates.{other_state, other_values}
+use Rattle.dangling_keys.specs.OtherStates.{other_state, other_values, other_wanted}
 use Rattle.dangling_keys.specs.Outer.{outer_row}
 use Rattle.dangling_keys.specs.Showing.{fits, not_null_for, shown_at}
 
@@ -112,6 +113,11 @@ module _ (basis : Basis) where
 
       abbrev pub both_state : State
       both_state = part_of basis.schema.model (whole_state ∷ []) both_roots whole_state
+
+      -- the whole state is legal, and what its given entities ask for has short keys
+      pub record IsSupportedWhole : Type 0 where
+        pub legal : IsLegal basis.schema.model whole_state
+        pub short : (to : PlacedKey) → Contains (other_wanted basis (outer_row basis of key) region principal_values (lone_given of key)) to → HasShortParts basis.schema.model to.set to.key
 
     -- the state that is shown: with an entity of the region whose row is missing, where this isn't the focus itself
     abbrev pub dangling_state : Option Region → State

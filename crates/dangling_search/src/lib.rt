@@ -8,3 +8,6 @@ mod shown;
 mod target;
 
 pub use first::first_dangling;
+pub use fitting::{fits, own_member};
+pub use shown::{Look, Shown, cell_at, not_null_for, shown_at};
+pub use target::{Owned, owned_by};

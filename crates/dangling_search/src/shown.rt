@@ -36,7 +36,9 @@ pub enum Shown<'a> {
 /// A focus with its pattern.
 #[derive(Clone, Copy)]
 pub struct Look<'a> {
+    /// The focus.
     pub of: &'a Focus,
+    /// Its rows in symbols.
     pub pattern: &'a Pattern,
 }
 
@@ -99,8 +101,8 @@ fn atoms_of(of: &Focus) -> &[AtomOf]
     }
 }
 
-// What the focus's row of a table holds in a column.
-fn cell_at<'a>(parts: &Parts<'_>, look: Look<'a>, table: TableId, col: ColId) -> Shown<'a>
+/// What the focus's row of a table holds in a column; null where it has no such row or column.
+pub fn cell_at<'a>(parts: &Parts<'_>, look: Look<'a>, table: TableId, col: ColId) -> Shown<'a>
     requires { IsLook (basis_of parts.now) look }
     ensures { settled_of result ≡ cell_at (basis_of parts.now) look.entry.of.now table col }
 {

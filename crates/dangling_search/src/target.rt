@@ -18,6 +18,7 @@ use symbolic_rows::{copy_region, region_pattern};
 /// The set that owns a table, and the pairs of its key with the table's.
 #[derive(Drop)]
 pub struct Owned {
+    /// The set.
     pub set: SetId,
     /// In the order of the primary key.
     pub pairing: Seq<Pair>,
@@ -101,8 +102,8 @@ fn lacks_row(
     Ok(!has_row(&pattern, table))
 }
 
-// The set that owns a table.
-fn owned_by(alloc: Global, parts: &Parts<'_>, table: TableId) -> Result<Option<Owned>, Memory>
+/// The set that owns a table, with the pairs of their keys; `None` where no set owns it, as where nothing writes it. `Memory` comes where memory ran out.
+pub fn owned_by(alloc: Global, parts: &Parts<'_>, table: TableId) -> Result<Option<Owned>, Memory>
     requires parts { AreParts parts.now }
     requires within { table.index < length parts.now.store.now.tables }
     ensures { IfOk result (OwnedHere (basis_of parts.now) table) }

@@ -56,14 +56,14 @@ use Rattle.forced_entities.specs.Held.{HasNoNull, HoldsForced}
 use Rattle.forced_entities.specs.declared.member.Forced.{Forced}
 use Rattle.forced_entities.proofs.Holds.{entity_forces, own_stands}
 use Rattle.dangling_keys.specs.Dangling.{IsThere, OwnsTable}
-use Rattle.dangling_keys.specs.DanglingStates.{IsEntityRow, both_roots, both_state, principal_roots, principal_values, shown_value}
+use Rattle.dangling_keys.specs.DanglingStates.{IsEntityRow, IsSupportedWhole, both_roots, both_state, principal_roots, principal_values, shown_value}
 use Rattle.dangling_keys.specs.Flow.{IsFlow}
 use Rattle.dangling_keys.specs.FlowStates.{AreOpen}
 use Rattle.dangling_keys.specs.LeftOut.{IsMember, IsNumberKey, IsRead}
 use Rattle.dangling_keys.specs.OtherStates.{keeps, other_given, other_key, other_links, other_state, other_wanted, own_links}
 use Rattle.dangling_keys.specs.Showing.{Fits, MayRefer, shown_at}
 use Rattle.dangling_keys.proofs.failing.Actor.{HasFlagLinks, HasOwnLinks, actor_holds, actor_rooted, link_by}
-use Rattle.dangling_keys.proofs.failing.ShownValues.{IsSupportedWhole, own_root, partner_roots, shown_is}
+use Rattle.dangling_keys.proofs.failing.ShownValues.{own_root, partner_roots, shown_is}
 use Rattle.dangling_keys.proofs.referring.EntityParts as parts
 use Rattle.dangling_keys.proofs.left_out.EntityRead as reading
 use Rattle.dangling_keys.proofs.referring.ShownEntity as at_key

@@ -59,7 +59,7 @@ use Rattle.forced_entities.specs.Held.{HoldsForced}
 use Rattle.forced_entities.specs.declared.member.Forced.{Forced}
 use Rattle.forced_entities.proofs.Holds.{link_forces}
 use Rattle.dangling_keys.specs.Dangling.{IsThere, OwnsTable}
-use Rattle.dangling_keys.specs.DanglingStates.{both_state, lone_given, lone_links, principal_roots, principal_values, shown_value, whole_state}
+use Rattle.dangling_keys.specs.DanglingStates.{IsSupportedWhole, both_state, lone_given, lone_links, principal_roots, principal_values, shown_value, whole_state}
 use Rattle.dangling_keys.specs.Flow.{IsFlow}
 use Rattle.dangling_keys.specs.LeftOut.{IsMember, IsNumberKey, IsRead}
 use Rattle.dangling_keys.specs.FlowStates.{values_of_focus}
@@ -72,7 +72,7 @@ use Rattle.dangling_keys.proofs.failing.LinkFails as first
 use Rattle.dangling_keys.proofs.left_out.LinkRead as reading
 use Rattle.dangling_keys.proofs.referring.NoRow.{HasShownKey, none_found}
 use Rattle.dangling_keys.proofs.failing.OtherState as other
-use Rattle.dangling_keys.proofs.failing.ShownValues.{IsSupportedWhole, own_root, partner_roots, shown_is}
+use Rattle.dangling_keys.proofs.failing.ShownValues.{own_root, partner_roots, shown_is}
 use Rattle.dangling_keys.proofs.failing.OtherValues.{other_allowed, other_key_is, other_part, other_short, partner_numbered}
 use Rattle.dangling_keys.proofs.referring.Shown.{FailsShown, link_place, link_shown}
 use Rattle.dangling_keys.proofs.referring.ShownEntity as at_key

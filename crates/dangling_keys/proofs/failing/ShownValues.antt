@@ -6,7 +6,7 @@ use Rattle.std.proofs.lemmas.Bool.Decides.{not_from_Decides}
 use Rattle.std.proofs.lemmas.List.Elements.{Contains-append_right}
 use Rattle.emc_base.proofs.FoundItems.{contains_flat_map}
 use Rattle.emc_base.proofs.Members.{contains_cons_cases, contains_head, contains_nil, contains_tail}
-use Rattle.round_trip.specs.Words.{Assoc, End, Entity, ForeignKey, IsLegal, Kind, Null, Pair, PropId, Value, key_of, value_of}
+use Rattle.round_trip.specs.Words.{Assoc, End, Entity, ForeignKey, Kind, Null, Pair, PropId, Value, key_of, value_of}
 use Rattle.schema_laws.specs.short_values.Fresh.{fresh, most_indices}
 use Rattle.schema_laws.specs.state_demand.Owners.{props_in}
 use Rattle.schema_laws.proofs.state_demand.lists.Ids.{Decides-prop}
@@ -19,15 +19,13 @@ use Rattle.regions.specs.declared.pattern.Symbol.{Symbol}
 use Rattle.regions.specs.declared.region.Region.{Region}
 use Rattle.regions.specs.region_laws.IsBasis.{IsBasis}
 use Rattle.region_states.specs.Entities.{focus_entity}
-use Rattle.population.specs.Given.{HasShortParts}
 use Rattle.population.specs.Numbered.{end_of}
 use Rattle.population.specs.declared.placed.PlacedKey.{PlacedKey}
 use Rattle.host_states.specs.FocusStates.{by_assoc, linked_hosts, told_key}
 use Rattle.host_states.proofs.focus.HostEnds.{IsLinkedHost, is_linked_host, partner_side, to_assoc}
-use Rattle.dangling_keys.specs.DanglingStates.{held_value, lone_given, partner_root, principal_roots, principal_values, whole_state}
+use Rattle.dangling_keys.specs.DanglingStates.{held_value, partner_root, principal_roots, principal_values}
 use Rattle.dangling_keys.specs.Flow.{IsFlow}
-use Rattle.dangling_keys.specs.OtherStates.{other_wanted}
-use Rattle.dangling_keys.specs.Outer.{IsOuter, outer_row}
+use Rattle.dangling_keys.specs.Outer.{IsOuter}
 use Rattle.dangling_keys.specs.Showing.{shown_at}
 use Rattle.dangling_keys.proofs.referring.Fitting.{IsPartOrOuter}
 use Rattle.dangling_keys.proofs.referring.NoRow.{HasShownKey}
@@ -83,8 +81,3 @@ module _ (basis : Basis) (is : IsBasis basis) (of : Focus) (key : ForeignKey) (p
       (Contains-append_right first (principal_roots basis of key pairing q) (root host assoc)
       (contains_tail _ _ (root host assoc) (contains_flat_map (by_assoc basis root) (linked_hosts basis q) host (root host assoc)
       (is_linked_host basis is q.set q listed host by.hosts by.linked) (to_assoc basis root host assoc by.is_assoc))))
-
--- the whole state is legal, and what its given entities ask for has short keys
-pub record IsSupportedWhole (basis : Basis) (of : Focus) (key : ForeignKey) (pairing : List Pair) (q : Region) : Type 0 where
-  pub legal : IsLegal basis.schema.model (whole_state basis of key pairing q)
-  pub short : (to : PlacedKey) → Contains (other_wanted basis (outer_row basis of key) q (principal_values basis of key pairing q) (lone_given basis of key)) to → HasShortParts basis.schema.model to.set to.key

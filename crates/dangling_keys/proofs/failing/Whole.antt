@@ -20,7 +20,7 @@ use Rattle.region_states.proofs.focus.Listed.{row_joined}
 use Rattle.forced_entities.specs.Forced.{own_member}
 use Rattle.forced_entities.specs.declared.member.Forced.{Forced}
 use Rattle.dangling_keys.specs.Dangling.{DanglesAt, IsDangling, IsThere, LacksRow, OtherLacks, OwnLacks, OwnsTable}
-use Rattle.dangling_keys.specs.DanglingStates.{both_state, dangling_state, has_shown_key, lone_state}
+use Rattle.dangling_keys.specs.DanglingStates.{IsSupportedWhole, both_state, dangling_state, has_shown_key, lone_state}
 use Rattle.dangling_keys.specs.Failing.{FailsAtKey, FailsByKey}
 use Rattle.dangling_keys.specs.Laws.{Dangles, HasNoClash, IsPairedBy, IsShownToFail}
 use Rattle.dangling_keys.specs.Showing.{Fits, MayRefer, fits}
@@ -29,7 +29,6 @@ use Rattle.dangling_keys.proofs.failing.EntityFails.{none_fails, own_fails}
 use Rattle.dangling_keys.proofs.failing.LinkFails.{link_none_fails}
 use Rattle.dangling_keys.proofs.failing.OtherEntity.{other_fails, other_supported}
 use Rattle.dangling_keys.proofs.failing.OtherLink.{other_link_fails, other_link_supported}
-use Rattle.dangling_keys.proofs.failing.ShownValues.{IsSupportedWhole}
 use Rattle.dangling_keys.proofs.referring.Shown.{FailsShown}
 use Rattle.dangling_keys.proofs.told.Members.{Decides-fits}
 use Rattle.dangling_keys.proofs.told.Told.{dangling_told}

@@ -1,4 +1,4 @@
-ghost use Rattle.std.specs.Prelude.{◌≡◌, ◌≢◌, [], IfOk, None, Some};
+ghost use Rattle.std.specs.Prelude.{◌≡◌, ◌≢◌, IfOk, None, Some};
 ghost use Rattle.cells.specs.Parts.{AreParts, schema_in};
 ghost use Rattle.region_states.specs.conflicts.Conflicts.{IsConflictAt, IsLinkConflictAt};
 ghost use Rattle.region_states.specs.conflicts.There.{FailsThere, LinksFailThere, NoneFailsBefore, NoneFailsBy};
@@ -14,6 +14,8 @@ ghost use Rattle.mapping_core.specs.mapping_verdict.Conflicts.{IsSomeConflict};
 
 use cells::Parts;
 use containment::{first_conflict, first_link_conflict};
+use dangling_search::first_dangling;
+use dangling_states::dangling_failure;
 use emc_base::{AssocId, Memory, Seq, SetId};
 use failure_laws::a_mapping_round_trips_place_by_place;
 use region_states::{Conflict, parts_are_a_basis};
@@ -24,15 +26,14 @@ use std::alloc::Global;
 use witness_state::{Failure, build};
 
 /// A legal state that fails, by the first kind by which any does; `None` exactly where none fails, and then each legal state is kept: it has tables of its
-/// own, which are legal and agree with each fragment. No foreign key may be declared, and the regions are to be those of all sets. Within one kind sets are
-/// looked at before associations. `Memory` comes where memory ran out.
+/// own, which are legal and agree with each fragment. The regions are to be those of all sets. Within one kind sets are looked at before associations.
+/// `Memory` comes where memory ran out.
 pub fn first_failure(
     alloc: Global,
     parts: &Parts<'_>,
     regions: &Seq<Seq<Region>>,
 ) -> Result<Option<Failure>, Memory>
     requires parts { AreParts parts.now }
-    requires keyless { (schema_in parts.now).store.keys ≡ [] }
     requires regions { AreRegions (basis_of parts.now) regions.now }
     ensures fails { IfOk result (λ found. (failure : Failure) → found ≡ Some failure → IsFailureOf (schema_in parts.now) failure) }
     ensures round_trips { IfOk result (λ found. found ≡ None → RoundTrips (schema_in parts.now)) }
@@ -50,7 +51,28 @@ pub fn first_failure(
     if let Some(failure) = failure_by(alloc, parts, FailKind::Disagrees, regions)? {
         return Ok(Some(failure));
     }
+    if let Some(failure) = dangling_by(alloc, parts, regions)? {
+        return Ok(Some(failure));
+    }
     failure_by(alloc, parts, FailKind::Same, regions)
+}
+
+// A legal state that fails by a foreign key that dangles; `None` exactly where none does.
+fn dangling_by(
+    alloc: Global,
+    parts: &Parts<'_>,
+    regions: &Seq<Seq<Region>>,
+) -> Result<Option<Failure>, Memory>
+    requires parts { AreParts parts.now }
+    requires earlier { NoneFailsBefore (schema_in parts.now) fails.Dangling }
+    requires regions { AreRegions (basis_of parts.now) regions.now }
+    ensures fails { IfOk result (λ found. (failure : Failure) → found ≡ Some failure → IsFailureOf (schema_in parts.now) failure) }
+    ensures none { IfOk result (λ found. found ≡ None → NoneFailsBy (schema_in parts.now) fails.Dangling) }
+{
+    match first_dangling(alloc, parts, regions)? {
+        Some(told) => Ok(Some(dangling_failure(alloc, parts, &told)?)),
+        None => Ok(None),
+    }
 }
 
 // A legal state that fails by this kind; `None` exactly where none does.

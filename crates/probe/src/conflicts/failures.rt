@@ -15,13 +15,10 @@ use round_trip::FailKind;
 use std::alloc::Global;
 
 /// Puts the kind and the place of the failure that is shown of a mapping, the state that fails, and for the kind same the other one; or that there is none.
-/// `None` where a foreign key is declared, a limit is passed, or memory ran out.
+/// `None` where a limit is passed, or memory ran out.
 pub fn put_failure(alloc: Global, text: &mut String, parts: &Parts<'_>) -> Option<()>
     requires { AreParts parts.now }
 {
-    if !parts.store.keys.is_empty() {
-        return None;
-    }
     let regions = all_regions(alloc, parts)?;
     match first_failure(alloc, parts, &regions) {
         Ok(found) => put_found(alloc, text, parts, found),

@@ -1,4 +1,4 @@
-ghost use Rattle.std.specs.Prelude.{◌≡◌, [], IfSome, IsTrue, length};
+ghost use Rattle.std.specs.Prelude.{◌≡◌, IfSome, IsTrue, length};
 ghost use Rattle.cells.specs.Cells.{is_free_in};
 ghost use Rattle.cells.specs.Parts.{AreParts, schema_in};
 ghost use Rattle.query_views.specs.Lent.{key_at, lent_state};
@@ -24,8 +24,8 @@ const FIRST: SetId = SetId { index: 0 };
 
 const FIRST_LINKS: AssocId = AssocId { index: 0 };
 
-/// Puts what is asked of legal tables, by the query views of a mapping in which no legal state fails; a line that says so where one does. `None` where a foreign
-/// key is declared, the tables aren't legal, or memory ran out.
+/// Puts what is asked of legal tables, by the query views of a mapping in which no legal state fails; a line that says so where one does. `None` where the
+/// tables aren't legal, or memory ran out.
 pub fn put_told(
     alloc: Global,
     text: &mut String,
@@ -36,7 +36,7 @@ pub fn put_told(
     requires parts { AreParts parts.now }
     requires tables { AreTables parts.now.store.now tables.now }
 {
-    if !is_legal(tables.as_slice(), parts.store) || !parts.store.keys.is_empty() {
+    if !is_legal(tables.as_slice(), parts.store) {
         return None;
     }
     let regions = all_regions(alloc, parts)?;
@@ -52,7 +52,6 @@ pub fn put_told(
 // Whether no legal state fails.
 fn keeps_all(alloc: Global, parts: &Parts<'_>, regions: &Seq<Seq<Region>>) -> Option<bool>
     requires parts { AreParts parts.now }
-    requires keyless { (schema_in parts.now).store.keys ≡ [] }
     requires regions { AreRegions (basis_of parts.now) regions.now }
     ensures { IfSome result (λ keeps. IsTrue keeps → RoundTrips (schema_in parts.now)) }
 {
