@@ -1,5 +1,5 @@
 -- A region's set owns the table of each row of its pattern: a fragment of entities writes it, or one of links that are hosted at the set.
-use Rattle.std.proofs.Common.{◌≡◌, ◌≢◌, ◌==◌, inl, inr, List, Contains, Bool, true, false, if◌then◌else◌, refl, sym, ap, subst, ◌∙◌}
+use Rattle.std.proofs.Common.{◌≡◌, ◌≢◌, ◌==◌, inl, inr, Contains, Bool, true, false, if◌then◌else◌, refl, sym, ap, subst, ◌∙◌}
 use Rattle.round_trip.specs.Words.{AssocId, TableId, At, LinkFragment}
 use Rattle.round_trip.specs.FailsAt.{IsHostedAt}
 use Rattle.round_trip.specs.soundness.mappings.Owners.{LinkMaps}

@@ -22,27 +22,28 @@ use Rattle.witness_state.specs.declared.small_regions.hosts.Hosting.{Hosting}
 abbrev pub host_of : Hosting → Host
 host_of hosting = record { assoc = hosting.assoc; first_hosts = hosting.first_hosts }
 
--- what is made of given entities and links, with the support of wanted keys
-abbrev pub supporting : EntityModel → List Placed → List PlacedKey → List PlacedLink → Supporting
-supporting model given wanted links = record { given = given; keys = support model 0 given wanted; links = links }
+-- what is made of given entities and links, with the support of wanted keys by numbers of a row
+abbrev pub supporting : EntityModel → ℕ → List Placed → List PlacedKey → List PlacedLink → Supporting
+supporting model outer given wanted links = record { given = given; keys = support model outer given wanted; links = links }
 
 module _ (basis : Basis) where
   -- a numbered association as one that is hosted at the region's set, if the region has a link of it
   abbrev pub linked_at : List LinkPlace → Region → ℕ × Assoc → List Host
   linked_at places region entry = filter (λ host. is_linked basis region.linked host.assoc) (host_at places region.set entry)
 
-  -- values by which partners have the usual keys
-  abbrev pub usual : Valuation
-  usual = record { prop = λ p. Null; part = default_part basis 0 }
+  module _ (outer : ℕ) where
+    -- values by which partners have the usual keys
+    abbrev pub usual : Valuation
+    usual = record { prop = λ p. Null; part = default_part basis outer }
 
-  -- the link of an entity of this key to its partner
-  abbrev pub link_with : List Value → Host → Assoc → PlacedLink
-  link_with key host assoc = record { assoc = host.assoc; link = link_of host.first_hosts key (told_key basis usual host assoc) }
+    -- the link of an entity of this key to its partner
+    abbrev pub link_with : List Value → Host → Assoc → PlacedLink
+    link_with key host assoc = record { assoc = host.assoc; link = link_of host.first_hosts key (told_key basis usual host assoc) }
 
-  -- the entity of a region with its partners
-  abbrev pub given_with : Region → Entity → List Placed
-  given_with region entity = record { set = region.set; entity = entity } ∷ flat_map (by_assoc basis (partner_of basis 0 usual)) (linked_hosts basis region)
+    -- the entity of a region with its partners
+    abbrev pub given_with : Region → Entity → List Placed
+    given_with region entity = record { set = region.set; entity = entity } ∷ flat_map (by_assoc basis (partner_of basis outer usual)) (linked_hosts basis region)
 
-  -- its links to them
-  abbrev pub links_with : Region → Entity → List PlacedLink
-  links_with region entity = flat_map (by_assoc basis (link_with (key_of basis.schema.model entity))) (linked_hosts basis region)
+    -- its links to them
+    abbrev pub links_with : Region → Entity → List PlacedLink
+    links_with region entity = flat_map (by_assoc basis (link_with (key_of basis.schema.model entity))) (linked_hosts basis region)

@@ -35,7 +35,7 @@ pub fn joined_failure(
         → IfOk result (λ failure. failure ≡ shown_alone kind place (small_link (schema_in parts.now).model 0 assoc declared)) }
 {
     let declared = parts.model.assocs.at(assoc.index as usize);
-    let state = link_state(alloc, parts.model, assoc, declared)?;
+    let state = link_state(alloc, parts.model, 0, assoc, declared)?;
     Ok(alone(kind, place, state))
 }
 

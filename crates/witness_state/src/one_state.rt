@@ -36,7 +36,7 @@ pub fn clash_failure(
         Focus::Entity(region) => {
             let entity = clash_entity(alloc, parts, region, one, two)?;
             let place = cell_place(alloc, parts, table, col, &entity)?;
-            let state = region_state(alloc, parts, region, entity)?;
+            let state = region_state(alloc, parts, 0, region, entity)?;
             Ok(alone(FailKind::Clash, place, state))
         }
         Focus::Link(assoc) => {
@@ -62,7 +62,7 @@ pub fn null_failure(
         Focus::Entity(region) => {
             let entity = usual_entity(alloc, parts, region)?;
             let place = cell_place(alloc, parts, table, col, &entity)?;
-            let state = region_state(alloc, parts, region, entity)?;
+            let state = region_state(alloc, parts, 0, region, entity)?;
             Ok(alone(FailKind::Null, place, state))
         }
         Focus::Link(assoc) => {
@@ -86,7 +86,7 @@ pub fn disagreement_failure(
         Focus::Entity(region) => {
             let entity = usual_entity(alloc, parts, region)?;
             let place = fragment_place(alloc, parts, region, name, &entity)?;
-            let state = region_state(alloc, parts, region, entity)?;
+            let state = region_state(alloc, parts, 0, region, entity)?;
             Ok(alone(FailKind::Disagrees, place, state))
         }
         Focus::Link(assoc) => {

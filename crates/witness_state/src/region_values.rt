@@ -15,4 +15,4 @@ mod usual;
 pub use declared::key_props;
 pub use entities::{clash_entity, lost_entities, rival_entities, usual_entity};
 pub(crate) use symbols::value_under;
-pub use usual::default_part;
+pub use usual::{default_part, default_value, some_value};

@@ -7,6 +7,7 @@ mod states;
 mod supporting;
 mod written;
 
+pub use ends::{EndAt, at_first, at_second, link_of, placed_at, plain_link};
 pub use places::{
     host_row_place, link_cell_place, link_keys_place, shared_cell_place, unmapped_place,
 };

@@ -1,5 +1,5 @@
 -- Clashes and nulls of regions: the cell is there, and what is shown of it.
-use Rattle.std.proofs.Common.{◌≡◌, List, Contains, None, IsTrue, refl, subst, ap, sym, ◌∙◌}
+use Rattle.std.proofs.Common.{◌≡◌, List, Contains, None, IsTrue, refl, subst, arith}
 use Rattle.round_trip.specs.Words.{ColId, Column, Entity, Pair, Place, SetId, State, Table, TableId}
 use Rattle.round_trip.specs.FailsAt.{HasColumn}
 use Rattle.round_trip.specs.declared.FailKind.TheVariants as kind
@@ -7,17 +7,15 @@ use Rattle.round_trip.specs.soundness.mappings.Owners.{Owns}
 use Rattle.cells.specs.Parts.{schema_in}
 use Rattle.cells.specs.declared.parts.Parts.{Parts}
 use Rattle.regions.specs.Basis.{Basis}
-use Rattle.regions.specs.Patterns.{Valuation, pattern_of, writings_of}
+use Rattle.regions.specs.Patterns.{Valuation, writings_of}
 use Rattle.regions.specs.Regions.{regions_of}
 use Rattle.regions.specs.declared.pattern.Focus.TheVariants as focus
 use Rattle.regions.specs.declared.pattern.Symbol.{Symbol}
 use Rattle.regions.specs.declared.region.Region.{Region}
-use Rattle.regions.specs.region_laws.IsBasis.{IsBasis}
 use Rattle.regions.proofs.region_laws.pattern.Cells.{cell_of}
 use Rattle.region_states.specs.conflicts.Facts.{is_clash}
 use Rattle.region_states.specs.declared.conflicts.conflict.Conflict.TheVariants as conflict
 use Rattle.region_states.specs.defaults.Defaults.{default_valuation}
-use Rattle.region_states.specs.focus.Held.{HasRow}
 use Rattle.region_states.specs.Entities.{focus_entity}
 use Rattle.region_states.specs.region_basis.BasisOf.{basis_of}
 use Rattle.region_states.proofs.region_basis.Bases.{basis_is}
@@ -67,14 +65,14 @@ module _ (parts : Parts) (region : Region) (t : TableId) (col : ColId) where
         let cell = cell_of basis.schema.store (writings_of basis (focus.Entity region)) t col first.so.lists_one.0 first.so.lists_one.1 in
         (cell.table, cell.column, record { is_table = cell.is_table; is_column = cell.is_column })
 
-    clash_has_values : (entity : Entity) → entity ≡ focus_entity basis region clashing → HasValues basis region entity clashing
+    clash_has_values : (entity : Entity) → entity ≡ focus_entity basis region clashing → HasValues basis 0 region entity clashing
     clash_has_values entity is = clash_has parts first.are clash_listed.0 region clash_listed.1 t col one two clash_fact entity is
 
-    pub clash_values_of : (entity : Entity) → entity ≡ focus_entity basis region clashing → (values : Valuation) × HasValues basis region entity values
+    pub clash_values_of : (entity : Entity) → entity ≡ focus_entity basis region clashing → (values : Valuation) × HasValues basis 0 region entity values
     clash_values_of entity is = (clashing, clash_has_values entity is)
 
     pub clash_shown : (entity : Entity) → entity ≡ focus_entity basis region clashing → (place : Place) → IsCellOf parts region t col entity place → (state : State)
-        → ((values : Valuation) → HasValues basis region entity values → state ≡ small_focus basis 0 region values)
+        → ((values : Valuation) → HasValues basis 0 region entity values → state ≡ small_focus basis 0 region values)
         → IsShownOf basis (conflict.Clash (focus.Entity region) t col one two) (shown_alone kind.Clash place state)
     clash_shown entity is place at state small = record {
       of_kind = refl;
@@ -87,14 +85,14 @@ module _ (parts : Parts) (region : Region) (t : TableId) (col : ColId) where
     abbrev usual : Valuation
     usual = default_valuation basis 0 region
 
-    null_has_values : (entity : Entity) → entity ≡ focus_entity basis region usual → HasValues basis region entity usual
-    null_has_values entity is = let listed = region_listed basis region first.of_one in usual_has parts first.are listed.0 region listed.1 entity is
+    null_has_values : (entity : Entity) → entity ≡ focus_entity basis region usual → HasValues basis 0 region entity usual
+    null_has_values entity is = let listed = region_listed basis region first.of_one in usual_has parts first.are listed.0 region listed.1 0 (omega arith) entity is
 
-    pub null_values_of : (entity : Entity) → entity ≡ focus_entity basis region usual → (values : Valuation) × HasValues basis region entity values
+    pub null_values_of : (entity : Entity) → entity ≡ focus_entity basis region usual → (values : Valuation) × HasValues basis 0 region entity values
     null_values_of entity is = (usual, null_has_values entity is)
 
     pub null_shown : (entity : Entity) → entity ≡ focus_entity basis region usual → (place : Place) → IsCellOf parts region t col entity place → (state : State)
-        → ((values : Valuation) → HasValues basis region entity values → state ≡ small_focus basis 0 region values)
+        → ((values : Valuation) → HasValues basis 0 region entity values → state ≡ small_focus basis 0 region values)
         → IsShownOf basis (conflict.NullIn (focus.Entity region) t col one) (shown_alone kind.Null place state)
     null_shown entity is place at state small = record {
       of_kind = refl;

@@ -1,13 +1,13 @@
 -- The fragment of a name that disagrees with a region.
-use Rattle.std.proofs.Common.{◌≡◌, ◌≢◌, ⊎_elim, inl, inr, ℕ, List, Contains, bytes_eq, find, None, Option, Some, Bool, true, false, true≢false, IsTrue, sym, subst, ◌∙◌}
+use Rattle.std.proofs.Common.{◌≡◌, ◌≢◌, ⊎_elim, ℕ, List, Contains, bytes_eq, find, None, Some, Bool, true, false, true≢false, IsTrue, sym, subst, ◌∙◌}
 use Rattle.std.specs.List.{list_any}
 use Rattle.std.proofs.lemmas.Bool.{and_parts}
 use Rattle.std.proofs.lemmas.List.Folds.{Any-from_list_any, list_any-from_Any}
 use Rattle.std.proofs.lemmas.Slice.Eq.{bytes_eq-Decides}
-use Rattle.round_trip.specs.Words.{Fragment, LinkFragment, Place, place_at, key_of}
+use Rattle.round_trip.specs.Words.{Fragment, LinkFragment}
 use Rattle.schema_laws.proofs.state_demand.lists.Lists.{any_of, of_any}
 use Rattle.cells.specs.declared.parts.Parts.{Parts}
-use Rattle.regions.specs.Basis.{Basis, Host}
+use Rattle.regions.specs.Basis.{Basis}
 use Rattle.regions.specs.Patterns.{pattern_of}
 use Rattle.regions.specs.Shown.{shows_link_row}
 use Rattle.regions.specs.Symbols.{is_linked}

@@ -1,5 +1,5 @@
 -- What is shown of links.
-use Rattle.std.proofs.Common.{◌≡◌, ◌<◌, length, Option, Result, Ok, Err, IfOk, sym, subst, ap, ◌∙◌}
+use Rattle.std.proofs.Common.{◌≡◌, ℕ, ◌<◌, ◌≤◌, length, Option, Result, Ok, Err, IfOk, sym, subst, ap, ◌∙◌}
 use Rattle.std.specs.Option.{option_map_or}
 use Rattle.std.proofs.lemmas.Option.{slice_get_within}
 use Rattle.emc_base.proofs.Lists.{at_once}
@@ -27,7 +27,7 @@ use Rattle.region_states.specs.region_basis.BasisOf.{basis_of}
 use Rattle.region_states.proofs.region_basis.Bases.{basis_is}
 use Rattle.region_states.proofs.focus.Listed.{row_joined}
 use Rattle.failure_laws.specs.Witnesses.{alone, empty_state, of_assoc, witness_of}
-use Rattle.failure_laws.proofs.witness.facts.LinkValues.{assoc_there, is_independent, numbers}
+use Rattle.failure_laws.proofs.witness.facts.LinkValues.{assoc_there, is_independent}
 use Rattle.witness_state.specs.Small.{IsLinkable}
 
 module _ (parts : Parts) (are : AreParts parts) (a : AssocId) where
@@ -38,10 +38,16 @@ module _ (parts : Parts) (are : AreParts parts) (a : AssocId) where
   pub joined_there : (t : TableId) → IsTableOf basis a t → (assoc : Assoc) × At basis.schema.model.assocs a.index assoc
   joined_there t of = (of.assoc, assoc_there basis (basis_is parts are) a t of)
 
-  pub joined_linkable : (t : TableId) (of : IsTableOf basis a t) (assoc : Assoc) → At basis.schema.model.assocs a.index assoc → IsLinkable basis.schema.model a assoc
-  joined_linkable t of assoc here =
+  pub joined_linkable : (outer : ℕ) → outer ≤ 4 → (t : TableId) (of : IsTableOf basis a t) (assoc : Assoc) → At basis.schema.model.assocs a.index assoc
+      → IsLinkable basis.schema.model outer a assoc
+  joined_linkable outer row t of assoc here =
       let same : of.assoc ≡ assoc = at_once basis.schema.model.assocs a.index of.assoc assoc (assoc_there basis (basis_is parts are) a t of) here in
-      record { numbers = numbers basis (basis_is parts are) a t of are.limits; here = here; independent = subst IsIndependent same (is_independent basis (basis_is parts are) a t of) }
+      let is = basis_is parts are in
+      record {
+        numbers = record { sound = is.sound.model; few = are.limits.model.0; row = row };
+        here = here;
+        independent = subst IsIndependent same (is_independent basis is a t of);
+      }
 
   pub assoc_within : (t : TableId) → IsTableOf basis a t → a.index < length (schema_in parts).model.assocs
   assoc_within t of = let found = joined_there t of in slice_get_within (schema_in parts).model.assocs a.index found.0 found.1

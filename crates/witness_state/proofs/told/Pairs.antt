@@ -24,7 +24,7 @@ use Rattle.conflict_laws.proofs.same.lost.Absent.{one_per_key}
 use Rattle.conflict_laws.proofs.same.lost.Lost.{lost_differ, lost_keys, lost_told}
 use Rattle.conflict_laws.proofs.same.rivals.RivalsFail.{admissible, comparable, keyed, linked}
 use Rattle.regions.proofs.region_laws.pattern.types.Regions.{parts_of}
-use Rattle.witness_state.specs.Small.{ArePair, HasValues}
+use Rattle.witness_state.specs.Small.{ArePair}
 
 module _ (parts : Parts) (are : AreParts parts) (none : NoneFailsBy (schema_in parts) kind.Clash) where
   abbrev basis : Basis
@@ -44,7 +44,7 @@ module _ (parts : Parts) (are : AreParts parts) (none : NoneFailsBy (schema_in p
       abbrev at : RivalRegions basis
       at = record { s = s; one = one; two = two; is_one = is_one; is_two = is_two; rivals = told }
 
-      pub rival_pair : ArePair basis one two first second (first_values basis one two) (second_values basis one two)
+      pub rival_pair : ArePair basis 0 one two first second (first_values basis one two) (second_values basis one two)
       rival_pair = record {
         one_has = record { s = s; listed = is_one; is = first_is; admissible = (admissible basis states at).0; parts = refl };
         two_has = record { s = s; listed = is_two; is = second_is; admissible = (admissible basis states at).1; parts = refl };
@@ -58,7 +58,7 @@ module _ (parts : Parts) (are : AreParts parts) (none : NoneFailsBy (schema_in p
     module _ (region : Region) (has : Contains (regions_of basis s) region) where
       -- two entities that differ in a lost property
       pub lost_pair : (p : PropId) → IsTrue (is_lost basis region p) → (first second : Entity) → first ≡ focus_entity basis region (with_one basis region p)
-          → second ≡ focus_entity basis region (with_other basis region p) → ArePair basis region region first second (with_one basis region p) (with_other basis region p)
+          → second ≡ focus_entity basis region (with_other basis region p) → ArePair basis 0 region region first second (with_one basis region p) (with_other basis region p)
       lost_pair p told first second first_is second_is =
           let of = parts_of basis s region has in
           let differ = lost_differ basis states s of.set of.is_set region has p (lost_told basis region p told) in

@@ -13,7 +13,6 @@ use Rattle.regions.specs.declared.region.Region.{Region}
 use Rattle.regions.proofs.region_laws.pattern.types.Regions.{parts_of}
 use Rattle.region_states.specs.conflicts.SameFacts.{are_rivals, is_absent, is_lost}
 use Rattle.region_states.specs.conflicts.There.{NoneFailsBefore, NoneFailsBy}
-use Rattle.region_states.specs.declared.conflicts.conflict.Conflict.{Conflict}
 use Rattle.region_states.specs.declared.conflicts.conflict.Conflict.TheVariants as conflict
 use Rattle.region_states.specs.defaults.Defaults.{default_valuation}
 use Rattle.region_states.specs.Entities.{focus_entity}
@@ -79,12 +78,12 @@ module _ (parts : Parts) where
     rival_within = set_within listed.0 one listed.1.0
 
     pub rivals_paired : (near far : Entity) → near ≡ focus_entity basis one (first_values basis one two) → far ≡ focus_entity basis two (second_values basis one two)
-        → ArePair basis one two near far (first_values basis one two) (second_values basis one two)
+        → ArePair basis 0 one two near far (first_values basis one two) (second_values basis one two)
     rivals_paired near far near_is far_is = rival_pair parts first.are (clear first.earlier) listed.0 one two listed.1.0 listed.1.1 rival_fact near far near_is far_is
 
     pub rivals_shown : (near far : Entity) → near ≡ focus_entity basis one (first_values basis one two) → far ≡ focus_entity basis two (second_values basis one two)
         → (place : Place) → IsAtKey one near place → (states : State × State)
-        → ((values others : Valuation) → ArePair basis one two near far values others
+        → ((values others : Valuation) → ArePair basis 0 one two near far values others
         → (states.0 ≡ (small_rivals basis 0 one values two others).0) × (states.1 ≡ (small_rivals basis 0 one values two others).1))
         → IsShownOf basis (conflict.Rival one two) (shown_beside place states.0 states.1)
     rivals_shown near far near_is far_is place at states small =
@@ -106,12 +105,12 @@ module _ (parts : Parts) where
     lost_within = set_within lost_listed.0 region lost_listed.1
 
     pub lost_paired : (near far : Entity) → near ≡ focus_entity basis region (with_one basis region p) → far ≡ focus_entity basis region (with_other basis region p)
-        → ArePair basis region region near far (with_one basis region p) (with_other basis region p)
+        → ArePair basis 0 region region near far (with_one basis region p) (with_other basis region p)
     lost_paired near far near_is far_is = lost_pair parts first.are (clear first.earlier) lost_listed.0 region lost_listed.1 p lost_fact near far near_is far_is
 
     pub lost_shown : (near far : Entity) → near ≡ focus_entity basis region (with_one basis region p) → far ≡ focus_entity basis region (with_other basis region p)
         → (place : Place) → IsAtKey region near place → (states : State × State)
-        → ((values others : Valuation) → ArePair basis region region near far values others
+        → ((values others : Valuation) → ArePair basis 0 region region near far values others
         → (states.0 ≡ (small_rivals basis 0 region values region others).0) × (states.1 ≡ (small_rivals basis 0 region values region others).1))
         → IsShownOf basis (conflict.Lost region p) (shown_beside place states.0 states.1)
     lost_shown near far near_is far_is place at states small =
@@ -156,12 +155,12 @@ module _ (parts : Parts) where
     pub absent_one : first_several basis region ≡ None → HasOneEntityPerKey basis region
     absent_one none = one_entity parts first.are (clear first.earlier) absent_listed.0 region absent_listed.1 absent_fact none
 
-    pub absent_has : (entity : Entity) → entity ≡ focus_entity basis region usual → HasValues basis region entity usual
-    absent_has entity is = usual_has parts first.are absent_listed.0 region absent_listed.1 entity is
+    pub absent_has : (entity : Entity) → entity ≡ focus_entity basis region usual → HasValues basis 0 region entity usual
+    absent_has entity is = usual_has parts first.are absent_listed.0 region absent_listed.1 0 (omega arith) entity is
 
     pub absent_shown : first_several basis region ≡ None → (entity : Entity) → entity ≡ focus_entity basis region usual → (place : Place) → IsAtKey region entity place
         → (states : State × State)
-        → ((values : Valuation) → HasValues basis region entity values → (states.0 ≡ (small_leaving basis 0 region values).0) × (states.1 ≡ (small_leaving basis 0 region values).1))
+        → ((values : Valuation) → HasValues basis 0 region entity values → (states.0 ≡ (small_leaving basis 0 region values).0) × (states.1 ≡ (small_leaving basis 0 region values).1))
         → IsShownOf basis (conflict.Absent region) (shown_beside place states.0 states.1)
     absent_shown none entity is place at states small =
         let both = small usual (absent_has entity is) in

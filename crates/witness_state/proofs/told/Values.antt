@@ -1,5 +1,5 @@
 -- The values of the entities that are shown are admissible, and their partners have the usual keys.
-use Rattle.std.proofs.Common.{◌≡◌, ⊎_elim, List, [], ◌∷◌, ◌++◌, Contains, find, unwrap_or, slice_get, None, Option, Some, Bool, IsTrue, refl, sym, subst, arith}
+use Rattle.std.proofs.Common.{◌≡◌, ℕ, ◌≤◌, ⊎_elim, List, [], ◌∷◌, ◌++◌, Contains, find, unwrap_or, slice_get, None, Option, Some, Bool, IsTrue, refl, sym, subst}
 use Rattle.std.specs.Option.{option_map_or}
 use Rattle.emc_base.proofs.Members.{contains_cons_cases, contains_nil}
 use Rattle.std.proofs.lemmas.List.Elements.{Contains-append_cases}
@@ -73,19 +73,20 @@ module _ (parts : Parts) (are : AreParts parts) (s : SetId) (region : Region) (h
   abbrev of_parts : Basis
   of_parts = basis_of parts
 
-  -- the usual entity
-  pub usual_has : (entity : Entity) → entity ≡ focus_entity of_parts region (default_valuation of_parts 0 region) → HasValues of_parts region entity (default_valuation of_parts 0 region)
-  usual_has entity is = record {
+  -- the usual entity, by any row of numbers
+  pub usual_has : (outer : ℕ) → outer ≤ 4 → (entity : Entity) → entity ≡ focus_entity of_parts region (default_valuation of_parts outer region)
+      → HasValues of_parts outer region entity (default_valuation of_parts outer region)
+  usual_has outer row entity is = record {
     s = s;
     listed = has;
     is = is;
-    admissible = default_admissible of_parts (basis_is parts are) are.limits s region has 0 (omega arith);
+    admissible = default_admissible of_parts (basis_is parts are) are.limits s region has outer row;
     parts = refl;
   }
 
   -- the one by whose values two symbols differ
   pub clash_has : (t : TableId) (col : ColId) (one two : Symbol) → IsTrue (is_clash of_parts (focus.Entity region) t col one two) → (entity : Entity)
-      → entity ≡ focus_entity of_parts region (clash_values of_parts region one two) → HasValues of_parts region entity (clash_values of_parts region one two)
+      → entity ≡ focus_entity of_parts region (clash_values of_parts region one two) → HasValues of_parts 0 region entity (clash_values of_parts region one two)
   clash_has t col one two told entity is = record {
     s = s;
     listed = has;

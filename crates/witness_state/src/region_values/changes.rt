@@ -53,6 +53,6 @@ pub fn changed_value(
 {
     match change {
         Some(change) if property.index == change.property.index => change.value.copy(alloc),
-        _ => default_value(alloc, parts, region, property),
+        _ => default_value(alloc, parts, 0, region, property),
     }
 }

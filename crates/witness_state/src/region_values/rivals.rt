@@ -69,7 +69,7 @@ fn value_of(
 {
     match rival_value(alloc, parts, rival, property)? {
         Some(value) => Ok(value),
-        None => default_value(alloc, parts, rival.region, property),
+        None => default_value(alloc, parts, 0, rival.region, property),
     }
 }
 

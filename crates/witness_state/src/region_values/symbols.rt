@@ -77,6 +77,6 @@ pub fn value_under(
         Symbol::Null => Ok(Value::Null),
         Symbol::Const(value) => value.copy(alloc),
         Symbol::Prop(property) => changed_value(alloc, parts, region, change, *property),
-        Symbol::End { assoc, first, prop } => default_part(alloc, parts, *assoc, *first, *prop),
+        Symbol::End { assoc, first, prop } => default_part(alloc, parts, 0, *assoc, *first, *prop),
     }
 }

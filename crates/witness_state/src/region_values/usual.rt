@@ -1,4 +1,4 @@
-ghost use Rattle.std.specs.Prelude.{◌≡◌, IfOk};
+ghost use Rattle.std.specs.Prelude.{◌≡◌, ◌≤◌, IfOk};
 ghost use Rattle.std.specs.Option.{option_copied};
 ghost use Rattle.cells.specs.Parts.{AreParts};
 ghost use Rattle.regions.specs.Atoms.{atom_at};
@@ -18,18 +18,21 @@ use regions::Region;
 use std::alloc::Global;
 use supported_states::{fresh, fresh_at};
 
-/// The usual value of a property in entities of a region; null where there is no such property. `Memory` comes where memory ran out.
+/// The usual value of a property in entities of a region, by one of the five rows of numbered values; null where there is no such property.
+/// `Memory` comes where memory ran out.
 pub fn default_value(
     alloc: Global,
     parts: &Parts<'_>,
+    row: u32,
     region: &Region,
     property: PropId,
 ) -> Result<Value, Memory>
-    requires { AreParts parts.now }
-    ensures { IfOk result (λ value. value ≡ default_value (basis_of parts.now) 0 region.now property) }
+    requires parts { AreParts parts.now }
+    requires row { row ≤ 4 }
+    ensures { IfOk result (λ value. value ≡ default_value (basis_of parts.now) row region.now property) }
 {
     match parts.model.props.get(property.index as usize) {
-        Some(declared) => declared_value(alloc, parts, region, property, declared),
+        Some(declared) => declared_value(alloc, parts, row, region, property, declared),
         None => Ok(Value::Null),
     }
 }
@@ -38,19 +41,21 @@ pub fn default_value(
 fn declared_value(
     alloc: Global,
     parts: &Parts<'_>,
+    row: u32,
     region: &Region,
     property: PropId,
     declared: &Prop,
 ) -> Result<Value, Memory>
-    requires { AreParts parts.now }
-    ensures { IfOk result (λ value. value ≡ declared_value (basis_of parts.now) 0 region.now property declared.now) }
+    requires parts { AreParts parts.now }
+    requires row { row ≤ 4 }
+    ensures { IfOk result (λ value. value ≡ declared_value (basis_of parts.now) row region.now property declared.now) }
 {
     let key = key_props(parts.model, region.ty);
     if is_among(property, key) {
-        return fresh(alloc, &declared.kind, 0, place_in(property, key) as u64);
+        return fresh(alloc, &declared.kind, row, place_in(property, key) as u64);
     }
     let told = told_atom(region.atoms.as_slice(), property);
-    value_by(alloc, parts, region.ty, property, declared, told)
+    value_by(alloc, parts, row, region.ty, property, declared, told)
 }
 
 /// The atom that is told of a property.
@@ -67,37 +72,42 @@ pub fn told_atom(atoms: &[AtomOf], property: PropId) -> Option<&Atom>
 fn value_by(
     alloc: Global,
     parts: &Parts<'_>,
+    row: u32,
     ty: TypeId,
     property: PropId,
     declared: &Prop,
     told: Option<&Atom>,
 ) -> Result<Value, Memory>
-    requires { AreParts parts.now }
-    ensures { IfOk result (λ value. value ≡ value_by (basis_of parts.now) 0 ty property declared.now (option_copied told.entry)) }
+    requires parts { AreParts parts.now }
+    requires row { row ≤ 4 }
+    ensures { IfOk result (λ value. value ≡ value_by (basis_of parts.now) row ty property declared.now (option_copied told.entry)) }
 {
     match told {
         Some(Atom::Null) => Ok(Value::Null),
         Some(Atom::Is(one)) => one.copy(alloc),
-        Some(Atom::Other) => some_value(alloc, parts, ty, property, declared),
+        Some(Atom::Other) => some_value(alloc, parts, row, ty, property, declared),
         None if declared.nullable => Ok(Value::Null),
-        None => some_value(alloc, parts, ty, property, declared),
+        None => some_value(alloc, parts, row, ty, property, declared),
     }
 }
 
-// A value that isn't null and no constant: of a dependent property by its place, else the first free one.
-fn some_value(
+/// A value of a property in entities of a type that isn't null and no constant: of a dependent property the one by its place in the type, of
+/// one of the five rows of numbered values, else the first free one, whatever the row. `Memory` comes where memory ran out.
+pub fn some_value(
     alloc: Global,
     parts: &Parts<'_>,
+    row: u32,
     ty: TypeId,
     property: PropId,
     declared: &Prop,
 ) -> Result<Value, Memory>
-    requires { AreParts parts.now }
-    ensures { IfOk result (λ value. value ≡ some_value (basis_of parts.now) 0 ty property declared.now) }
+    requires parts { AreParts parts.now }
+    requires row { row ≤ 4 }
+    ensures { IfOk result (λ value. value ≡ some_value (basis_of parts.now) row ty property declared.now) }
 {
     if is_dependent(parts.model, property) {
         let place = place_in(property, props_of(parts.model, ty));
-        return fresh(alloc, &declared.kind, 0, DEPENDENT + place as u64);
+        return fresh(alloc, &declared.kind, row, DEPENDENT + place as u64);
     }
     first_free(alloc, &declared.kind, constants_of(parts, property))
 }
@@ -134,16 +144,18 @@ pub fn other_value(
     next_free(alloc, &declared.kind, constants_of(parts, property))
 }
 
-/// The usual value of a part of the key of the partner by an association, at its first end or at its second; null where there is no
-/// such association or no such property. `Memory` comes where memory ran out.
+/// The usual value of a part of the key of the partner by an association, at its first end or at its second, by one of the five rows of
+/// numbered values; null where there is no such association or no such property. `Memory` comes where memory ran out.
 pub fn default_part(
     alloc: Global,
     parts: &Parts<'_>,
+    row: u32,
     assoc: AssocId,
     first: bool,
     property: PropId,
 ) -> Result<Value, Memory>
-    ensures { IfOk result (λ value. value ≡ default_part (basis_of parts.now) 0 assoc first property) }
+    requires { row ≤ 4 }
+    ensures { IfOk result (λ value. value ≡ default_part (basis_of parts.now) row assoc first property) }
 {
     let Some(declared) = parts.model.assocs.get(assoc.index as usize) else {
         return Ok(Value::Null);
@@ -151,5 +163,5 @@ pub fn default_part(
     let key = key_props(parts.model, end_at(first, declared).ty);
     let place = place_in(property, key) as u64;
     let index = PARTNER_KEY + PARTNER_PARTS * u64::from(assoc.index) + place;
-    fresh_at(alloc, parts.model, 0, property, index)
+    fresh_at(alloc, parts.model, row, property, index)
 }

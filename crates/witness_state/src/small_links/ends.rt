@@ -1,4 +1,4 @@
-ghost use Rattle.std.specs.Prelude.{◌≡◌, IfOk, not};
+ghost use Rattle.std.specs.Prelude.{◌≡◌, ◌≤◌, ℕ, IfOk, not};
 ghost use Rattle.round_trip.specs.Words.{EntityModel};
 ghost use Rattle.population.specs.LinkStates.{at_end, at_first, at_second, entity_at, key_at, other_at, other_link, placed_at, plain_link};
 ghost use Rattle.population.specs.Supported.{link_of};
@@ -21,14 +21,16 @@ const SECOND_KEY: u32 = 4;
 
 /// An end of an association, and the first of the indices of a key at it.
 #[derive(Clone, Copy)]
-pub(crate) struct EndAt<'m> {
-    pub(crate) end: &'m End,
-    pub(crate) index: u32,
+pub struct EndAt<'m> {
+    /// The end.
+    pub end: &'m End,
+    /// The index of the first part of the key; those of the other parts follow it.
+    pub index: u32,
 }
 
-/// The first end, with the indices of its own.
-pub(crate) fn at_first(declared: &Assoc) -> EndAt<'_>
-    ensures { (model : EntityModel) → plain_end result ≡ at_first model 0 declared.now }
+/// The first end of an association, with the indices of its own.
+pub fn at_first(declared: &Assoc) -> EndAt<'_>
+    ensures { (model : EntityModel) (outer : ℕ) → plain_end result ≡ at_first model outer declared.now }
 {
     EndAt {
         end: &declared.first,
@@ -36,9 +38,9 @@ pub(crate) fn at_first(declared: &Assoc) -> EndAt<'_>
     }
 }
 
-/// The second end.
-pub(crate) fn at_second(declared: &Assoc) -> EndAt<'_>
-    ensures { (model : EntityModel) → plain_end result ≡ at_second model 0 declared.now }
+/// The second end of an association, with the indices of its own.
+pub fn at_second(declared: &Assoc) -> EndAt<'_>
+    ensures { (model : EntityModel) (outer : ℕ) → plain_end result ≡ at_second model outer declared.now }
 {
     EndAt {
         end: &declared.second,
@@ -48,7 +50,7 @@ pub(crate) fn at_second(declared: &Assoc) -> EndAt<'_>
 
 /// The one or the other.
 pub(crate) fn at_end(first: bool, declared: &Assoc) -> EndAt<'_>
-    ensures { (model : EntityModel) → plain_end result ≡ at_end model 0 first declared.now }
+    ensures { (model : EntityModel) (outer : ℕ) → plain_end result ≡ at_end model outer first declared.now }
 {
     if first {
         at_first(declared)
@@ -59,7 +61,7 @@ pub(crate) fn at_end(first: bool, declared: &Assoc) -> EndAt<'_>
 
 /// An end, with the indices of a second partner.
 pub(crate) fn other_at(first: bool, declared: &Assoc) -> EndAt<'_>
-    ensures { (model : EntityModel) → plain_end result ≡ other_at model 0 first declared.now }
+    ensures { (model : EntityModel) (outer : ℕ) → plain_end result ≡ other_at model outer first declared.now }
 {
     let end = if first {
         &declared.first
@@ -72,50 +74,63 @@ pub(crate) fn other_at(first: bool, declared: &Assoc) -> EndAt<'_>
     }
 }
 
-/// The key at an end. `Memory` comes where memory ran out.
-pub(crate) fn key_at(alloc: Global, model: &EntityModel, one: &EndAt<'_>) -> Result<Key, Memory>
-    ensures { IfOk result (λ key. key ≡ key_at model.now 0 (plain_end one.now)) }
+/// The key at an end, by one of the five rows of numbered values. `Memory` comes where memory ran out.
+pub(crate) fn key_at(
+    alloc: Global,
+    model: &EntityModel,
+    row: u32,
+    one: &EndAt<'_>,
+) -> Result<Key, Memory>
+    requires { row ≤ 4 }
+    ensures { IfOk result (λ key. key ≡ key_at model.now row (plain_end one.now)) }
 {
-    key_from(alloc, model, 0, one.end.set, u64::from(one.index))
+    key_from(alloc, model, row, one.end.set, u64::from(one.index))
 }
 
-/// The plain entity at an end. `Memory` comes where memory ran out.
+/// The plain entity at an end, by one of the five rows of numbered values. `Memory` comes where memory ran out.
 pub(crate) fn entity_at(
     alloc: Global,
     model: &EntityModel,
+    row: u32,
     one: &EndAt<'_>,
 ) -> Result<Entity, Memory>
-    ensures { IfOk result (λ entity. entity ≡ entity_at model.now 0 (plain_end one.now)) }
+    requires { row ≤ 4 }
+    ensures { IfOk result (λ entity. entity ≡ entity_at model.now row (plain_end one.now)) }
 {
-    let key = key_at(alloc, model, one)?;
-    plain_entity(alloc, model, 0, 0, one.end.ty, &key)
+    let key = key_at(alloc, model, row, one)?;
+    plain_entity(alloc, model, row, 0, one.end.ty, &key)
 }
 
-/// The same in its set. `Memory` comes where memory ran out.
-pub(crate) fn placed_at(
+/// The plain entity at an end, by one of the five rows of numbered values, in its set. `Memory` comes where memory ran out.
+pub fn placed_at(
     alloc: Global,
     model: &EntityModel,
+    row: u32,
     one: &EndAt<'_>,
 ) -> Result<Placed, Memory>
-    ensures { IfOk result (λ placed. placed ≡ placed_at model.now 0 (plain_end one.now)) }
+    requires { row ≤ 4 }
+    ensures { IfOk result (λ placed. placed ≡ placed_at model.now row (plain_end one.now)) }
 {
     Ok(Placed {
         set: one.end.set,
-        entity: entity_at(alloc, model, one)?,
+        entity: entity_at(alloc, model, row, one)?,
     })
 }
 
-/// The link of the entities at both ends. `Memory` comes where memory ran out.
-pub(crate) fn plain_link(
+/// The link of the plain entities at both ends of an association, by one of the five rows of numbered values. `Memory` comes where memory
+/// ran out.
+pub fn plain_link(
     alloc: Global,
     model: &EntityModel,
+    row: u32,
     declared: &Assoc,
 ) -> Result<Link, Memory>
-    ensures { IfOk result (λ link. link ≡ plain_link model.now 0 declared.now) }
+    requires { row ≤ 4 }
+    ensures { IfOk result (λ link. link ≡ plain_link model.now row declared.now) }
 {
     Ok(Link {
-        first: key_at(alloc, model, &at_first(declared))?,
-        second: key_at(alloc, model, &at_second(declared))?,
+        first: key_at(alloc, model, row, &at_first(declared))?,
+        second: key_at(alloc, model, row, &at_second(declared))?,
     })
 }
 
@@ -128,13 +143,13 @@ pub(crate) fn other_link(
 ) -> Result<Link, Memory>
     ensures { IfOk result (λ link. link ≡ other_link model.now 0 first declared.now) }
 {
-    let near = key_at(alloc, model, &at_end(first, declared))?;
-    let far = key_at(alloc, model, &other_at(!first, declared))?;
+    let near = key_at(alloc, model, 0, &at_end(first, declared))?;
+    let far = key_at(alloc, model, 0, &other_at(!first, declared))?;
     Ok(link_of(first, near, far))
 }
 
-// The link with this key at the end, and this at the other.
-fn link_of(first: bool, key: Key, other: Key) -> Link
+/// The link with a key at its first end, or else at its second, and another key at the other end.
+pub fn link_of(first: bool, key: Key, other: Key) -> Link
     ensures { result ≡ link_of first key other }
 {
     if first {

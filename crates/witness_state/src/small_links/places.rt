@@ -31,7 +31,7 @@ pub fn link_keys_place(
     ensures { IfOk result (λ place. place
         ≡ place_at name.now ((plain_link model.now 0 declared.now).first ++ (plain_link model.now 0 declared.now).second) []) }
 {
-    let link = plain_link(alloc, model, declared)?;
+    let link = plain_link(alloc, model, 0, declared)?;
     Ok(Place {
         name: name.copy(alloc)?,
         key: joined(alloc, &link.first, &link.second)?,
@@ -78,7 +78,7 @@ pub fn link_cell_place(
     let column = entry.cols.at(col.index as usize);
     let declared = parts.model.assocs.at(assoc.index as usize);
     let fragment = fragment_of(parts, table);
-    let link = plain_link(alloc, parts.model, declared)?;
+    let link = plain_link(alloc, parts.model, 0, declared)?;
     let cols = entry.key.as_slice();
     Ok(Place {
         name: entry.name.copy(alloc)?,
@@ -106,7 +106,7 @@ pub fn shared_cell_place(
     let table = parts.store.tables.at(writing.table.index as usize);
     let column = table.cols.at(pair.col.index as usize);
     let pairing = parts.cells.pairing(writing.table);
-    let entity = entity_at(alloc, parts.model, &at_end(first_hosts, declared))?;
+    let entity = entity_at(alloc, parts.model, 0, &at_end(first_hosts, declared))?;
     Ok(Place {
         name: table.name.copy(alloc)?,
         key: values_of(alloc, parts.model, &entity, pairing.as_slice())?,

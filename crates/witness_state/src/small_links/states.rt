@@ -1,4 +1,4 @@
-ghost use Rattle.std.specs.Prelude.{◌≡◌, ◌∷◌, [], IfOk, not};
+ghost use Rattle.std.specs.Prelude.{◌≡◌, ◌≤◌, ◌∷◌, [], IfOk, not};
 ghost use Rattle.edm_types.specs.declared.model.Mult.TheVariants.{Many};
 ghost use Rattle.failure_laws.specs.SmallLinks.{roots_at, small_link, small_pair, small_shared};
 ghost use Rattle.population.specs.LinkStates.{of_assoc, other_link, plain_link};
@@ -15,39 +15,41 @@ use population::{PlacedKey, PlacedLink, Supporting};
 use std::alloc::Global;
 use supported_states::{small_state, small_states};
 
-/// What the entities at both ends of an association need where they are linked. `Memory` comes where memory ran out.
+/// What the plain entities at both ends of an association need where they are linked, by one of the five rows of numbered values. `Memory`
+/// comes where memory ran out.
 pub fn link_state(
     alloc: Global,
     model: &EntityModel,
+    row: u32,
     assoc: AssocId,
     declared: &Assoc,
 ) -> Result<EntityState, Memory>
-    requires { IsLinkable model.now assoc declared.now }
-    ensures { IfOk result (λ state. state ≡ small_link model.now 0 assoc declared.now) }
+    requires { IsLinkable model.now row assoc declared.now }
+    ensures { IfOk result (λ state. state ≡ small_link model.now row assoc declared.now) }
 {
-    let one = linked(alloc, model, assoc, declared)?;
-    let roots = both_roots(alloc, model, declared)?;
-    small_state(alloc, model, 0, &one, &roots)
+    let one = linked(alloc, model, row, assoc, declared)?;
+    let roots = both_roots(alloc, model, row, declared)?;
+    small_state(alloc, model, row, &one, &roots)
 }
 
-/// The same with the link and without it. `Memory` comes where memory ran out.
+/// The same with the link and without it, by the first row of numbered values. `Memory` comes where memory ran out.
 pub fn pair_of_link_states(
     alloc: Global,
     model: &EntityModel,
     assoc: AssocId,
     declared: &Assoc,
 ) -> Result<(EntityState, EntityState), Memory>
-    requires { IsLinkable model.now assoc declared.now }
+    requires { IsLinkable model.now 0 assoc declared.now }
     ensures one { IfOk result (λ both. both.0 ≡ (small_pair model.now 0 assoc declared.now).0) }
     ensures two { IfOk result (λ both. both.1 ≡ (small_pair model.now 0 assoc declared.now).1) }
 {
-    let one = linked(alloc, model, assoc, declared)?;
+    let one = linked(alloc, model, 0, assoc, declared)?;
     let two = unlinked(alloc, model, declared)?;
-    let roots = both_roots(alloc, model, declared)?;
+    let roots = both_roots(alloc, model, 0, declared)?;
     small_states(alloc, model, 0, &one, &two, &roots)
 }
 
-/// What the entity at this end and its two partners need. `Memory` comes where memory ran out.
+/// What the entity at this end and its two partners need, by the first row of numbered values. `Memory` comes where memory ran out.
 pub fn shared_state(
     alloc: Global,
     model: &EntityModel,
@@ -55,7 +57,7 @@ pub fn shared_state(
     declared: &Assoc,
     first: bool,
 ) -> Result<EntityState, Memory>
-    requires linkable { IsLinkable model.now assoc declared.now }
+    requires linkable { IsLinkable model.now 0 assoc declared.now }
     requires many { (end_of (not first) declared.now).mult ≡ Many }
     ensures { IfOk result (λ state. state ≡ small_shared model.now 0 assoc declared.now first) }
 {
@@ -68,16 +70,19 @@ pub fn shared_state(
 fn linked(
     alloc: Global,
     model: &EntityModel,
+    row: u32,
     assoc: AssocId,
     declared: &Assoc,
 ) -> Result<Supporting, Memory>
-    ensures { IfOk result (λ one. one ≡ linked model.now assoc declared.now) }
+    requires { row ≤ 4 }
+    ensures { IfOk result (λ one. one ≡ linked model.now row assoc declared.now) }
 {
     let mut links = Seq::empty(alloc);
-    links.push(plain_one(alloc, model, assoc, declared)?)?;
+    links.push(plain_one(alloc, model, row, assoc, declared)?)?;
     supporting(
         alloc,
         model,
+        row,
         &[at_first(declared), at_second(declared)],
         links,
     )
@@ -85,12 +90,13 @@ fn linked(
 
 // What that without it is made of.
 fn unlinked(alloc: Global, model: &EntityModel, declared: &Assoc) -> Result<Supporting, Memory>
-    ensures { IfOk result (λ one. one ≡ unlinked model.now declared.now) }
+    ensures { IfOk result (λ one. one ≡ unlinked model.now 0 declared.now) }
 {
     let links = Seq::empty(alloc);
     supporting(
         alloc,
         model,
+        0,
         &[at_first(declared), at_second(declared)],
         links,
     )
@@ -104,14 +110,15 @@ fn shared(
     declared: &Assoc,
     first: bool,
 ) -> Result<Supporting, Memory>
-    ensures { IfOk result (λ one. one ≡ shared model.now assoc declared.now first) }
+    ensures { IfOk result (λ one. one ≡ shared model.now 0 assoc declared.now first) }
 {
     let mut links = Seq::empty(alloc);
-    links.push(plain_one(alloc, model, assoc, declared)?)?;
+    links.push(plain_one(alloc, model, 0, assoc, declared)?)?;
     links.push(other_one(alloc, model, assoc, declared, first)?)?;
     supporting(
         alloc,
         model,
+        0,
         &[
             at_first(declared),
             at_second(declared),
@@ -125,14 +132,16 @@ fn shared(
 fn plain_one(
     alloc: Global,
     model: &EntityModel,
+    row: u32,
     assoc: AssocId,
     declared: &Assoc,
 ) -> Result<PlacedLink, Memory>
-    ensures { IfOk result (λ placed. placed ≡ of_assoc model.now 0 assoc (plain_link model.now 0 declared.now)) }
+    requires { row ≤ 4 }
+    ensures { IfOk result (λ placed. placed ≡ of_assoc model.now row assoc (plain_link model.now row declared.now)) }
 {
     Ok(PlacedLink {
         assoc,
-        link: plain_link(alloc, model, declared)?,
+        link: plain_link(alloc, model, row, declared)?,
     })
 }
 
@@ -156,11 +165,18 @@ fn other_one(
 fn both_roots(
     alloc: Global,
     model: &EntityModel,
+    row: u32,
     declared: &Assoc,
 ) -> Result<Seq<PlacedKey>, Memory>
-    ensures { IfOk result (λ roots. roots ≡ roots_at model.now 0 (two_ends model.now declared.now)) }
+    requires { row ≤ 4 }
+    ensures { IfOk result (λ roots. roots ≡ roots_at model.now row (two_ends model.now row declared.now)) }
 {
-    roots_at(alloc, model, &[at_first(declared), at_second(declared)])
+    roots_at(
+        alloc,
+        model,
+        row,
+        &[at_first(declared), at_second(declared)],
+    )
 }
 
 // Those, and that of the second partner.
@@ -170,11 +186,12 @@ fn all_roots(
     declared: &Assoc,
     first: bool,
 ) -> Result<Seq<PlacedKey>, Memory>
-    ensures { IfOk result (λ roots. roots ≡ roots_at model.now 0 (three_ends model.now first declared.now)) }
+    ensures { IfOk result (λ roots. roots ≡ roots_at model.now 0 (three_ends model.now 0 first declared.now)) }
 {
     roots_at(
         alloc,
         model,
+        0,
         &[
             at_first(declared),
             at_second(declared),

@@ -12,7 +12,9 @@ use supported_states::principals;
 /// The keys of given entities, and those of the principals that they ask for.
 #[derive(Drop)]
 pub struct Asked {
+    /// The keys of the given entities, in their order.
     pub roots: Seq<PlacedKey>,
+    /// The keys of the principals that they ask for, entity by entity.
     pub wanted: Seq<PlacedKey>,
 }
 

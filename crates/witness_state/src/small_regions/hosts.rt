@@ -17,7 +17,9 @@ use symbolic_rows::is_linked;
 /// An association whose links stand with the entities at one end, and whether this is the first.
 #[derive(Clone, Copy)]
 pub struct Hosting {
+    /// The association.
     pub assoc: AssocId,
+    /// Whether its links stand with the entities at its first end.
     pub first_hosts: bool,
 }
 

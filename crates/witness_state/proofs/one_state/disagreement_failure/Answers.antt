@@ -1,4 +1,4 @@
-use Rattle.std.proofs.Common.{IfOk, None, refl, sym, subst, ◌∙◌}
+use Rattle.std.proofs.Common.{IfOk, None, refl, sym, subst, arith}
 use Rattle.round_trip.specs.declared.FailKind.TheVariants as kind
 use Rattle.regions.specs.declared.pattern.Focus.{Focus}
 use Rattle.regions.specs.declared.pattern.Focus.TheVariants as focus
@@ -7,7 +7,7 @@ use Rattle.region_states.specs.defaults.Defaults.{default_valuation}
 use Rattle.region_states.specs.declared.conflicts.conflict.Conflict.TheVariants as conflict
 use Rattle.witness_state.specs.FirstConflict.{IsFirstConflict}
 use Rattle.witness_state.specs.Shown.{IsShownOf}
-use Rattle.witness_state.proofs.told.Links.{joined_there, shown_link}
+use Rattle.witness_state.proofs.told.Links.{shown_link}
 use Rattle.witness_state.proofs.told.Listed.{link_joined, region_listed}
 use Rattle.witness_state.proofs.told.Values.{usual_has}
 use Rattle.witness_state.proofs.one_state.disagreement_failure.Goals as goal
@@ -17,14 +17,14 @@ region_state-requires-clause-values c =
     let parts = c.args.parts.now in
     let first = subst (λ (of : Focus). IsFirstConflict parts (conflict.Disagree of c.args.name.now)) c.in-Entity.is c.requires in
     let listed = region_listed (basis_of parts) c.in-Entity.region first.of_one in
-    (default_valuation (basis_of parts) 0 c.in-Entity.region, usual_has parts first.are listed.0 c.in-Entity.region listed.1 c.in_ok-entity-in-Entity.entity c.in_ok-entity-in-Entity.ensures)
+    (default_valuation (basis_of parts) 0 c.in-Entity.region, usual_has parts first.are listed.0 c.in-Entity.region listed.1 0 (omega arith) c.in_ok-entity-in-Entity.entity c.in_ok-entity-in-Entity.ensures)
 
 pub returns-in_ok-state-in-Entity : goal.returns-in_ok-state-in-Entity
 returns-in_ok-state-in-Entity c =
     let parts = c.args.parts.now in
     let first = subst (λ (of : Focus). IsFirstConflict parts (conflict.Disagree of c.args.name.now)) c.in-Entity.is c.requires in
     let listed = region_listed (basis_of parts) c.in-Entity.region first.of_one in
-    let has = usual_has parts first.are listed.0 c.in-Entity.region listed.1 c.in_ok-entity-in-Entity.entity c.in_ok-entity-in-Entity.ensures in
+    let has = usual_has parts first.are listed.0 c.in-Entity.region listed.1 0 (omega arith) c.in_ok-entity-in-Entity.entity c.in_ok-entity-in-Entity.ensures in
     let small = c.in_ok-state-in-Entity.ensures (default_valuation (basis_of parts) 0 c.in-Entity.region) has in
     subst (λ (of : Focus). IsShownOf (basis_of parts) (conflict.Disagree of c.args.name.now) c.alone.result) (sym c.in-Entity.is)
     (subst (IsShownOf (basis_of parts) (conflict.Disagree (focus.Entity c.in-Entity.region) c.args.name.now)) (sym c.alone.ensures) (record {

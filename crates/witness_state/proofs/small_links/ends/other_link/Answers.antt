@@ -6,6 +6,6 @@ use Rattle.witness_state.proofs.small_links.ends.other_link.Goals as goal
 pub returns : goal.returns
 returns c =
     let model = c.args.model.now in
-    let near = c.in_ok-near.ensures ∙ ap (key_at model 0) (c.at_end.ensures model) in
-    let far = c.in_ok-far.ensures ∙ ap (key_at model 0) (c.other_at.ensures model) in
+    let near = c.in_ok-near.ensures ∙ ap (key_at model 0) (c.at_end.ensures model 0) in
+    let far = c.in_ok-far.ensures ∙ ap (key_at model 0) (c.other_at.ensures model 0) in
     c.link_of.ensures ∙ (λ k. link_of c.args.first (near k) (far k))

@@ -42,7 +42,7 @@ returns c =
     let there = c.at-writing.ensures in
     let pair = c.partner_pair-pair.result.now in
     let model = (schema_in parts).model in
-    let entity_is = c.in_ok-entity.ensures ∙ ap (entity_at model 0) (c.at_end.ensures model) in
+    let entity_is = c.in_ok-entity.ensures ∙ ap (entity_at model 0) (c.at_end.ensures model 0) in
     let tells = are.cells.pairings.each fragment.table c.pairing-pairing.result.now c.pairing-pairing.ensures in
     let key = c.in_ok-values_of.ensures ∙ (λ k. values_of model (entity_is k) (c.as_slice.ensures.items k))
     ∙ key_shared parts are a first_hosts number told assoc here fragment there c.pairing-pairing.result.now tells (entity_at model 0 (at_end model 0 first_hosts assoc)) in

@@ -7,4 +7,4 @@ pub returns : goal.returns
 returns c =
     let model = c.args.model.now in
     IfOk-weaker c.roots_at.result _ _
-    (λ roots is. is ∙ (λ k. root_at model (c.at_first.ensures model k) ∷ (root_at model (c.at_second.ensures model k) ∷ []))) c.roots_at.ensures
+    (λ roots is. is ∙ (λ k. root_at model c.args.row (c.at_first.ensures model c.args.row k) ∷ (root_at model c.args.row (c.at_second.ensures model c.args.row k) ∷ []))) c.roots_at.ensures

@@ -9,11 +9,11 @@ use Rattle.witness_state.proofs.small_links.states.link_state.Goals as goal
 
 pub small_state-requires : goal.small_state-requires
 small_state-requires c =
-    subst (IsSupported c.args.model.now 0) (sym c.in_ok-one.ensures) (linked_supported c.args.model.now c.args.assoc c.args.declared.now c.requires)
+    subst (IsSupported c.args.model.now c.args.row) (sym c.in_ok-one.ensures) (linked_supported c.args.model.now c.args.row c.args.assoc c.args.declared.now c.requires)
 
 pub returns : goal.returns
 returns c =
     let model = c.args.model.now in
     let roots = c.in_ok-roots.roots in
-    IfOk-weaker c.small_state.result (λ (state : State). state ≡ part model roots c.in_ok-one.one) (λ (state : State). state ≡ small_link model 0 c.args.assoc c.args.declared.now)
-    (λ state is. is ∙ link_is model c.args.assoc c.args.declared.now roots c.in_ok-roots.ensures c.in_ok-one.one c.in_ok-one.ensures) c.small_state.ensures
+    IfOk-weaker c.small_state.result (λ (state : State). state ≡ part model c.args.row roots c.in_ok-one.one) (λ (state : State). state ≡ small_link model c.args.row c.args.assoc c.args.declared.now)
+    (λ state is. is ∙ link_is model c.args.row c.args.assoc c.args.declared.now roots c.in_ok-roots.ensures c.in_ok-one.one c.in_ok-one.ensures) c.small_state.ensures

@@ -10,12 +10,12 @@ use Rattle.witness_state.proofs.small_links.states.shared_state.Goals as goal
 pub small_state-requires : goal.small_state-requires
 small_state-requires c =
     subst (IsSupported c.args.model.now 0) (sym c.in_ok-one.ensures)
-    (shared_supported c.args.model.now c.args.assoc c.args.declared.now c.requires.linkable c.args.first c.requires.many)
+    (shared_supported c.args.model.now 0 c.args.assoc c.args.declared.now c.requires.linkable c.args.first c.requires.many)
 
 pub returns : goal.returns
 returns c =
     let model = c.args.model.now in
     let roots = c.in_ok-roots.roots in
-    IfOk-weaker c.small_state.result (λ (state : State). state ≡ part model roots c.in_ok-one.one)
+    IfOk-weaker c.small_state.result (λ (state : State). state ≡ part model 0 roots c.in_ok-one.one)
     (λ (state : State). state ≡ small_shared model 0 c.args.assoc c.args.declared.now c.args.first)
-    (λ state is. is ∙ shared_is model c.args.assoc c.args.declared.now roots c.args.first c.in_ok-roots.ensures c.in_ok-one.one c.in_ok-one.ensures) c.small_state.ensures
+    (λ state is. is ∙ shared_is model 0 c.args.assoc c.args.declared.now roots c.args.first c.in_ok-roots.ensures c.in_ok-one.one c.in_ok-one.ensures) c.small_state.ensures

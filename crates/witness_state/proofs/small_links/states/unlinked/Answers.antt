@@ -7,4 +7,4 @@ pub returns : goal.returns
 returns c =
     let model = c.args.model.now in
     IfOk-weaker c.supporting.result _ _
-    (λ one is. is ∙ (λ k. supporting model (c.at_first.ensures model k ∷ (c.at_second.ensures model k ∷ [])) (c.empty-links.ensures k))) c.supporting.ensures
+    (λ one is. is ∙ (λ k. supporting model 0 (c.at_first.ensures model 0 k ∷ (c.at_second.ensures model 0 k ∷ [])) (c.empty-links.ensures k))) c.supporting.ensures

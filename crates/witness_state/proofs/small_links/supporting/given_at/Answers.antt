@@ -8,7 +8,7 @@ use Rattle.witness_state.proofs.small_links.supporting.given_at.Goals as goal
 
 pub loop-one-preserved : goal.loop-one-preserved
 loop-one-preserved c =
-    let f : EndAt → Placed = λ one. placed_at c.args.model.now 0 (plain_end one) in
+    let f : EndAt → Placed = λ one. placed_at c.args.model.now c.args.row (plain_end one) in
     let last : c.in_ok-placed_at.field-0 ≡ _ = c.in_ok-placed_at.ensures ∙ ap f c.one-item.is in
     c.in_ok-push.ensures.ok ∙ (λ k. c.loop-one.invariant k ++ (last k ∷ []))
     ∙ sym (map_more f c.args.ends.now c.loop-one.one-index c.one-item.result c.loop-one-test.true)

@@ -7,4 +7,4 @@ use Rattle.witness_state.proofs.small_regions.gathering.given_by.Given as goal
 -- the partners by the associations so far have come behind the entity
 abbrev pub invariant-loop-host : goal.invariant-loop-host
 invariant-loop-host l = l.given ≡ l.fn.focus
-    ∷ flat_map (λ host. by_assoc (basis_of l.parts) (partner_of (basis_of l.parts) 0 (usual (basis_of l.parts))) (host_of host)) (take l.host-index l.hosts)
+    ∷ flat_map (λ host. by_assoc (basis_of l.parts) (partner_of (basis_of l.parts) l.row (usual (basis_of l.parts) l.row)) (host_of host)) (take l.host-index l.hosts)

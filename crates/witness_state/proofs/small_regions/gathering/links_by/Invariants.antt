@@ -7,4 +7,4 @@ use Rattle.witness_state.proofs.small_regions.gathering.links_by.Given as goal
 
 -- the links by the associations so far have come
 abbrev pub invariant-loop-host : goal.invariant-loop-host
-invariant-loop-host l = l.links ≡ flat_map (λ host. by_assoc (basis_of l.parts) (link_with (basis_of l.parts) (key_of l.parts.model.now l.entity)) (host_of host)) (take l.host-index l.hosts)
+invariant-loop-host l = l.links ≡ flat_map (λ host. by_assoc (basis_of l.parts) (link_with (basis_of l.parts) l.row (key_of l.parts.model.now l.entity)) (host_of host)) (take l.host-index l.hosts)

@@ -5,4 +5,4 @@ use Rattle.witness_state.proofs.small_regions.partners.told_key.Given as goal
 
 -- the usual values of the properties so far have come
 abbrev pub invariant-loop-property : goal.invariant-loop-property
-invariant-loop-property l = l.key ≡ map (default_part (basis_of l.parts) 0 l.host.assoc (not l.host.first_hosts)) (take l.property-index l.property-items)
+invariant-loop-property l = l.key ≡ map (default_part (basis_of l.parts) l.row l.host.assoc (not l.host.first_hosts)) (take l.property-index l.property-items)
