@@ -1,4 +1,5 @@
-ghost use Rattle.std.specs.Prelude.{◌≡◌, ◌∷◌, ◌≤◌, IfOk, filter, flat_map};
+ghost use Rattle.std.specs.Prelude.{◌≡◌, ◌∷◌, ◌≤◌, [], IfOk, filter, flat_map};
+ghost use Rattle.std.specs.List.{cons_option};
 ghost use Rattle.cells.specs.Parts.{AreParts};
 ghost use Rattle.population.specs.Principals.{principals};
 ghost use Rattle.region_states.specs.region_basis.BasisOf.{basis_of};
@@ -13,7 +14,7 @@ use crate::principal::principal_entity;
 use crate::referring::Referring;
 use cells::Parts;
 use edm_types::{Entity, EntityModel, Pair};
-use emc_base::{Key, Memory, Seq, SetId};
+use emc_base::{Key, Memory, Seq, SetId, put_found};
 use entity_state::{EntityState, key_of};
 use population::{Placed, PlacedKey, PlacedLink, Supporting};
 use regions::Region;
@@ -42,7 +43,14 @@ pub fn both_state(
     let mut roots = Seq::empty(alloc);
     add_keys(alloc, parts.model, lone.given.as_slice(), &mut roots)?;
     let mut links = lone.links;
-    add_partner_links(alloc, parts, referring.row, hosts.as_slice(), &key, &mut links)?;
+    add_partner_links(
+        alloc,
+        parts,
+        referring.row,
+        hosts.as_slice(),
+        &key,
+        &mut links,
+    )?;
     let given = in_place(alloc, parts.model, region.set, entity, &key, lone.given)?;
     roots.push(PlacedKey {
         set: region.set,
@@ -67,11 +75,26 @@ fn in_place(
     let mut all = Seq::empty(alloc);
     all.push(Placed { set, entity })?;
     for placed in given.into_vec() {
-        if stays(alloc, model, set, key, &placed)? {
-            all.push(placed)?;
-        }
+        put_found(&mut all, staying(alloc, model, set, key, placed)?)?;
     }
     Ok(all)
+}
+
+// The entity, where it has another key, or is of another set.
+fn staying(
+    alloc: Global,
+    model: &EntityModel,
+    set: SetId,
+    key: &Key,
+    placed: Placed,
+) -> Result<Option<Placed>, Memory>
+    ensures { IfOk result (λ found. cons_option found [] ≡ filter (stays model.now set key.now) (placed ∷ [])) }
+{
+    if stays(alloc, model, set, key, &placed)? {
+        Ok(Some(placed))
+    } else {
+        Ok(None)
+    }
 }
 
 // Whether an entity has another key, or is of another set.

@@ -1,4 +1,6 @@
-ghost use Rattle.std.specs.Prelude.{◌≡◌, IfOk};
+ghost use Rattle.std.specs.Prelude.{◌≡◌, ◌≤◌, ◌∷◌, [], IfOk, map};
+ghost use Rattle.failure_laws.specs.SmallLinks.{both_ends};
+ghost use Rattle.population.specs.LinkStates.{of_assoc, placed_at, plain_link};
 ghost use Rattle.cells.specs.Parts.{AreParts};
 ghost use Rattle.region_states.specs.region_basis.BasisOf.{basis_of};
 ghost use Rattle.dangling_keys.specs.DanglingStates.{lone_given, lone_links, lone_state};
@@ -8,6 +10,7 @@ ghost use Rattle.dangling_states.specs.Referring.{IsReferring, Refers};
 use crate::referring::Referring;
 use crate::values::flow_entity;
 use cells::Parts;
+use edm_types::Assoc;
 use emc_base::{AssocId, Memory, Seq};
 use entity_state::EntityState;
 use population::PlacedLink;
@@ -73,15 +76,34 @@ fn link_given(
     ensures given { IfOk result (λ made. made.given ≡ lone_given (basis_of parts.now) referring.entry.look.of.now referring.entry.key.now) }
     ensures links { IfOk result (λ made. made.links ≡ lone_links (basis_of parts.now) referring.entry.look.of.now referring.entry.key.now) }
 {
-    let mut given = Seq::empty(alloc);
-    let mut links = Seq::empty(alloc);
-    if let Some(declared) = parts.model.assocs.get(assoc.index as usize) {
-        given.push(placed_at(alloc, parts.model, referring.row, &at_first(declared))?)?;
-        given.push(placed_at(alloc, parts.model, referring.row, &at_second(declared))?)?;
-        links.push(PlacedLink {
-            assoc,
-            link: plain_link(alloc, parts.model, referring.row, declared)?,
-        })?;
+    match parts.model.assocs.get(assoc.index as usize) {
+        Some(declared) => ends_given(alloc, parts, referring.row, assoc, declared),
+        None => Ok(Gathered {
+            given: Seq::empty(alloc),
+            links: Seq::empty(alloc),
+        }),
     }
+}
+
+// The same by the association's declaration.
+fn ends_given(
+    alloc: Global,
+    parts: &Parts<'_>,
+    row: u32,
+    assoc: AssocId,
+    declared: &Assoc,
+) -> Result<Gathered, Memory>
+    requires { row ≤ 4 }
+    ensures given { IfOk result (λ made. made.given ≡ map (placed_at parts.now.model.now row) (both_ends parts.now.model.now row assoc declared.now)) }
+    ensures links { IfOk result (λ made. made.links ≡ of_assoc parts.now.model.now row assoc (plain_link parts.now.model.now row declared.now) ∷ []) }
+{
+    let mut given = Seq::empty(alloc);
+    given.push(placed_at(alloc, parts.model, row, &at_first(declared))?)?;
+    given.push(placed_at(alloc, parts.model, row, &at_second(declared))?)?;
+    let mut links = Seq::empty(alloc);
+    links.push(PlacedLink {
+        assoc,
+        link: plain_link(alloc, parts.model, row, declared)?,
+    })?;
     Ok(Gathered { given, links })
 }

@@ -8,7 +8,7 @@ ghost use Rattle.dangling_search.specs.Lent.{IsLook, settled_of};
 use cells::Parts;
 use dangling_search::{Look, Shown, cell_at};
 use edm_types::ForeignKey;
-use emc_base::{Memory, PropId, Seq, Txt, Value};
+use emc_base::{ColId, Memory, Seq, Txt, Value, character_count};
 use regions::Symbol;
 use std::alloc::Global;
 use witness_state::first_free_of;
@@ -42,9 +42,24 @@ fn outer_values(
 {
     let mut values = Seq::empty(alloc);
     for col in key.from_cols.as_slice() {
-        values.push(outer_value(alloc, parts, &cell_at(parts, look, key.from, *col))?)?;
+        values.push(outer_value_at(alloc, parts, look, key, *col)?)?;
     }
     Ok(values)
+}
+
+// That of one cell.
+fn outer_value_at(
+    alloc: Global,
+    parts: &Parts<'_>,
+    look: Look<'_>,
+    key: &ForeignKey,
+    col: ColId,
+) -> Result<Value, Memory>
+    requires parts { AreParts parts.now }
+    requires look { IsLook (basis_of parts.now) look }
+    ensures { IfOk result (λ value. value ≡ outer_value (basis_of parts.now) (cell_at (basis_of parts.now) look.entry.of.now key.now.from col)) }
+{
+    outer_value(alloc, parts, &cell_at(parts, look, key.from, col))
 }
 
 // The value that a cell holds where this is no part of a key: the one that is known, or the first of the property that is no constant.
@@ -100,9 +115,11 @@ fn row_of(value: &Value) -> u32
 fn row_of_text(text: &Txt) -> u32
     ensures { result ≡ row_of_letters (chars text.now) }
 {
-    let mut letters = text.as_str().chars();
-    match (letters.next(), letters.next()) {
-        (Some(letter), None) => (letter as u32 + 3) % 5,
-        _ => 5,
+    if character_count(text.as_str()) != 1 {
+        return 5;
+    }
+    match text.as_str().chars().next() {
+        Some(letter) => (letter as u32 + 3) % 5,
+        None => 5,
     }
 }

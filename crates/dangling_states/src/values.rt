@@ -1,5 +1,6 @@
 ghost use Rattle.std.specs.Prelude.{◌≡◌, ◌≤◌, [], IfOk};
 ghost use Rattle.cells.specs.Parts.{AreParts};
+ghost use Rattle.round_trip.specs.Words.{key_props, value_beside};
 ghost use Rattle.region_states.specs.region_basis.BasisOf.{basis_of};
 ghost use Rattle.region_states.specs.Entities.{focus_entity};
 ghost use Rattle.regions.specs.declared.pattern.Focus.TheVariants as focus;
@@ -7,12 +8,13 @@ ghost use Rattle.regions.specs.Patterns.{value_under};
 ghost use Rattle.dangling_keys.specs.FlowStates.{flow_values, values_of_focus};
 
 use cells::Parts;
-use edm_types::Entity;
-use emc_base::{AssocId, Memory, PropId, Seq, Value};
+use edm_types::{Entity, EntityModel};
+use emc_base::{AssocId, Key, Memory, PropId, Seq, TypeId, Value};
 use regions::{Focus, Region, Symbol};
 use std::alloc::Global;
 use witness_state::{
-    default_part, default_value, is_among, key_props, plain_link, props_of, some_value, value_beside,
+    default_part, default_value, is_among, key_props, plain_link, props_of, some_value,
+    value_beside,
 };
 
 /// The entity of a region with the usual values of a row of numbers, but that none of the given properties is null. `Memory` comes where memory ran out.
@@ -94,7 +96,9 @@ fn entity_value(
         Symbol::Null => Ok(Value::Null),
         Symbol::Const(value) => value.copy(alloc),
         Symbol::Prop(property) => flow_value(alloc, parts, row, region, not_null, *property),
-        Symbol::End { assoc, first, prop } => default_part(alloc, parts, row, *assoc, *first, *prop),
+        Symbol::End { assoc, first, prop } => default_part(
+            alloc, parts, row, *assoc, *first, *prop,
+        ),
     }
 }
 
@@ -132,10 +136,28 @@ fn end_value(
         return Ok(Value::Null);
     };
     let link = plain_link(alloc, parts.model, row, declared)?;
-    let (ty, key) = if first {
-        (declared.first.ty, &link.first)
+    if first {
+        part_of(alloc, parts.model, declared.first.ty, property, &link.first)
     } else {
-        (declared.second.ty, &link.second)
-    };
-    value_beside(alloc, property, key_props(parts.model, ty), key.as_slice())
+        part_of(
+            alloc,
+            parts.model,
+            declared.second.ty,
+            property,
+            &link.second,
+        )
+    }
+}
+
+// A part of a key of a type.
+fn part_of(
+    alloc: Global,
+    model: &EntityModel,
+    ty: TypeId,
+    property: PropId,
+    key: &Key,
+) -> Result<Value, Memory>
+    ensures { IfOk result (λ value. value ≡ value_beside property (key_props model.now ty) key.now) }
+{
+    value_beside(alloc, property, key_props(model, ty), key.as_slice())
 }

@@ -12,7 +12,7 @@ mod shared;
 mod symbols;
 mod usual;
 
-pub use declared::key_props;
+pub use declared::{is_among, key_props, props_of};
 pub use entities::{clash_entity, lost_entities, rival_entities, usual_entity};
 pub(crate) use symbols::value_under;
-pub use usual::{default_part, default_value, some_value};
+pub use usual::{default_part, default_value, first_free_of, some_value};

@@ -12,3 +12,4 @@ pub use places::{
     host_row_place, link_cell_place, link_keys_place, shared_cell_place, unmapped_place,
 };
 pub use states::{link_state, pair_of_link_states, shared_state};
+pub use written::{fragment_of, value_beside, written_values};

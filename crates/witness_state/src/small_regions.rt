@@ -6,7 +6,7 @@ mod hosts;
 mod partners;
 mod states;
 
-pub use asking::{Asked, ask};
+pub use asking::{Asked, add_keys, add_principals, ask};
 pub use gathering::{Gathered, gather};
 pub use hosts::{Hosting, linked_hosts};
 pub use partners::{link_by, partner_by};

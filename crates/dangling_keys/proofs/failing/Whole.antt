@@ -174,7 +174,7 @@ module _ (basis : Basis) (given : HasNoClash basis) (key : ForeignKey) (is_key :
           (listed Of_link q other pairing paired) (under Of_link q other pairing paired) other.no_row
 
   -- some set owns the table by a pairing where a row is told of a region
-  own_pairing : (of : Focus) (principal : Option Region) → LacksRow basis of key principal → (pairing : List Pair) × IsPairedBy basis key pairing principal
+  pub own_pairing : (of : Focus) (principal : Option Region) → LacksRow basis of key principal → (pairing : List Pair) × IsPairedBy basis key pairing principal
   own_pairing of None lacks = ([], refl)
   own_pairing of (Some q) (inl own) = (own.1.pairing, own.1.owns)
   own_pairing of (Some q) (inr other) = (other.pairing, subst (λ (u : SetId). OwnsTable basis key.to u other.pairing) (sym (set_is basis other.u q other.listed)) other.owns)

@@ -1,7 +1,10 @@
-ghost use Rattle.std.specs.Prelude.{◌≡◌, ◌≤◌, IfOk};
-ghost use Rattle.std.specs.Option.{option_copied};
+ghost use Rattle.std.specs.Prelude.{◌≡◌, ◌≤◌, IfOk, slice_get};
+ghost use Rattle.std.specs.Option.{option_copied, option_map_or};
 ghost use Rattle.cells.specs.Parts.{AreParts};
 ghost use Rattle.regions.specs.Atoms.{atom_at};
+ghost use Rattle.round_trip.specs.Words.{Null};
+ghost use Rattle.round_trip.specs.soundness.mappings.Joined.{prop};
+ghost use Rattle.region_states.specs.defaults.Candidates.{first_free};
 ghost use Rattle.region_states.specs.defaults.Defaults.{declared_value, default_part, default_value, one_value, other_value, some_value, value_by};
 ghost use Rattle.region_states.specs.region_basis.BasisOf.{basis_of};
 
@@ -110,6 +113,19 @@ pub fn some_value(
         return fresh(alloc, &declared.kind, row, DEPENDENT + place as u64);
     }
     first_free(alloc, &declared.kind, constants_of(parts, property))
+}
+
+/// The first candidate of a property's kind that is no constant of its group; of flags and of an enumeration the first one of all. Null where there is no such
+/// property. `Memory` comes where memory ran out.
+pub fn first_free_of(alloc: Global, parts: &Parts<'_>, property: PropId) -> Result<Value, Memory>
+    requires { AreParts parts.now }
+    ensures { IfOk result (λ value. value
+        ≡ option_map_or (λ declared. first_free declared.kind ((basis_of parts.now).constants (prop property))) (slice_get parts.now.model.now.props property.index) Null) }
+{
+    match parts.model.props.get(property.index as usize) {
+        Some(declared) => first_free(alloc, &declared.kind, constants_of(parts, property)),
+        None => Ok(Value::Null),
+    }
 }
 
 /// A value that isn't null of a property that may have several. `Memory` comes where memory ran out.

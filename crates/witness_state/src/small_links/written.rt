@@ -11,7 +11,7 @@ use emc_base::{ColId, Key, Memory, PropId, Seq, TableId, TypeId, Value};
 use std::alloc::Global;
 
 /// The link fragment that writes an association's own table.
-pub(crate) fn fragment_of<'m>(parts: &Parts<'m>, table: TableId) -> &'m LinkFragment
+pub fn fragment_of<'m>(parts: &Parts<'m>, table: TableId) -> &'m LinkFragment
     requires { (assoc : AssocId) × IsTableOf (basis_of parts.now) assoc table }
     ensures { (assoc : AssocId) (of : IsTableOf (basis_of parts.now) assoc table) → result.now ≡ of.fragment }
 {
@@ -34,7 +34,7 @@ fn fragment_to<'m>(parts: &Parts<'m>, table: TableId) -> Option<&'m LinkFragment
 }
 
 /// What a link writes to these columns. `Memory` comes where memory ran out.
-pub(crate) fn written_values(
+pub fn written_values(
     alloc: Global,
     model: &EntityModel,
     declared: &Assoc,
@@ -92,7 +92,7 @@ fn part_of(
 }
 
 /// The value that stands beside a property, and null for none. `Memory` comes where memory ran out.
-pub(crate) fn value_beside(
+pub fn value_beside(
     alloc: Global,
     prop: PropId,
     props: &[PropId],

@@ -45,8 +45,8 @@ pub fn ask(
     add_principals(alloc, model, given, &mut asked.wanted)
 }
 
-// Adds the keys of given entities.
-fn add_keys(
+/// Adds the keys of given entities. `Memory` comes where memory ran out.
+pub fn add_keys(
     alloc: Global,
     model: &EntityModel,
     given: &[Placed],
@@ -64,8 +64,8 @@ fn add_keys(
     Ok(())
 }
 
-// Adds the principals that given entities ask for.
-fn add_principals(
+/// Adds the keys of the principals that given entities ask for. `Memory` comes where memory ran out.
+pub fn add_principals(
     alloc: Global,
     model: &EntityModel,
     given: &[Placed],
