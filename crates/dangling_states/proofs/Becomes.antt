@@ -1,17 +1,16 @@
 -- What is shown of a key that dangles is a failure.
-use Rattle.std.proofs.Common.{◌≡◌, ◌↔◌, ⊎_elim, ◌≤◌, ◌<◌, IsSome, List, None, Option, Some, unwrap_or, sym, subst, ◌∙◌, arith}
+use Rattle.std.proofs.Common.{◌≡◌, ◌↔◌, ⊎_elim, ◌≤◌, ◌<◌, IsSome, List, None, Option, unwrap_or, sym, subst, ◌∙◌, arith}
 use Rattle.std.proofs.lemmas.Bool.{cases_lt}
 use Rattle.emc_base.proofs.Lists.{at_once}
 use Rattle.emc_base.proofs.Mapped.{contains_at}
 use Rattle.round_trip.specs.Words.{At, FailsAt, ForeignKey, Pair, Place, State, kind_number}
 use Rattle.round_trip.specs.declared.FailKind.{FailKind}
 use Rattle.round_trip.specs.declared.FailKind.TheVariants as kind
-use Rattle.cells.specs.Parts.{schema_in}
 use Rattle.cells.specs.declared.parts.Parts.{Parts}
 use Rattle.regions.specs.Basis.{Basis}
 use Rattle.region_states.specs.region_basis.BasisOf.{basis_of}
 use Rattle.region_states.proofs.region_basis.Bases.{basis_is}
-use Rattle.dangling_keys.specs.Dangling.{DanglesAt, IsDangling}
+use Rattle.dangling_keys.specs.Dangling.{DanglesAt}
 use Rattle.dangling_keys.specs.DanglingStates.{IsRowPlace, dangling_state}
 use Rattle.dangling_keys.specs.Failing.{FailsAtKey}
 use Rattle.dangling_keys.specs.Laws.{HasNoClash, IsPairedBy, IsShownToFail}

@@ -25,6 +25,6 @@ pub use small_links::{
     shared_state, unmapped_place, value_beside, written_values,
 };
 pub use small_regions::{
-    Asked, Gathered, Hosting, add_keys, add_principals, ask, gather, leaving_states, link_by,
-    linked_hosts, pair_of_states, partner_by, region_state,
+    Gathered, Hosting, add_keys, add_principals, gather, leaving_states, linked_hosts,
+    pair_of_states, region_state,
 };

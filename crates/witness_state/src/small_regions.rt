@@ -6,8 +6,7 @@ mod hosts;
 mod partners;
 mod states;
 
-pub use asking::{Asked, add_keys, add_principals, ask};
+pub use asking::{add_keys, add_principals};
 pub use gathering::{Gathered, gather};
 pub use hosts::{Hosting, linked_hosts};
-pub use partners::{link_by, partner_by};
 pub use states::{leaving_states, pair_of_states, region_state};

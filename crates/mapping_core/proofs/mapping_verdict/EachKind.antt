@@ -1,4 +1,5 @@
 -- What is so of each kind is so of all.
+use Rattle.std.proofs.Common.{IsSome, None}
 use Rattle.round_trip.specs.Words.{Schema}
 use Rattle.round_trip.specs.declared.FailKind.{FailKind}
 use Rattle.round_trip.specs.declared.FailKind.TheVariants as variant
@@ -11,3 +12,7 @@ each_kind schema clash null disagrees dangling same variant.Null = null
 each_kind schema clash null disagrees dangling same variant.Disagrees = disagrees
 each_kind schema clash null disagrees dangling same variant.Dangling = dangling
 each_kind schema clash null disagrees dangling same variant.Same = same
+
+-- nothing isn't something
+pub none_some : (X : Type 0) → IsSome {T = X} None → ⊥
+none_some X some = let never = some in (let no : ⊥ = cc in no)

@@ -17,6 +17,9 @@ returns-in-Some-2-clause-fails c = λ failure same. c.in_ok-failure-2.ensures.fa
 pub returns-in-Some-3-clause-fails : goal.returns-in-Some-3-clause-fails
 returns-in-Some-3-clause-fails c = λ failure same. c.in_ok-failure-3.ensures.fails failure (c.in-Some-3.is ∙ same)
 
+pub returns-in-Some-4-clause-fails : goal.returns-in-Some-4-clause-fails
+returns-in-Some-4-clause-fails c = λ failure same. c.in_ok-failure-4.ensures.fails failure (c.in-Some-4.is ∙ same)
+
 -- where none is found of any kind, none fails
 pub returns-clause-round_trips : goal.returns-clause-round_trips
 returns-clause-round_trips c =
@@ -24,7 +27,7 @@ returns-clause-round_trips c =
     let basis = basis_of c.args.parts.now in
     IfOk-weaker c.failure_by-4.result (λ found. found ≡ None → NoneFailsBy schema variant.Same) (λ found. found ≡ None → RoundTrips schema)
     (λ found none same. c.a_mapping_round_trips_place_by_place.ensures.round_trips basis (each_kind schema (c.in_ok-failure.ensures.none c.in_default.is) (c.in_ok-failure-2.ensures.none c.in_default-2.is)
-    (c.in_ok-failure-3.ensures.none c.in_default-3.is) (c.a_mapping_round_trips_place_by_place.ensures.dangling basis c.requires.keyless) (none same)))
+    (c.in_ok-failure-3.ensures.none c.in_default-3.is) (c.in_ok-failure-4.ensures.none c.in_default-4.is) (none same)))
     c.failure_by-4.ensures.none
 
 pub returns-clause-keeps : goal.returns-clause-keeps
