@@ -8,3 +8,4 @@ pub mod OtherEntity
 pub mod OtherLink
 pub mod Whole
 pub mod RoundTrip
+pub mod Placed

@@ -5,3 +5,4 @@ pub mod Reading
 pub mod EntityRead
 pub mod LinkRead
 pub mod LeftOut
+pub mod Apart

@@ -22,7 +22,7 @@ use Rattle.dangling_keys.specs.Dangling.{DanglesAt, IsDangling, OwnsTable}
 use Rattle.dangling_keys.specs.DanglingStates.{IsRowPlace, dangling_state}
 use Rattle.dangling_keys.specs.Failing.{FailsAtKey}
 use Rattle.dangling_keys.specs.FlowStates.{AreOpen, flow_state, values_of_focus}
-use Rattle.dangling_keys.specs.LeftOut.{LeavesUnforcedOut}
+use Rattle.dangling_keys.specs.LeftOut.{LeavesUnforcedOut, SetsApart}
 use Rattle.dangling_keys.specs.declared.key.DanglingKey.{DanglingKey}
 
 -- a sound mapping within the limits
@@ -59,6 +59,13 @@ abbrev pub IsShownToFail : (basis : Basis) (told : DanglingKey) → IsDangling b
 IsShownToFail basis told dangling = (pairing : List Pair) → IsPairedBy basis dangling.key pairing told.principal → (place : Place) → IsRowPlace basis told.focus dangling.key place
     → FailsAtKey basis dangling.key place (dangling_state basis told.focus dangling.key pairing told.principal)
 
+-- some place names the row of the focus, and some pairing is that by which the set of the region owns the table
+pub record HasPlace (basis : Basis) (told : DanglingKey) (dangling : IsDangling basis told) : Type 0 where
+  pub place : Place
+  pub named : IsRowPlace basis told.focus dangling.key place
+  pub pairing : List Pair
+  pub paired : IsPairedBy basis dangling.key pairing told.principal
+
 -- one of the five rows of numbers
 abbrev pub IsRow : ℕ → Type 0
 IsRow outer = outer ≤ 4
@@ -76,14 +83,10 @@ pub record IsLinkOf (basis : Basis) (outer : ℕ) (a : AssocId) (assoc : Assoc) 
   pub here : At basis.schema.model.assocs a.index assoc
   pub independent : IsIndependent assoc
 
--- the state that holds the entity of the region, or the link, leaves out what isn't forced
-abbrev pub LeavesOutAtEntity : Basis → ℕ → Region → List PropId → Type 0
-LeavesOutAtEntity basis outer region not_null =
-    LeavesUnforcedOut basis outer (focus.Entity region) (values_of_focus basis outer (focus.Entity region) not_null) not_null (flow_state basis outer (focus.Entity region) not_null)
-
-abbrev pub LeavesOutAtLink : Basis → ℕ → AssocId → List PropId → Type 0
-LeavesOutAtLink basis outer a not_null =
-    LeavesUnforcedOut basis outer (focus.Link a) (values_of_focus basis outer (focus.Link a) not_null) not_null (flow_state basis outer (focus.Link a) not_null)
+-- the state that holds the focus, its entity or its link, leaves out what isn't forced, and sets its values apart
+pub record LeavesOutAt (basis : Basis) (outer : ℕ) (of : Focus) (not_null : List PropId) : Type 0 where
+  pub leaves : LeavesUnforcedOut basis outer of (values_of_focus basis outer of not_null) not_null (flow_state basis outer of not_null)
+  pub apart : SetsApart basis outer of (values_of_focus basis outer of not_null) (flow_state basis outer of not_null)
 
 -- it holds the entity, none of whose given properties is null
 pub record HoldsEntity (basis : Basis) (outer : ℕ) (region : Region) (not_null : List PropId) : Type 0 where

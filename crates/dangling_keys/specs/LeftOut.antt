@@ -1,6 +1,6 @@
 -- Each entity of a state has the key of a number, or a key that is read off the focus or a forced entity.
 -- Source: this project's choice of the states that it shows; CSDL version 3, ReferentialConstraint.
-use Rattle.std.specs.Prelude.{◌≡◌, ◌⊎◌, ◌↔◌, ◌<◌, ℕ, List, Contains, Option, None, Some}
+use Rattle.std.specs.Prelude.{◌≡◌, ◌≢◌, ◌⊎◌, ◌↔◌, ◌<◌, ℕ, List, Contains, Option, None, Some}
 use Rattle.round_trip.specs.Words.{SetId, PropId, Value, Kind, Entity, IsLegal, State, entities_in, key_of, value_beside, value_of}
 use Rattle.round_trip.specs.soundness.Lookups.{IsUnderElement, set_key}
 use Rattle.schema_laws.specs.short_values.Fresh.{added_value, fresh, fresh_at}
@@ -13,6 +13,7 @@ use Rattle.forced_entities.specs.Forced.{IsForced, part_in}
 use Rattle.forced_entities.specs.declared.member.Forced.{Forced}
 use Rattle.dangling_keys.specs.Dangling.{IsOwn}
 use Rattle.dangling_keys.specs.Flow.{IsFlow}
+use Rattle.dangling_keys.specs.Outer.{IsOuter}
 
 module _ (basis : Basis) where
   -- the key is that of a number
@@ -48,3 +49,9 @@ module _ (basis : Basis) (outer : ℕ) (of : Focus) (values : Valuation) where
     pub exact : (u : SetId) (part : PropId → Symbol) → ((p : PropId) → Contains (set_key basis.schema.model u) p → (i : ℕ) × IsFlow basis of (part p) i)
         → ((entity : Entity) × Contains (entities_in state u) entity × ((p : PropId) → Contains (set_key basis.schema.model u) p → value_of basis.schema.model entity p ≡ value_under values (part p)))
         ↔ ((one : Forced) × IsMember basis of not_null one × (one.set ≡ u) × ((p : PropId) → Contains (set_key basis.schema.model u) p → part_in basis one p ≡ Some (part p)))
+
+  -- no part of a key of the state is outside of the row of numbers, so none is a value that is set apart from it; and a symbol for a part of a key doesn't have the value of a part that is unknown
+  pub record SetsApart (state : State) : Type 0 where
+    pub numbered : (u : SetId) (entity : Entity) → Contains (entities_in state u) entity → (p : PropId) → Contains (set_key basis.schema.model u) p → ¬ IsOuter outer (value_of basis.schema.model entity p)
+    pub unknown : (u : SetId) (p : PropId) → Contains (set_key basis.schema.model u) p → (one : Symbol) (i : ℕ) → IsFlow basis of one i
+        → value_under values one ≢ fresh_at basis.schema.model outer p (added_value 0)

@@ -1,10 +1,10 @@
 pub mod Showing
 pub mod Dangling
 pub mod Members
+pub mod Outer
 pub mod Flow
 pub mod FlowStates
 pub mod LeftOut
-pub mod Outer
 pub mod Failing
 pub mod OtherStates
 pub mod DanglingStates

@@ -9,7 +9,7 @@ use Rattle.std.specs.Ordering.{nat_cmp, ordering_then}
 use Rattle.json_form.specs.PlaceOrder.{steps_cmp_apart, steps_cmp_total}
 use Rattle.json_form.specs.Pointers.{steps_cmp}
 use Rattle.layouts.specs.declared.rule.Rule.{Rule}
-use Rattle.layouts.specs.declared.rule.Rule.TheVariants.{IsJson, HasForm, HasMembers, IsKnown, IsSupported, NamedOnce, Resolves, Ancestors, TypeKey, KeyProperty, InheritedName, PropertyType, Bound, ConcreteType, EndRoles, Multiplicities, Constraint, DependentKey, Arrows, EndType, ColumnType, TableKey, KeyColumn, ForeignKey, PointsElsewhere, ContainerName, PickedType, SharedProperty, Corresponds, WritesKey, OnePairing, OneOwner, ConditionForm, ConditionValue, KeyCondition, LinkPlace, ConstraintMapping, ForeignValue, WrittenOnce, MappedAssociation, IsBuilt}
+use Rattle.layouts.specs.declared.rule.Rule.TheVariants.{IsJson, HasForm, HasMembers, IsKnown, IsSupported, NamedOnce, Resolves, Ancestors, TypeKey, KeyProperty, InheritedName, PropertyType, Bound, ConcreteType, EndRoles, Multiplicities, Constraint, DependentKey, Arrows, EndType, ColumnType, TableKey, KeyColumn, ForeignKey, PointsElsewhere, ContainerName, PickedType, SharedProperty, Corresponds, WritesKey, OnePairing, OneOwner, ConditionForm, ConditionValue, KeyCondition, LinkPlace, ConstraintMapping, ForeignValue, WrittenOnce, MappedAssociation}
 use Rattle.layouts.specs.Faults.{fault_cmp}
 use Rattle.layouts.specs.Rules.{rule_number}
 
@@ -19,7 +19,7 @@ fault_cmp_total = then_total (on_total (λ fault. rule_number fault.rule) nat_cm
 
 -- the rule of a number
 rule_of : ℕ → Rule
-rule_of number = get_or (IsJson ∷ IsJson ∷ HasForm ∷ HasMembers ∷ IsKnown ∷ IsSupported ∷ NamedOnce ∷ Resolves ∷ Ancestors ∷ TypeKey ∷ KeyProperty ∷ InheritedName ∷ PropertyType ∷ Bound ∷ ConcreteType ∷ EndRoles ∷ Multiplicities ∷ Constraint ∷ DependentKey ∷ Arrows ∷ EndType ∷ ColumnType ∷ TableKey ∷ KeyColumn ∷ ForeignKey ∷ PointsElsewhere ∷ ContainerName ∷ PickedType ∷ SharedProperty ∷ Corresponds ∷ WritesKey ∷ OnePairing ∷ OneOwner ∷ ConditionForm ∷ ConditionValue ∷ KeyCondition ∷ LinkPlace ∷ ConstraintMapping ∷ ForeignValue ∷ WrittenOnce ∷ MappedAssociation ∷ []) number IsBuilt
+rule_of number = get_or (IsJson ∷ IsJson ∷ HasForm ∷ HasMembers ∷ IsKnown ∷ IsSupported ∷ NamedOnce ∷ Resolves ∷ Ancestors ∷ TypeKey ∷ KeyProperty ∷ InheritedName ∷ PropertyType ∷ Bound ∷ ConcreteType ∷ EndRoles ∷ Multiplicities ∷ Constraint ∷ DependentKey ∷ Arrows ∷ EndType ∷ ColumnType ∷ TableKey ∷ KeyColumn ∷ ForeignKey ∷ PointsElsewhere ∷ ContainerName ∷ PickedType ∷ SharedProperty ∷ Corresponds ∷ WritesKey ∷ OnePairing ∷ OneOwner ∷ ConditionForm ∷ ConditionValue ∷ KeyCondition ∷ LinkPlace ∷ ConstraintMapping ∷ ForeignValue ∷ WrittenOnce ∷ MappedAssociation ∷ []) number IsJson
 
 -- its number has no other rule
 numbered : (rule : Rule) → rule_of (rule_number rule) ≡ rule
@@ -64,7 +64,6 @@ numbered ConstraintMapping = refl
 numbered ForeignValue = refl
 numbered WrittenOnce = refl
 numbered MappedAssociation = refl
-numbered IsBuilt = refl
 
 -- rules of one number are one
 pub rules_apart : (one two : Rule) → rule_number one ≡ rule_number two → one ≡ two

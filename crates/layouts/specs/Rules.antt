@@ -1,7 +1,7 @@
 -- The numbers of the rules.
 use Rattle.std.specs.Prelude.{ℕ}
 use Rattle.layouts.specs.declared.rule.Rule.{Rule}
-use Rattle.layouts.specs.declared.rule.Rule.TheVariants.{IsJson, HasForm, HasMembers, IsKnown, IsSupported, NamedOnce, Resolves, Ancestors, TypeKey, KeyProperty, InheritedName, PropertyType, Bound, ConcreteType, EndRoles, Multiplicities, Constraint, DependentKey, Arrows, EndType, ColumnType, TableKey, KeyColumn, ForeignKey, PointsElsewhere, ContainerName, PickedType, SharedProperty, Corresponds, WritesKey, OnePairing, OneOwner, ConditionForm, ConditionValue, KeyCondition, LinkPlace, ConstraintMapping, ForeignValue, WrittenOnce, MappedAssociation, IsBuilt}
+use Rattle.layouts.specs.declared.rule.Rule.TheVariants.{IsJson, HasForm, HasMembers, IsKnown, IsSupported, NamedOnce, Resolves, Ancestors, TypeKey, KeyProperty, InheritedName, PropertyType, Bound, ConcreteType, EndRoles, Multiplicities, Constraint, DependentKey, Arrows, EndType, ColumnType, TableKey, KeyColumn, ForeignKey, PointsElsewhere, ContainerName, PickedType, SharedProperty, Corresponds, WritesKey, OnePairing, OneOwner, ConditionForm, ConditionValue, KeyCondition, LinkPlace, ConstraintMapping, ForeignValue, WrittenOnce, MappedAssociation}
 
 -- the number that is printed, and by which rules are ordered
 abbrev pub rule_number : Rule → ℕ
@@ -45,4 +45,3 @@ rule_number ConstraintMapping = 37
 rule_number ForeignValue = 38
 rule_number WrittenOnce = 39
 rule_number MappedAssociation = 40
-rule_number IsBuilt = 99

@@ -85,8 +85,6 @@ pub enum Rule {
     WrittenOnce = 39,
     /// 40: the mapping of an association set names the association of that set.
     MappedAssociation = 40,
-    /// 99: the documents are of the form that is built so far.
-    IsBuilt = 99,
 }
 
 impl Rule {

@@ -1,4 +1,5 @@
 use Rattle.dangling_keys.proofs.told.Told.{dangling_told}
+use Rattle.dangling_keys.proofs.failing.Placed.{has_place}
 use Rattle.dangling_keys.proofs.failing.Whole.{keys_decided, told_shown}
 use Rattle.dangling_keys.proofs.laws.dangling_keys_are_decided.Goals as goal
 
@@ -10,3 +11,6 @@ returns-clause-told c basis given = dangling_told basis given.sound.is_basis giv
 
 pub returns-clause-fails : goal.returns-clause-fails
 returns-clause-fails c = told_shown
+
+pub returns-clause-placed : goal.returns-clause-placed
+returns-clause-placed c = has_place

@@ -1,8 +1,9 @@
-use Rattle.dangling_keys.proofs.left_out.LeftOut.{entity_holds, entity_leaves, entity_no_null, link_held, link_leaves}
+use Rattle.dangling_keys.proofs.left_out.Apart.{entity_apart, link_apart}
+use Rattle.dangling_keys.proofs.left_out.LeftOut.{entity_holds, entity_no_null, link_held}
 use Rattle.dangling_keys.proofs.laws.what_is_not_forced_is_left_out.Goals as goal
 
 pub returns-clause-entities : goal.returns-clause-entities
-returns-clause-entities c basis sound outer region not_null of = entity_leaves basis sound.is_basis sound.limits outer of.row of.s region of.listed not_null of.open_
+returns-clause-entities c basis sound outer region not_null of = entity_apart basis sound.is_basis sound.limits outer of.row of.s region of.listed not_null of.open_
 
 pub returns-clause-focus : goal.returns-clause-focus
 returns-clause-focus c basis sound outer region not_null of = record {
@@ -11,7 +12,7 @@ returns-clause-focus c basis sound outer region not_null of = record {
 }
 
 pub returns-clause-links : goal.returns-clause-links
-returns-clause-links c basis sound outer a assoc of = link_leaves basis sound.is_basis sound.limits outer of.row a assoc of.here of.independent
+returns-clause-links c basis sound outer a assoc of = link_apart basis sound.is_basis sound.limits outer of.row a assoc of.here of.independent
 
 pub returns-clause-link : goal.returns-clause-link
 returns-clause-link c basis sound outer a assoc of = link_held basis sound.is_basis sound.limits outer of.row a assoc of.here of.independent
