@@ -13,7 +13,7 @@ use Rattle.regions.specs.declared.region.Region.{Region}
 use Rattle.regions.specs.Basis.{Basis}
 use Rattle.regions.specs.Fitting.{fits}
 use Rattle.region_states.specs.region_basis.BasisOf.{basis_of, hosts_in}
-use Rattle.mapping_core.specs.Accepted.{AreMadeOf}
+use Rattle.mapping_core.specs.Accepted.{AreMadeOf, HasRegions}
 use Rattle.region_partition.specs.set_regions.Regions.{AreRegions}
 use Rattle.update_views.specs.Views.{AreViewsOf}
 use Rattle.query_views.specs.Views.{AreQueryViewsOf}
@@ -31,29 +31,29 @@ basis_by schema cells = record {
   hosts = hosts_in schema.model cells.places;
 }
 
-module _ (schema : Schema) (cells : Cells) (regions : List (List Region)) (views : MappingViews) (made : AreMadeOf schema cells regions views) where
-  -- the regions of which an accepted mapping is made are those by this basis
-  pub regions_stand : AreRegions (basis_by schema cells) regions
-  regions_stand = subst (λ basis. AreRegions basis regions) (λ i. basis_by (made.of_schema i) (made.of_cells i)) made.are_regions
+-- the regions of an accepted mapping are those by this basis
+pub regions_stand : (schema : Schema) (cells : Cells) (regions : List (List Region)) → HasRegions schema cells regions → AreRegions (basis_by schema cells) regions
+regions_stand schema cells regions has = subst (λ basis. AreRegions basis regions) (λ i. basis_by (has.of_schema i) (has.of_cells i)) has.are_regions
 
+module _ (schema : Schema) (cells : Cells) (regions : List (List Region)) (views : MappingViews) (made : AreMadeOf schema cells regions views) where
   -- and so are its update views
   pub update_views_stand : AreViewsOf (basis_by schema cells) views.update
-  update_views_stand = subst (λ basis. AreViewsOf basis views.update) (λ i. basis_by (made.of_schema i) (made.of_cells i)) made.are_update_views
+  update_views_stand = subst (λ basis. AreViewsOf basis views.update) (λ i. basis_by (made.has.of_schema i) (made.has.of_cells i)) made.are_update_views
 
   -- and its query views
   pub query_views_stand : AreQueryViewsOf (basis_by schema cells) (is_free_in cells) views.query
   query_views_stand = subst (λ (by : Basis × Cells). AreQueryViewsOf by.0 (is_free_in by.1) views.query)
-      (λ i. (basis_by (made.of_schema i) (made.of_cells i), made.of_cells i)) made.are_query_views
+      (λ i. (basis_by (made.has.of_schema i) (made.has.of_cells i), made.has.of_cells i)) made.are_query_views
 
 -- what parts are told with makes their schema
+pub regions_by : (parts : Parts) → AreParts parts → (regions : List (List Region)) → AreRegions (basis_of parts) regions → HasRegions (schema_in parts) parts.cells.now regions
+regions_by parts are regions are_regions = record { parts = parts; of_schema = refl; of_cells = refl; are_parts = are; are_regions = are_regions }
+
+-- and with views
 pub made_by : (parts : Parts) → AreParts parts → (regions : List (List Region)) → AreRegions (basis_of parts) regions → (views : MappingViews) → AreViewsOf (basis_of parts) views.update
     → AreQueryViewsOf (basis_of parts) (is_free_in parts.cells.now) views.query → AreMadeOf (schema_in parts) parts.cells.now regions views
 made_by parts are regions are_regions views are_update_views are_query_views = record {
-  parts = parts;
-  of_schema = refl;
-  of_cells = refl;
-  are_parts = are;
-  are_regions = are_regions;
+  has = regions_by parts are regions are_regions;
   are_update_views = are_update_views;
   are_query_views = are_query_views;
 }

@@ -1,21 +1,30 @@
 -- The tables of a legal state by an accepted mapping are legal, and the state's own.
 use Rattle.std.proofs.Common.{◌≡◌, ◌⊎◌, ⊎_elim, List, [], map, All, Contains, Result, Ok, Err, refl, sym, subst}
 use Rattle.std.specs.List.{AllZip}
-use Rattle.std.proofs.lemmas.List.Elements.{All-contains, All-nil}
+use Rattle.std.proofs.lemmas.List.Elements.{All-contains}
 use Rattle.std.proofs.lemmas.List.{map-id}
 use Rattle.emc_base.proofs.Lists.{all_from_members}
 use Rattle.emc_base.proofs.Mapped.{all_zip-map}
-use Rattle.round_trip.specs.Words.{TableId, ColId, ForeignKey, Null, Row, Schema, State, Tables, AreLegalTables, AreSameTables, HasAllowedNullCells, HasCellsInDomain, HasDemandedCells, IsErasedRow, IsFree, IsLegal, KeepsForeignKey, TablesAre, cell_of, rows_in}
+use Rattle.round_trip.specs.Words.{TableId, ColId, ForeignKey, Null, Row, Schema, State, Tables, AreLegalTables, AreSameTables, HasAllowedNullCells, HasCellsInDomain, HasDemandedCells, IsErasedRow, IsFree, IsLegal, KeepsForeignKey, TablesAre, cell_of, cells_of, rows_in}
+use Rattle.round_trip.specs.legality.LegalTables.{FindsRow, Refers}
 use Rattle.schema_laws.proofs.state_demand.tables.SameTables.{same_tables}
-use Rattle.schema_laws.proofs.same_states.Reordered.{all_in_any_order}
+use Rattle.schema_laws.proofs.same_states.Reordered.{all_in_any_order, any_in_any_order}
 use Rattle.keyed_rows.proofs.row_differences.OfState.{free_not_demanded}
 use Rattle.case_laws.specs.Reading.{HasStateTables}
 use Rattle.table_files.proofs.table_legality.Kept.{no_breach}
-use Rattle.mapping_core.specs.Accepted.{IsAccepted, IsDecided}
+use Rattle.mapping_core.specs.Accepted.{IsAccepted}
 use Rattle.mapping_core.specs.states.Loads.{Loads}
 use Rattle.mapping_core.specs.states.GivesBack.{GivesBack}
 use Rattle.mapping_core.specs.declared.loading.LoadFault.{LoadFault}
 use Rattle.mapping_core.specs.declared.loading.LoadFault.TheVariants.{Breach as NotLegal, NoCase, Illegal, Differs, Memory}
+
+-- the same tables keep the same foreign keys
+keeps_too : (one two : Tables) → AreSameTables one two → (key : ForeignKey) → KeepsForeignKey one key → KeepsForeignKey two key
+keeps_too one two same key kept =
+    let Kept : Tables → Row → Type 0 = λ tables row. Refers key row → FindsRow tables key row in
+    all_in_any_order (Kept one) (Kept two)
+    (λ row finds refers. any_in_any_order (λ (target : Row). cells_of target key.to_cols ≡ cells_of row key.from_cols) (rows_in one key.to) (rows_in two key.to) (same key.to) (finds refers))
+    (rows_in one key.from) (rows_in two key.from) (same key.from) kept
 
 module _ (schema : Schema) (state : State) (tables : Tables) (are : TablesAre schema state tables) where
   abbrev HasNullWhereFree : TableId → Row → Type 0
@@ -43,11 +52,10 @@ module _ (schema : Schema) (state : State) (tables : Tables) (are : TablesAre sc
   own_tables = record { erased = tables; are_erased = record { shape = are.shape; rows = kept }; are = are }
 
   -- and legal
-  pub legal_tables : IsDecided schema → IsAccepted schema → IsLegal schema.model state → AreLegalTables schema.store tables
-  legal_tables decided accepted legal =
+  pub legal_tables : IsAccepted schema → IsLegal schema.model state → AreLegalTables schema.store tables
+  legal_tables accepted legal =
       let good = accepted.keeps.every_state.stored state legal in
       let same : AreSameTables good.tables tables = same_tables schema state good.tables tables good.defined are in
-      let Keep : List ForeignKey → Type 0 = λ keys. All (KeepsForeignKey tables) keys in
       record {
         shape = are.shape;
         rows = λ t table here.
@@ -57,7 +65,8 @@ module _ (schema : Schema) (state : State) (tables : Tables) (are : TablesAre sc
               domains = all_in_any_order (HasCellsInDomain table) (HasCellsInDomain table) (λ row holds. holds) (rows_in good.tables t) (rows_in tables t) (same t) rows.domains;
               keys = (are.rows t table here).once;
             };
-        keys = subst Keep (sym decided.keyless) (All-nil (KeepsForeignKey tables));
+        keys = all_from_members (KeepsForeignKey tables) schema.store.keys
+            (λ key among. keeps_too good.tables tables same key (All-contains (KeepsForeignKey good.tables) schema.store.keys key good.legal.keys among));
       }
 
 -- loading legal tables of a state's own gives the state back, unless memory ran out

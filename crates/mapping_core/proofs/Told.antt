@@ -8,7 +8,7 @@ use Rattle.serde_json.specs.Data.{Data, null}
 use Rattle.json_form.specs.TreeParts.{tree_at}
 use Rattle.groupings.specs.least_fault.Least.{IsLeast}
 use Rattle.layouts.specs.declared.fault.Fault.{Fault}
-use Rattle.layouts.specs.declared.rule.Rule.TheVariants.{IsBuilt, IsJson}
+use Rattle.layouts.specs.declared.rule.Rule.TheVariants.{IsJson}
 use Rattle.layouts.specs.Faults.{fault_cmp}
 use Rattle.layouts.proofs.Faults.{not_after_itself, same_fault}
 use Rattle.edm_types.specs.declared.faults.VocabFault.{VocabFault}
@@ -27,12 +27,11 @@ use Rattle.msl_rules.specs.msl_lists.Raw.{raw_mapping}
 use Rattle.msl_rules.specs.MappingFaults.{IsMappingFault}
 use Rattle.msl_rules.specs.MappingMeaning.{schema_in}
 use Rattle.msl_fragments.specs.ReadsMapping.{IsMappingOf}
-use Rattle.mapping_core.specs.Accepted.{IsDecided}
 use Rattle.layouts.specs.told_rules.Reads.{Answers}
-use Rattle.layouts.specs.told_rules.Told.{IsToldOrMemory, told_as}
-use Rattle.mapping_core.specs.Compiles.{AreRead, ReadsAll, ReadsSchema}
+use Rattle.layouts.specs.told_rules.Told.{told_as}
+use Rattle.mapping_core.specs.Compiles.{ReadsSchema}
 use Rattle.mapping_core.specs.Reading.{IsReadOf, ReadsFile, ReadsTree}
-use Rattle.mapping_core.specs.Rules.{Breaks, IsFaultBy, IsFileFault, IsReadSchema, IsToldRule, file_number, model_in, schema_of_files, store_in, tree_in}
+use Rattle.mapping_core.specs.Rules.{Breaks, IsFaultBy, IsReadSchema, IsToldRule, file_number, model_in, schema_of_files, store_in, tree_in}
 
 -- files of one number are one file
 pub same_file : (one two : VocabFile) → file_number one ≡ file_number two → one ≡ two
@@ -91,7 +90,7 @@ module _ {X : Type 0} (file : VocabFile) (BreaksRule : Data → Fault → Type 0
 module _ (csdl ssdl msl : List ℕ) where
   -- the file has no fault
   abbrev IsFaultless : VocabFile → Type 0
-  IsFaultless file = IsLeast fault_cmp (IsFileFault csdl ssdl msl file) None
+  IsFaultless file = IsLeast fault_cmp (Breaks csdl ssdl msl file) None
 
   -- so of the first files, so many of them
   abbrev AreFaultless : ℕ → Type 0
@@ -109,32 +108,30 @@ module _ (csdl ssdl msl : List ℕ) where
       (cases_lt (file_number other) (file_number file))
 
   -- the least fault of the first file that has one is told
-  tells_first : (file : VocabFile) (fault : Fault) → IsLeast fault_cmp (IsFileFault csdl ssdl msl file) (Some fault) → AreFaultless (file_number file)
+  tells_first : (file : VocabFile) (fault : Fault) → IsLeast fault_cmp (Breaks csdl ssdl msl file) (Some fault) → AreFaultless (file_number file)
       → IsToldRule csdl ssdl msl (told_as file fault)
-  tells_first file fault is before = record { fault = fault; spelled = refl; broken = inl is.0; in_first_file = first_file; least = least }
-    where
-      first_file : (other : VocabFile) (else : Fault) → Breaks csdl ssdl msl other else → file_number file ≤ file_number other
-      first_file other else (inl own) = ⊎_elim
-          (λ (earlier : file_number other < file_number file). absurd (before other earlier else own))
-          (λ (later : file_number file ≤ file_number other). later)
-          (cases_lt (file_number other) (file_number file))
-      first_file other else (inr last) = absurd (last.3.faultless file fault is.0)
-
-      least : (other : Fault) → Breaks csdl ssdl msl file other → fault_cmp fault other ≢ Greater
-      least other (inl own) = is.1 other own
-      least other (inr last) = absurd (last.3.faultless file fault is.0)
+  tells_first file fault is before = record {
+    fault = fault;
+    spelled = refl;
+    broken = is.0;
+    in_first_file = λ other else breaks. ⊎_elim
+        (λ (earlier : file_number other < file_number file). absurd (before other earlier else breaks))
+        (λ (later : file_number file ≤ file_number other). later)
+        (cases_lt (file_number other) (file_number file));
+    least = is.1;
+  }
 
   -- what stops the reading of a file is told
-  stops_at : (file : VocabFile) (fault : VocabFault) → Answers {X = Schema} file (IsFileFault csdl ssdl msl file) (λ read. ⊥) (Err fault) → AreFaultless (file_number file)
-      → ReadsAll csdl ssdl msl (Err fault)
+  stops_at : (file : VocabFile) (fault : VocabFault) → Answers {X = Schema} file (Breaks csdl ssdl msl file) (λ read. ⊥) (Err fault) → AreFaultless (file_number file)
+      → ReadsSchema csdl ssdl msl (Err fault)
   stops_at file (read.Rule told) reads before = subst (IsToldRule csdl ssdl msl) (sym reads.2) (tells_first file reads.0 reads.1 before)
   stops_at file read.Memory reads before = cc
 
 -- what stops the reading is what it answers
 handed_on : (csdl ssdl msl : List ℕ) (told : VocabFault) (result : Result Schema VocabFault) → IsErrAnd result (λ fault. fault ≡ told)
-    → ReadsAll csdl ssdl msl (Err told) → ReadsAll csdl ssdl msl result
+    → ReadsSchema csdl ssdl msl (Err told) → ReadsSchema csdl ssdl msl result
 handed_on csdl ssdl msl told (Ok schema) is reads = absurd is
-handed_on csdl ssdl msl told (Err fault) is reads = let P : VocabFault → Type 0 = λ other. ReadsAll csdl ssdl msl (Err other) in subst P (sym is) reads
+handed_on csdl ssdl msl told (Err fault) is reads = let P : VocabFault → Type 0 = λ other. ReadsSchema csdl ssdl msl (Err other) in subst P (sym is) reads
 
 -- what was told of a file says nothing of what would have been read
 told_alone : {X Y : Type 0} (file : VocabFile) (P : Fault → Type 0) (IsRead : X → Type 0) (IsOther : Y → Type 0) (fault : VocabFault)
@@ -145,7 +142,7 @@ told_alone file P IsRead IsOther read.Memory answers = answers
 module _ (csdl ssdl msl : List ℕ) where
   -- the first file stops the reading
   pub stops_at_model : (told : VocabFault) (result : Result Schema VocabFault) → IsErrAnd result (λ fault. fault ≡ told) → ReadsFile Csdl IsModelFault IsModelOf csdl (Err told)
-      → ReadsAll csdl ssdl msl result
+      → ReadsSchema csdl ssdl msl result
   stops_at_model told result is reads = handed_on csdl ssdl msl told result is
       (stops_at csdl ssdl msl Csdl told (told_alone Csdl (IsFaultBy IsModelFault csdl) (IsReadOf IsModelOf csdl) (λ (schema : Schema). ⊥) told reads) (none_read csdl ssdl msl))
 
@@ -159,7 +156,7 @@ module _ (csdl ssdl msl : List ℕ) where
 
     -- the second file stops the reading
     pub stops_at_store : (told : VocabFault) (result : Result Schema VocabFault) → IsErrAnd result (λ fault. fault ≡ told) → ReadsFile Ssdl IsStoreFault IsStoreOf ssdl (Err told)
-        → ReadsAll csdl ssdl msl result
+        → ReadsSchema csdl ssdl msl result
     stops_at_store told result is reads = handed_on csdl ssdl msl told result is
         (stops_at csdl ssdl msl Ssdl told (told_alone Ssdl (IsFaultBy IsStoreFault ssdl) (IsReadOf IsStoreOf ssdl) (λ (schema : Schema). ⊥) told reads) model_clean)
 
@@ -172,7 +169,7 @@ module _ (csdl ssdl msl : List ℕ) where
 
       -- the third file stops the reading
       pub stops_at_mapping : (told : VocabFault) (result : Result Schema VocabFault) → IsErrAnd result (λ fault. fault ≡ told)
-          → ReadsFile Msl (IsMappingFault model store) (IsMappingOf model store) msl (Err told) → ReadsAll csdl ssdl msl result
+          → ReadsFile Msl (IsMappingFault model store) (IsMappingOf model store) msl (Err told) → ReadsSchema csdl ssdl msl result
       stops_at_mapping told result is reads = handed_on csdl ssdl msl told result is (stops_at csdl ssdl msl Msl told between store_clean)
         where
           Told : EntityModel → StoreModel → Type 0
@@ -203,62 +200,11 @@ module _ (csdl ssdl msl : List ℕ) where
             here : Clean model store
             here = faultless_tree Msl (IsMappingFault model store) (IsMappingOf model store) msl of_mapping.tree of_mapping.held of_mapping.is_read.unbroken
 
-        faultless : (file : VocabFile) (fault : Fault) → ¬ IsFileFault csdl ssdl msl file fault
-        faultless Csdl = mapping_clean Csdl (omega arith)
-        faultless Ssdl = mapping_clean Ssdl (omega arith)
-        faultless Msl = mapping_clean Msl (omega arith)
+        unbroken : (file : VocabFile) (fault : Fault) → ¬ Breaks csdl ssdl msl file fault
+        unbroken Csdl = mapping_clean Csdl (omega arith)
+        unbroken Ssdl = mapping_clean Ssdl (omega arith)
+        unbroken Msl = mapping_clean Msl (omega arith)
 
-        -- documents of no form that is built break the last rule
-        tells_unbuilt : (fault : Fault) → fault.rule ≡ IsBuilt → fault.place ≡ [] → (¬ IsDecided together) → IsToldRule csdl ssdl msl (told_as Msl fault)
-        tells_unbuilt fault rule root formless = record {
-          fault = fault;
-          spelled = refl;
-          broken = inr (refl, rule, root, record { faultless = faultless; formless = λ form. formless (subst IsDecided (sym together_is) form) });
-          in_first_file = first_file;
-          least = least;
-        }
-          where
-            first_file : (other : VocabFile) (else : Fault) → Breaks csdl ssdl msl other else → 2 ≤ file_number other
-            first_file other else (inl own) = absurd (faultless other else own)
-            first_file other else (inr last) = let P : VocabFile → Type 0 = λ file. 2 ≤ file_number file in subst P (sym last.0) (omega arith)
-
-            least : (other : Fault) → Breaks csdl ssdl msl Msl other → fault_cmp fault other ≢ Greater
-            least other (inl own) = absurd (faultless Msl other own)
-            least other (inr last) =
-                let same : fault ≡ other = same_fault fault other (rule ∙ sym last.1) (root ∙ sym last.2) in
-                subst (λ (else : Fault). fault_cmp fault else ≢ Greater) same (not_after_itself fault)
-
-        is_unbuilt : (answer : VocabFault) → (¬ IsDecided together) → IsToldOrMemory (told_as Msl (record { rule = IsBuilt; place = [] })) answer
-            → ReadsSchema csdl ssdl msl (Err answer)
-        is_unbuilt (read.Rule told) formless answered =
-            subst (IsToldRule csdl ssdl msl) (sym answered) (tells_unbuilt (record { rule = IsBuilt; place = [] }) refl refl formless)
-        is_unbuilt read.Memory formless answered = cc
-
-        -- documents of the form break no rule
-        is_meant : IsDecided together → IsReadSchema csdl ssdl msl together
-        is_meant form = record { means = record { unbroken = unbroken; meaning = together_is }; sound = of_mapping.is_read.sound; form = form }
-          where
-            unbroken : (file : VocabFile) (fault : Fault) → ¬ Breaks csdl ssdl msl file fault
-            unbroken file fault (inl own) = faultless file fault own
-            unbroken file fault (inr last) = last.3.formless (subst IsDecided together_is form)
-
-module _ (csdl ssdl msl : List ℕ) where
-  -- what stops the reading of all is told of the whole
-  pub all_stops : (told : VocabFault) (result : Result Schema VocabFault) → IsErrAnd result (λ fault. fault ≡ told) → ReadsAll csdl ssdl msl (Err told)
-      → ReadsSchema csdl ssdl msl result
-  all_stops told (Ok schema) is reads = absurd is
-  all_stops told (Err fault) is reads = let P : VocabFault → Type 0 = λ other. ReadsSchema csdl ssdl msl (Err other) in subst P (sym is) (on_err told reads)
-    where
-      on_err : (told : VocabFault) → ReadsAll csdl ssdl msl (Err told) → ReadsSchema csdl ssdl msl (Err told)
-      on_err (read.Rule rule) reads = reads
-      on_err read.Memory reads = reads
-
-  module _ (schema : Schema) (read_all : AreRead csdl ssdl msl schema) where
-    -- what they mean together is of the form
-    pub all_meant : IsDecided schema → IsReadSchema csdl ssdl msl schema
-    all_meant = is_meant csdl ssdl msl schema.model read_all.of_model schema.store read_all.of_store schema.mapping read_all.of_mapping
-
-    -- or of none
-    pub all_unbuilt : (answer : VocabFault) → (¬ IsDecided schema) → IsToldOrMemory (told_as Msl (record { rule = IsBuilt; place = [] })) answer
-        → ReadsSchema csdl ssdl msl (Err answer)
-    all_unbuilt = is_unbuilt csdl ssdl msl schema.model read_all.of_model schema.store read_all.of_store schema.mapping read_all.of_mapping
+        -- the documents break no rule
+        pub all_meant : IsReadSchema csdl ssdl msl together
+        all_meant = record { means = record { unbroken = unbroken; meaning = together_is }; sound = of_mapping.is_read.sound }

@@ -1,6 +1,6 @@
--- Which mappings are decided so far, and what an accepted one is.
+-- What an accepted mapping is, and what it is made of.
 -- Source: this project's; CSDL, SSDL and MSL version 3, and the regions of entity states of Melnik, Adya and Bernstein, SIGMOD 2007.
-use Rattle.std.specs.Prelude.{◌≡◌, List, [], None, All}
+use Rattle.std.specs.Prelude.{◌≡◌, List, None}
 use Rattle.round_trip.specs.Words.{Keeps, RoundTrips, Schema}
 use Rattle.cells.specs.declared.cells.Cells.{Cells}
 use Rattle.cells.specs.declared.parts.Parts.{Parts}
@@ -15,11 +15,6 @@ use Rattle.query_views.specs.declared.views.QueryViews.{QueryViews}
 use Rattle.query_views.specs.Views.{AreQueryViewsOf}
 use Rattle.mapping_core.specs.declared.compiled.MappingViews.{MappingViews}
 
--- the form that is decided so far: no association has a constraint, and there is no foreign key
-pub record IsDecided (schema : Schema) : Type 0 where
-  pub unconstrained : All (λ assoc. assoc.constraint ≡ None) schema.model.assocs
-  pub keyless : schema.store.keys ≡ []
-
 -- no limit is passed
 abbrev pub PassesNoLimit : Schema → Type 0
 PassesNoLimit schema = IsFirstLimit schema None
@@ -31,15 +26,19 @@ pub record IsAccepted (schema : Schema) : Type 0 where
   pub round_trips : RoundTrips schema
   pub keeps : Keeps schema
 
--- these are the cells of the schema, the regions of each entity set, and the views
-pub record AreMadeOf (schema : Schema) (cells : Cells) (regions : List (List Region)) (views : MappingViews) : Type 0 where
+-- these are the cells of the schema, and the regions of each entity set
+pub record HasRegions (schema : Schema) (cells : Cells) (regions : List (List Region)) : Type 0 where
   pub parts : Parts
   pub of_schema : schema_in parts ≡ schema
   pub of_cells : parts.cells.now ≡ cells
   pub are_parts : AreParts parts
   pub are_regions : AreRegions (basis_of parts) regions
-  pub are_update_views : AreViewsOf (basis_of parts) views.update
-  pub are_query_views : AreQueryViewsOf (basis_of parts) (is_free_in parts.cells.now) views.query
+
+-- and these are the views
+pub record AreMadeOf (schema : Schema) (cells : Cells) (regions : List (List Region)) (views : MappingViews) : Type 0 where
+  pub has : HasRegions schema cells regions
+  pub are_update_views : AreViewsOf (basis_of has.parts) views.update
+  pub are_query_views : AreQueryViewsOf (basis_of has.parts) (is_free_in has.parts.cells.now) views.query
 
 -- these are the query views of the schema, by its cells
 pub record HasQueryViews (schema : Schema) (views : QueryViews) : Type 0 where

@@ -1,12 +1,11 @@
 -- Which rules three documents break, which of them is told, and what the documents mean where they break none.
--- Source: CSDL, SSDL and MSL version 3. The rules are that each file is JSON; those of its vocabulary; and, last of all, that what the documents mean
--- is of the form that is decided so far.
+-- Source: CSDL, SSDL and MSL version 3. The rules are that each file is JSON, and those of its vocabulary.
 use Rattle.std.specs.Prelude.{◌≡◌, ◌≢◌, ◌⊎◌, ℕ, ◌≤◌, List, [], Some, None, unwrap_or}
 use Rattle.std.specs.declared.cmp.Ordering.TheVariants.{Greater}
 use Rattle.serde_json.specs.Data.{Data, null}
 use Rattle.json_form.specs.TreeParts.{tree_at}
 use Rattle.layouts.specs.declared.fault.Fault.{Fault}
-use Rattle.layouts.specs.declared.rule.Rule.TheVariants.{IsBuilt, IsJson}
+use Rattle.layouts.specs.declared.rule.Rule.TheVariants.{IsJson}
 use Rattle.layouts.specs.Faults.{fault_cmp}
 use Rattle.layouts.specs.told_rules.Told.{told_as}
 use Rattle.csdl_names.specs.csdl_lists.Raw.{raw_model}
@@ -21,7 +20,6 @@ use Rattle.msl_rules.specs.MappingMeaning.{schema_in}
 use Rattle.round_trip.specs.Words.{EntityModel, StoreModel, RuleFault, Schema, VocabFile}
 use Rattle.round_trip.specs.soundness.mappings.Mappings.{IsSoundSchema}
 use Rattle.edm_types.specs.declared.faults.VocabFile.TheVariants.{Csdl, Ssdl, Msl}
-use Rattle.mapping_core.specs.Accepted.{IsDecided}
 
 -- the place of a file in the order of the files
 abbrev pub file_number : VocabFile → ℕ
@@ -64,20 +62,9 @@ module _ (csdl ssdl msl : List ℕ) where
   IsTreeFault Ssdl = IsStoreFault
   IsTreeFault Msl = IsMappingFault (model_in csdl) (store_in ssdl)
 
-  -- a fault of a file
-  abbrev pub IsFileFault : VocabFile → Fault → Type 0
-  IsFileFault file = IsFaultBy (IsTreeFault file) (bytes_of file)
-
-  -- no file has a fault, and what the three mean isn't of the form that is decided so far
-  pub record AreUnbuilt : Type 0 where
-    pub faultless : (file : VocabFile) (fault : Fault) → ¬ IsFileFault file fault
-    pub formless : ¬ IsDecided schema_of_files
-
-  -- the documents break the rule at the place of the file: one of the file; or, at the root of the mapping, the last one of all
+  -- the file breaks the rule at the place
   abbrev pub Breaks : VocabFile → Fault → Type 0
-  Breaks file fault =
-      IsFileFault file fault
-      ⊎ ((file ≡ Msl) × (fault.rule ≡ IsBuilt) × (fault.place ≡ []) × AreUnbuilt)
+  Breaks file = IsFaultBy (IsTreeFault file) (bytes_of file)
 
   -- the documents break no rule
   abbrev pub BreaksNoRule : Type 0
@@ -96,11 +83,10 @@ module _ (csdl ssdl msl : List ℕ) where
     pub unbroken : BreaksNoRule
     pub meaning : schema ≡ schema_of_files
 
-  -- what the documents mean, where they break no rule: it is sound, and of the form that is decided so far
+  -- what the documents mean, where they break no rule, and it is sound
   pub record IsReadSchema (schema : Schema) : Type 0 where
     pub means : Means schema
     pub sound : IsSoundSchema schema
-    pub form : IsDecided schema
 
 -- the same of some three documents
 pub record IsRead (schema : Schema) : Type 0 where

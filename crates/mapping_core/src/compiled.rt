@@ -1,23 +1,27 @@
-ghost use Rattle.std.specs.Prelude.{◌≡◌};
+ghost use Rattle.std.specs.Prelude.{◌≡◌, IfOk};
 ghost use Rattle.cells.specs.Parts.{AreParts, schema_in};
 ghost use Rattle.region_states.specs.region_basis.BasisOf.{basis_of};
 ghost use Rattle.region_partition.specs.set_regions.Regions.{AreRegions};
 ghost use Rattle.mapping_core.specs.Accepted.{AreMadeOf, HasQueryViews, IsAccepted};
+ghost use Rattle.mapping_core.specs.Compiles.{Compiles};
 ghost use Rattle.mapping_core.specs.Rules.{IsRead};
 ghost use Rattle.cells.specs.Cells.{is_free_in};
 ghost use Rattle.query_views.specs.Views.{AreQueryViewsOf};
 ghost use Rattle.update_views.specs.Views.{AreViewsOf};
 
+use crate::deciding::decide;
+use crate::reading::read;
+use crate::verdict::Verdict;
 use cells::{Cells, Parts};
 use edm_types::Schema;
-use emc_base::Seq;
+use emc_base::{Bin, Memory, Seq};
 use query_views::QueryViews;
 use regions::Region;
+use std::alloc::Global;
 use std::marker::Model;
 use update_views::UpdateViews;
 
-/// An accepted mapping, which contracts see as what its documents mean. They break no rule, and what they mean is sound, of the form that is decided, and
-/// accepted.
+/// An accepted mapping with its views, which contracts see as what its documents mean. They break no rule, and what they mean is sound and accepted.
 #[derive(Drop)]
 pub struct Compiled {
     schema: Schema,
@@ -80,8 +84,7 @@ impl Compiled {
         }
     }
 
-    /// Lends the model, the store and the mapping: documents that break no rule mean them, they are sound and of the form that is decided, and they are
-    /// accepted.
+    /// Lends the model, the store and the mapping: documents that break no rule mean them, they are sound, and they are accepted.
     pub fn schema(&self) -> &Schema
         ensures lends { result.now ≡ self.now }
         ensures read { IsRead self.now }
@@ -119,4 +122,31 @@ impl Compiled {
     {
         &self.views.query
     }
+}
+
+/// Compiles the three documents of a mapping: `Rule` where a rule of the documents is broken; `Limit` where none is and what they mean passes a limit; `Fails`
+/// where it passes none and a legal state fails; `Ok` where none does, and then every legal state has tables of its own; `Memory` where memory ran out.
+pub fn compile(alloc: Global, csdl: &Bin, ssdl: &Bin, msl: &Bin) -> Result<Compiled, Verdict>
+    ensures { Compiles csdl.now ssdl.now msl.now result }
+{
+    let schema = read(alloc, csdl, ssdl, msl)?;
+    let accepted = decide(alloc, schema)?;
+    let compiled = accepted.compiled(alloc)?;
+    Ok(compiled)
+}
+
+// The views of a mapping by its regions.
+pub(crate) fn views_of(
+    alloc: Global,
+    parts: &Parts<'_>,
+    regions: &Seq<Seq<Region>>,
+) -> Result<MappingViews, Memory>
+    requires parts { AreParts parts.now }
+    requires regions { AreRegions (basis_of parts.now) regions.now }
+    ensures update { IfOk result (λ views. AreViewsOf (basis_of parts.now) views.update) }
+    ensures query { IfOk result (λ views. AreQueryViewsOf (basis_of parts.now) (is_free_in parts.now.cells.now) views.query) }
+{
+    let update = UpdateViews::of(alloc, parts, regions)?;
+    let query = QueryViews::of(alloc, parts, regions)?;
+    Ok(MappingViews { update, query })
 }

@@ -1,33 +1,25 @@
 ghost use Rattle.std.specs.Prelude.{IfOk};
 ghost use Rattle.round_trip.specs.Words.{Schema};
 ghost use Rattle.round_trip.specs.soundness.mappings.Mappings.{IsSoundSchema};
-ghost use Rattle.cells.specs.Cells.{TellsCells, is_free_in};
-ghost use Rattle.cells.specs.Parts.{AreParts};
-ghost use Rattle.region_states.specs.region_basis.BasisOf.{basis_of};
-ghost use Rattle.region_partition.specs.set_regions.Regions.{AreRegions};
-ghost use Rattle.update_views.specs.Views.{AreViewsOf};
-ghost use Rattle.query_views.specs.Views.{AreQueryViewsOf};
-ghost use Rattle.mapping_core.specs.Accepted.{IsDecided};
+ghost use Rattle.cells.specs.Cells.{TellsCells};
 ghost use Rattle.mapping_core.specs.Compiles.{Decides, Judges};
 ghost use Rattle.mapping_core.specs.Rules.{IsRead};
 
-use crate::compiled::{Compiled, MappingViews};
+use crate::accepted::AcceptedMapping;
 use crate::mapping_verdict::{Failure, first_failure};
 use crate::verdict::Refusal;
 use cells::{Cells, Parts};
 use edm_types::{LimitFault, Schema};
 use emc_base::{Memory, Seq};
-use query_views::QueryViews;
 use region_partition::{first_limit, regions_of_sets};
 use regions::Region;
 use std::alloc::Global;
-use update_views::UpdateViews;
 
 /// What is found of a schema.
 #[derive(Drop)]
 pub(crate) enum Judgement {
-    /// It is accepted; these are the regions of each entity set, and the views.
-    Keeps(Seq<Seq<Region>>, MappingViews),
+    /// It is accepted; these are the regions of each entity set.
+    Keeps(Seq<Seq<Region>>),
     /// A limit is passed.
     Limit(LimitFault),
     /// No limit is passed, and a legal state fails.
@@ -35,8 +27,8 @@ pub(crate) enum Judgement {
 }
 
 /// Decides whether a schema is accepted: `Limit` with the first limit that it passes; where it passes none, `Fails` with a legal state that fails, where one
-/// does, else `Ok`, and then every one has tables of its own; and `Memory` where memory ran out. A refusal gives the schema back.
-pub fn decide(alloc: Global, schema: Schema) -> Result<Compiled, Refusal>
+/// does, else `Ok`, and then every one has tables of its own; and `Memory` where memory ran out. A refusal gives the schema back. No view is made.
+pub fn decide(alloc: Global, schema: Schema) -> Result<AcceptedMapping, Refusal>
     requires { IsRead schema }
     ensures { Decides schema result }
 {
@@ -50,13 +42,13 @@ pub fn decide(alloc: Global, schema: Schema) -> Result<Compiled, Refusal>
 }
 
 // The same by the cells of the schema.
-fn decide_by(alloc: Global, schema: Schema, cells: Cells) -> Result<Compiled, Refusal>
+fn decide_by(alloc: Global, schema: Schema, cells: Cells) -> Result<AcceptedMapping, Refusal>
     requires read { IsRead schema }
     requires cells { TellsCells schema cells }
     ensures { Decides schema result }
 {
     match judge(alloc, &schema, &cells) {
-        Ok(Judgement::Keeps(regions, views)) => Ok(Compiled::new(schema, cells, regions, views)),
+        Ok(Judgement::Keeps(regions)) => Ok(AcceptedMapping::new(schema, cells, regions)),
         Ok(Judgement::Limit(fault)) => {
             drop(cells);
             Err(Refusal::Limit(schema, fault))
@@ -76,7 +68,6 @@ fn decide_by(alloc: Global, schema: Schema, cells: Cells) -> Result<Compiled, Re
 // What is found of a schema with its cells, which are lent.
 fn judge(alloc: Global, schema: &Schema, cells: &Cells) -> Result<Judgement, Memory>
     requires sound { IsSoundSchema schema.now }
-    requires form { IsDecided schema.now }
     requires cells { TellsCells schema.now cells.now }
     ensures { IfOk result (Judges schema.now cells.now) }
 {
@@ -93,22 +84,5 @@ fn judge(alloc: Global, schema: &Schema, cells: &Cells) -> Result<Judgement, Mem
     if let Some(failure) = first_failure(alloc, &parts, &regions)? {
         return Ok(Judgement::Fails(failure));
     }
-    let views = views_of(alloc, &parts, &regions)?;
-    Ok(Judgement::Keeps(regions, views))
-}
-
-// The views of a mapping by its regions.
-fn views_of(
-    alloc: Global,
-    parts: &Parts<'_>,
-    regions: &Seq<Seq<Region>>,
-) -> Result<MappingViews, Memory>
-    requires parts { AreParts parts.now }
-    requires regions { AreRegions (basis_of parts.now) regions.now }
-    ensures update { IfOk result (λ views. AreViewsOf (basis_of parts.now) views.update) }
-    ensures query { IfOk result (λ views. AreQueryViewsOf (basis_of parts.now) (is_free_in parts.now.cells.now) views.query) }
-{
-    let update = UpdateViews::of(alloc, parts, regions)?;
-    let query = QueryViews::of(alloc, parts, regions)?;
-    Ok(MappingViews { update, query })
+    Ok(Judgement::Keeps(regions))
 }

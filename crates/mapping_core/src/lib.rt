@@ -2,8 +2,8 @@
 //! named, or a legal state that fails is shown.
 #![tactic(auto)]
 
+mod accepted;
 mod compiled;
-mod compiling;
 mod deciding;
 mod documents;
 mod loading;
@@ -15,8 +15,8 @@ mod verdict;
 mod viewing;
 
 pub use crate::mapping_verdict::Failure;
-pub use compiled::{Compiled, CompiledParts, MappingViews};
-pub use compiling::compile;
+pub use accepted::AcceptedMapping;
+pub use compiled::{Compiled, CompiledParts, MappingViews, compile};
 pub use data_documents::ShapeFault;
 pub use deciding::decide;
 pub use documents::{read_entities, read_tables};

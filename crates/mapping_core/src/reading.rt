@@ -1,4 +1,4 @@
-ghost use Rattle.std.specs.Prelude.{◌≡◌, ◌↔◌, ℕ, All, IsTrue, List, None};
+ghost use Rattle.std.specs.Prelude.{◌≡◌, ℕ, List};
 ghost use Rattle.edm_types.specs.declared.faults.VocabFile.TheVariants.{Csdl, Ssdl, Msl};
 ghost use Rattle.csdl_model.specs.ModelFaults.{IsModelFault};
 ghost use Rattle.csdl_model.specs.ReadsModel.{IsModelOf};
@@ -8,15 +8,12 @@ ghost use Rattle.round_trip.specs.soundness.models.Models.{IsSoundModel};
 ghost use Rattle.round_trip.specs.soundness.Stores.{IsSoundStore};
 ghost use Rattle.ssdl_model.specs.ReadsStore.{IsStoreOf};
 ghost use Rattle.ssdl_model.specs.StoreFaults.{IsStoreFault};
-ghost use Rattle.mapping_core.specs.Accepted.{IsDecided};
-ghost use Rattle.mapping_core.specs.Compiles.{ReadsAll, ReadsSchema, TellsUnbuilt};
+ghost use Rattle.mapping_core.specs.Compiles.{ReadsSchema};
 ghost use Rattle.mapping_core.specs.Reading.{ReadsFile, ReadsTree};
 ghost use Rattle.mapping_core.specs.Rules.{IsToldRule};
 
 use csdl_model::read_csdl;
-use edm_types::{
-    Assoc, EntityModel, Mapping, RuleFault, Schema, StoreModel, VocabFault, VocabFile,
-};
+use edm_types::{EntityModel, Mapping, RuleFault, Schema, StoreModel, VocabFault, VocabFile};
 use emc_base::Bin;
 use json_form::{Doc, DocFault};
 use layouts::{Fault, Rule, told};
@@ -35,19 +32,6 @@ pub fn one_rule()
 pub fn read(alloc: Global, csdl: &Bin, ssdl: &Bin, msl: &Bin) -> Result<Schema, VocabFault>
     ensures { ReadsSchema csdl.now ssdl.now msl.now result }
 {
-    let schema = read_schema(alloc, csdl, ssdl, msl)?;
-    if is_decided(&schema) {
-        Ok(schema)
-    } else {
-        drop(schema);
-        Err(unbuilt(alloc))
-    }
-}
-
-// The same without asking whether what they mean is of the form that is decided.
-fn read_schema(alloc: Global, csdl: &Bin, ssdl: &Bin, msl: &Bin) -> Result<Schema, VocabFault>
-    ensures { ReadsAll csdl.now ssdl.now msl.now result }
-{
     let model = read_model(alloc, csdl)?;
     let store = read_store(alloc, ssdl)?;
     match read_mapping(alloc, msl, &model, &store) {
@@ -58,27 +42,6 @@ fn read_schema(alloc: Global, csdl: &Bin, ssdl: &Bin, msl: &Bin) -> Result<Schem
         }),
         Err(fault) => Err(fault),
     }
-}
-
-// That what documents mean isn't of the form that is decided, as it is told.
-fn unbuilt(alloc: Global) -> VocabFault
-    ensures { TellsUnbuilt result }
-{
-    told(alloc, VocabFile::Msl, Fault::here(alloc, Rule::IsBuilt))
-}
-
-// Whether what documents mean is of the form that is decided so far.
-fn is_decided(schema: &Schema) -> bool
-    ensures { IsTrue result ↔ IsDecided schema.now }
-{
-    are_independent(schema.model.assocs.as_slice()) && schema.store.keys.is_empty()
-}
-
-// Whether no association has a constraint.
-fn are_independent(assocs: &[Assoc]) -> bool
-    ensures { IsTrue result ↔ All (λ assoc. assoc.constraint ≡ None) assocs.now }
-{
-    assocs.iter().all(|assoc| assoc.constraint.is_none())
 }
 
 // The entity model that a file means. Its tree is let go.

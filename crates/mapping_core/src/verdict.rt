@@ -1,5 +1,6 @@
 use crate::mapping_verdict::Failure;
 use edm_types::{LimitFault, RuleFault, Schema, VocabFault};
+use emc_base::Memory;
 
 /// Why a schema is not accepted. It is given back, so that what is told can be told by its names.
 #[derive(Drop)]
@@ -49,5 +50,16 @@ impl From<Refusal> for Verdict {
             Refusal::Fails(_schema, failure) => Verdict::Fails(failure),
             Refusal::Memory => Verdict::Memory,
         }
+    }
+}
+
+impl From<Memory> for Verdict {
+    ghost use Rattle.std.specs.Prelude.{◌≡◌};
+    ghost use Rattle.mapping_core.specs.declared.verdict.Verdict.TheVariants as verdict;
+
+    ghost from_gives = { λ _ given. given ≡ verdict.Memory };
+
+    fn from(_memory: Memory) -> Verdict {
+        Verdict::Memory
     }
 }

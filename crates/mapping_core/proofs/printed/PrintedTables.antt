@@ -48,7 +48,7 @@ module _ (schema : Schema) (read : IsRead schema) (accepted : IsAccepted schema)
 
   again : TellsTablesAgain schema.store told.tables text
   again =
-      let good = legal_tables schema state told.tables told.are read.read.form accepted legal in
+      let good = legal_tables schema state told.tables told.are accepted legal in
       subst (TellsTablesAgain schema.store told.tables) (sym told.is) (tables_again schema.store read.read.sound.store texts told.tables good told.tree told.order)
 
   are : TablesAre schema state again.again
@@ -64,7 +64,7 @@ module _ (schema : Schema) (read : IsRead schema) (accepted : IsAccepted schema)
 
   -- the tables that are read are the state's, and legal
   pub tables_back : (result : Result Tables ShapeFault) → ReadsTables schema.store text result → GivesTablesBack schema state result
-  tables_back (Ok tables) holds = (legal_tables schema state tables (own tables holds) read.read.form accepted legal, own tables holds)
+  tables_back (Ok tables) holds = (legal_tables schema state tables (own tables holds) accepted legal, own tables holds)
   tables_back (Err (Shape pointer)) (inl none) = absurd (none-some again.tree (sym none.0 ∙ again.held))
   tables_back (Err (Shape pointer)) (inr (d, held, fails)) =
       let same : d ≡ again.tree = same_Some d again.tree (sym held ∙ again.held) in
@@ -75,4 +75,4 @@ module _ (schema : Schema) (read : IsRead schema) (accepted : IsAccepted schema)
   pub state_back : (tables : Tables) → HoldsTables schema.store text tables → (result : Result State LoadFault) → Loads schema tables result → GivesBack state result
   state_back tables holds result loads =
       let is = own tables holds in
-      given_back schema state tables legal (legal_tables schema state tables is read.read.form accepted legal) (own_tables schema state tables is) result loads
+      given_back schema state tables legal (legal_tables schema state tables is accepted legal) (own_tables schema state tables is) result loads

@@ -4,7 +4,7 @@ use Rattle.emc_base.specs.Lists.{At}
 use Rattle.mapping_core.specs.Rules.{IsReadSchema}
 use Rattle.mapping_core.specs.Words.{IsAccepted, IsFailureOf, Schema}
 use Rattle.mapping_core.specs.Compiles.{Decides}
-use Rattle.mapping_core.specs.declared.compiled.Compiled.{Compiled}
+use Rattle.mapping_core.specs.declared.accepted.AcceptedMapping.{AcceptedMapping}
 use Rattle.mapping_core.specs.declared.verdict.Refusal.{Refusal}
 use Rattle.mapping_core.specs.declared.verdict.Refusal.TheVariants as refusal
 use Rattle.texts.specs.command_texts.Texts.{IsFailText}
@@ -20,8 +20,8 @@ module _ (contents : List (List ℕ)) (csdl ssdl msl : List ℕ) (at_csdl : At c
   these : {Holds : List ℕ → List ℕ → List ℕ → Type 0} → Holds csdl ssdl msl → HasDocuments contents Holds
   these holds = record { csdl = csdl; ssdl = ssdl; msl = msl; at_csdl = at_csdl; at_ssdl = at_ssdl; at_msl = at_msl; holds = holds }
 
-  pub accepts_meant : (schema : Schema) → IsReadSchema csdl ssdl msl schema → (result : Result Compiled Halt) → AcceptsSchema schema result → Accepts contents result
-  accepts_meant schema read (Ok compiled) (same, accepted) =
+  pub accepts_meant : (schema : Schema) → IsReadSchema csdl ssdl msl schema → (result : Result AcceptedMapping Halt) → AcceptsSchema schema result → Accepts contents result
+  accepts_meant schema read (Ok mapping) (same, accepted) =
       let Is : Schema → Type 0 = λ one. IsReadSchema csdl ssdl msl one × IsAccepted one in these (subst Is (sym same) (read, accepted))
   accepts_meant schema read (Err (Tells answer)) refuses = these (inr (schema, read.means, refuses))
   accepts_meant schema read (Err Memory) given = tt

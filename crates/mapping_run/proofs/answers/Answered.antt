@@ -4,11 +4,12 @@ use Rattle.emc_base.specs.Lists.{At}
 use Rattle.emc_base.specs.declared.memory.Memory.{Memory}
 use Rattle.mapping_core.specs.Rules.{IsReadSchema}
 use Rattle.mapping_core.specs.Words.{HoldsState, HoldsTables, IsAccepted, IsViewsText, Schema, State, Tables}
+use Rattle.texts.specs.command_texts.Texts.{accepted_text}
 use Rattle.mapping_run.specs.declared.answers.answer.Answer.{Answer}
 use Rattle.mapping_run.specs.declared.answers.command.Command.{Command}
-use Rattle.mapping_run.specs.declared.answers.command.Command.TheVariants.{Views, Store, Load}
+use Rattle.mapping_run.specs.declared.answers.command.Command.TheVariants.{Check, Views, Store, Load}
 use Rattle.mapping_run.specs.declared.answers.status.Status.TheVariants.{Done}
-use Rattle.mapping_run.specs.answers.Gives.{GivesBy, GivesLoaded, GivesOn, GivesState, GivesStored, GivesTables, HasDocuments, RefusesMapping, SaysSome}
+use Rattle.mapping_run.specs.answers.Gives.{GivesBy, GivesLoaded, GivesOn, GivesState, GivesStored, GivesTables, HasDocuments, RefusesMapping, Says, SaysSome}
 
 -- what holds of the documents of a mapping, and gives something else of them
 documents_give : {contents : List (List ℕ)} {Holds Given : List ℕ → List ℕ → List ℕ → Type 0} → HasDocuments contents Holds
@@ -33,6 +34,12 @@ module _ (command : Command) (contents : List (List ℕ)) where
       → IfOk result (GivesBy command contents schema) → IfOk result (GivesOn command contents)
   answers_accepted schema accepts (Ok answer) given = documents_give accepts (λ csdl ssdl msl is. inr (schema, is.0, is.1, given))
   answers_accepted schema accepts (Err memory) given = tt
+
+-- that it is accepted is what is given by an accepted mapping
+pub checked_result : (contents : List (List ℕ)) (schema : Schema) (result : Result Answer Memory)
+    → IfOk result (Says accepted_text Done) → IfOk result (GivesBy Check contents schema)
+checked_result contents schema (Ok answer) given = given
+checked_result contents schema (Err memory) given = tt
 
 -- what is told of the cases is what the command gives by the mapping
 pub views_result : (contents : List (List ℕ)) (schema : Schema) (result : Result Answer Memory)

@@ -7,7 +7,7 @@ use Rattle.mapping_core.specs.declared.loading.LoadFault.TheVariants as load
 use Rattle.mapping_core.specs.declared.verdict.Refusal.{Refusal}
 use Rattle.mapping_core.specs.declared.verdict.Refusal.TheVariants as refusal
 use Rattle.texts.specs.command_texts.Texts.{IsFailText, limit_text, table_breach_text}
-use Rattle.mapping_core.specs.declared.compiled.Compiled.{Compiled}
+use Rattle.mapping_core.specs.declared.accepted.AcceptedMapping.{AcceptedMapping}
 use Rattle.mapping_run.specs.declared.answers.answer.Answer.{Answer}
 use Rattle.mapping_run.specs.declared.answers.answer.Halt.{Halt}
 use Rattle.mapping_run.specs.declared.answers.answer.Halt.TheVariants.{Tells, Memory}
@@ -15,14 +15,14 @@ use Rattle.mapping_run.specs.declared.answers.status.Status.TheVariants.{Documen
 use Rattle.mapping_run.specs.answers.Gives.{HasDocuments, RefusesMapping, RefusesSchema, Says, SaysSome, TellsNoState}
 
 -- the accepted mapping of the documents that are the first three of these contents; or what is told where they aren't accepted
-abbrev pub Accepts : List (List ℕ) → Result Compiled Halt → Type 0
-Accepts contents (Ok compiled) = HasDocuments contents (λ csdl ssdl msl. IsReadSchema csdl ssdl msl compiled × IsAccepted compiled)
+abbrev pub Accepts : List (List ℕ) → Result AcceptedMapping Halt → Type 0
+Accepts contents (Ok accepted) = HasDocuments contents (λ csdl ssdl msl. IsReadSchema csdl ssdl msl accepted × IsAccepted accepted)
 Accepts contents (Err (Tells answer)) = HasDocuments contents (λ csdl ssdl msl. RefusesMapping csdl ssdl msl answer)
 Accepts contents (Err Memory) = ⊤
 
 -- the same of what documents mean that break no rule
-abbrev pub AcceptsSchema : Schema → Result Compiled Halt → Type 0
-AcceptsSchema schema (Ok compiled) = (compiled ≡ schema) × IsAccepted schema
+abbrev pub AcceptsSchema : Schema → Result AcceptedMapping Halt → Type 0
+AcceptsSchema schema (Ok accepted) = (accepted ≡ schema) × IsAccepted schema
 AcceptsSchema schema (Err (Tells answer)) = RefusesSchema schema answer
 AcceptsSchema schema (Err Memory) = ⊤
 

@@ -7,12 +7,12 @@ ghost use Rattle.mapping_run.specs.declared.answers.status.Status.TheVariants.{M
 use crate::answers::answer::{Answer, Halt};
 use crate::answers::status::Status;
 use emc_base::{Bin, Memory, Seq, Txt};
-use mapping_core::{Compiled, Refusal, Schema, VocabFault, decide, read};
+use mapping_core::{AcceptedMapping, Refusal, Schema, VocabFault, decide, read};
 use std::alloc::Global;
 use texts::{fail_text, limit_text, rule_text};
 
 /// The accepted mapping of the documents that are the first three of these contents; or what is told where they aren't accepted.
-pub(crate) fn accepted(alloc: Global, contents: &Seq<Bin>) -> Result<Compiled, Halt>
+pub(crate) fn accepted(alloc: Global, contents: &Seq<Bin>) -> Result<AcceptedMapping, Halt>
     requires { 3 ≤ length contents.now }
     ensures { Accepts contents.now result }
 {
@@ -24,12 +24,12 @@ pub(crate) fn accepted(alloc: Global, contents: &Seq<Bin>) -> Result<Compiled, H
 }
 
 // The same of what documents mean that break no rule.
-fn accepted_schema(alloc: Global, schema: Schema) -> Result<Compiled, Halt>
+fn accepted_schema(alloc: Global, schema: Schema) -> Result<AcceptedMapping, Halt>
     requires { IsRead schema }
     ensures { AcceptsSchema schema result }
 {
     match decide(alloc, schema) {
-        Ok(compiled) => Ok(compiled),
+        Ok(accepted) => Ok(accepted),
         Err(refusal) => {
             let halt = refusal_told(alloc, &refusal);
             drop(refusal);

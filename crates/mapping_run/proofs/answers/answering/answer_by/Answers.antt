@@ -1,20 +1,16 @@
 use Rattle.std.proofs.Common.{IfOk, sym, subst}
+use Rattle.mapping_core.specs.Words.{Schema}
 use Rattle.mapping_run.specs.answers.Gives.{GivesBy}
 use Rattle.mapping_run.specs.declared.answers.command.Command.{Command}
-use Rattle.mapping_run.proofs.answers.Answered.{load_result, store_result, views_result}
+use Rattle.mapping_run.proofs.answers.Answered.{checked_result}
 use Rattle.mapping_run.proofs.answers.answering.answer_by.Goals as goal
 
-pub returns-in-Views : goal.returns-in-Views
-returns-in-Views c =
-    let By : Command → Type 0 = λ command. IfOk c.viewed.result (GivesBy command c.args.contents.now c.args.compiled.now) in
-    subst By (sym c.in-Views.is) (views_result c.args.contents.now c.args.compiled.now c.viewed.result c.viewed.ensures)
+pub returns-in-Check : goal.returns-in-Check
+returns-in-Check c =
+    let By : Command → Type 0 = λ command. IfOk c.checked.result (GivesBy command c.args.contents.now c.args.mapping) in
+    subst By (sym c.in-Check.is) (checked_result c.args.contents.now c.args.mapping c.checked.result c.checked.ensures)
 
-pub returns-in-Store : goal.returns-in-Store
-returns-in-Store c =
-    let By : Command → Type 0 = λ command. IfOk c.stored.result (GivesBy command c.args.contents.now c.args.compiled.now) in
-    subst By (sym c.in-Store.is) (store_result c.args.contents.now c.at.result.now c.at.ensures c.args.compiled.now c.stored.result c.stored.ensures)
-
-pub returns-in-Load : goal.returns-in-Load
-returns-in-Load c =
-    let By : Command → Type 0 = λ command. IfOk c.loaded.result (GivesBy command c.args.contents.now c.args.compiled.now) in
-    subst By (sym c.in-Load.is) (load_result c.args.contents.now c.at-in-Load.result.now c.at-in-Load.ensures c.args.compiled.now c.loaded.result c.loaded.ensures)
+pub returns : goal.returns
+returns c =
+    let By : Schema → Type 0 = λ schema. IfOk c.answer_with-answer.result (GivesBy c.args.command c.args.contents.now schema) in
+    subst By c.in_ok-compiled.ensures c.answer_with-answer.ensures

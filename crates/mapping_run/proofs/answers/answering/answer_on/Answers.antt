@@ -7,7 +7,7 @@ use Rattle.mapping_run.proofs.answers.Answered.{answers_accepted, answers_refuse
 use Rattle.mapping_run.proofs.answers.answering.answer_on.Goals as goal
 
 pub returns-in-Ok : goal.returns-in-Ok
-returns-in-Ok c = answers_accepted c.args.command c.args.contents.now c.in-Ok.compiled c.in-Ok.ensures c.answer_by-answer.result c.answer_by-answer.ensures
+returns-in-Ok c = answers_accepted c.args.command c.args.contents.now c.in-Ok.mapping c.in-Ok.ensures c.answer_by.result c.answer_by.ensures
 
 pub returns-in-Err-Tells : goal.returns-in-Err-Tells
 returns-in-Err-Tells c =

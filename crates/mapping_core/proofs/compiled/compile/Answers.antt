@@ -2,7 +2,7 @@ use Rattle.std.proofs.Common.{sym, subst}
 use Rattle.round_trip.specs.Words.{Schema}
 use Rattle.mapping_core.specs.Accepted.{IsAccepted}
 use Rattle.mapping_core.specs.Rules.{Means}
-use Rattle.mapping_core.proofs.compiling.compile.Goals as goal
+use Rattle.mapping_core.proofs.compiled.compile.Goals as goal
 
 pub decide-requires : goal.decide-requires
 decide-requires c = record { csdl = c.args.csdl.now; ssdl = c.args.ssdl.now; msl = c.args.msl.now; read = c.in_ok-schema.ensures }

@@ -1,0 +1,1 @@
+use Rattle.mapping_core.proofs.accepted.AcceptedMapping.compiled.Goals as goal
