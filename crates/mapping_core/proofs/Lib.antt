@@ -5,4 +5,5 @@ pub mod Stored
 pub mod Comparing
 pub mod Telling
 pub mod OwnTables
+pub mod NotRefused
 pub mod printed

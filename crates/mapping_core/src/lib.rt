@@ -32,5 +32,5 @@ pub use reading::{one_rule, read};
 pub use round_trip::FailKind;
 pub use storing::{StoreFault, store_all};
 pub use table_files::Tables;
-pub use verdict::{Refusal, Verdict};
+pub use verdict::{Refusal, Verdict, what_is_accepted_is_not_refused};
 pub use viewing::views_all;

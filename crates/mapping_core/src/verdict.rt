@@ -1,6 +1,14 @@
+ghost use Rattle.std.specs.Prelude.{◌≡◌, ℕ, List, Some};
+ghost use Rattle.round_trip.specs.Words.{LimitFault, RoundTrips, RuleFault, Schema};
+ghost use Rattle.region_partition.specs.mapping_limits.FirstLimit.{IsFirstLimit};
+ghost use Rattle.mapping_core.specs.mapping_verdict.Words.{Failure, IsFailureOf};
+ghost use Rattle.mapping_core.specs.Accepted.{PassesNoLimit};
+ghost use Rattle.mapping_core.specs.Rules.{IsToldRule, Means};
+
 use crate::mapping_verdict::Failure;
 use edm_types::{LimitFault, RuleFault, Schema, VocabFault};
 use emc_base::Memory;
+use region_partition::one_limit;
 
 /// Why a schema is not accepted. It is given back, so that what is told can be told by its names.
 #[derive(Drop)]
@@ -62,4 +70,15 @@ impl From<Memory> for Verdict {
     fn from(_memory: Memory) -> Verdict {
         Verdict::Memory
     }
+}
+
+/// The law that what is accepted isn't refused. Documents that break no rule mean one schema, and no rule is told of them; of a schema that passes no limit none
+/// is told; and of one by which no legal state fails no state that does.
+pub fn what_is_accepted_is_not_refused()
+    ensures meaning { (csdl ssdl msl : List ℕ) (one two : Schema) → Means csdl ssdl msl one → Means csdl ssdl msl two → one ≡ two }
+    ensures rule { (csdl ssdl msl : List ℕ) (schema : Schema) → Means csdl ssdl msl schema → (fault : RuleFault) → ¬ IsToldRule csdl ssdl msl fault }
+    ensures limit { (schema : Schema) → PassesNoLimit schema → (fault : LimitFault) → ¬ IsFirstLimit schema (Some fault) }
+    ensures failure { (schema : Schema) → RoundTrips schema → (failure : Failure) → ¬ IsFailureOf schema failure }
+{
+    one_limit();
 }

@@ -1,3 +1,4 @@
 pub mod FilesRead
 pub mod Answered
 pub mod Endings
+pub mod Complete

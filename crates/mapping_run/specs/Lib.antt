@@ -4,5 +4,6 @@ pub mod Inputs
 pub mod Gives
 pub mod World
 pub mod Runs
+pub mod Completeness
 pub mod RunSteps
 pub mod Arguments

@@ -4,6 +4,7 @@ ghost use Rattle.std.specs.Vec.Iter.{into_iter_items};
 ghost use Rattle.emc_files.specs.contracts.files.Files as F;
 ghost use Rattle.emc_files.specs.contracts.sink.Sink as W;
 ghost use Rattle.mapping_run.specs.Arguments.{texts_in, words_in};
+ghost use Rattle.mapping_run.specs.Completeness.{IsComplete};
 ghost use Rattle.mapping_run.specs.Runs.{Runs};
 ghost use Rattle.mapping_run.specs.World.{world};
 
@@ -26,6 +27,10 @@ pub fn run_arguments<F: Files, W: Sink>(
     out: &mut W,
 ) -> Status
     ensures headline { Runs F.may_fail (words_in arguments)
+        (world (F.held files.old) (F.fault_count files.old) (W.written_to out.old) (W.fault_count out.old))
+        (world (F.held files.new) (F.fault_count files.new) (W.written_to out.new) (W.fault_count out.new))
+        result }
+    ensures complete { IsComplete (words_in arguments)
         (world (F.held files.old) (F.fault_count files.old) (W.written_to out.old) (W.fault_count out.old))
         (world (F.held files.new) (F.fault_count files.new) (W.written_to out.new) (W.fault_count out.new))
         result }

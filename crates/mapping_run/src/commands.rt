@@ -4,6 +4,7 @@ ghost use Rattle.emc_files.specs.contracts.sink.Sink as W;
 ghost use Rattle.mapping_run.specs.answers.Gives.{Says};
 ghost use Rattle.mapping_run.specs.declared.answers.status.Status.TheVariants.{Usage};
 ghost use Rattle.texts.specs.command_texts.Texts.{usage_text};
+ghost use Rattle.mapping_run.specs.Completeness.{IsComplete};
 ghost use Rattle.mapping_run.specs.Runs.{Ends, Runs};
 ghost use Rattle.mapping_run.specs.World.{world};
 
@@ -15,9 +16,14 @@ use emc_files::{Files, Sink, SinkFault};
 use std::alloc::Global;
 use texts::usage_text;
 
-/// Does what the words after the program's name ask for. Reads files, prints one text, and tells how it ended.
+/// Does what the words after the program's name ask for. Reads files, prints one text, and tells how it ended (`headline`). Where the words are a command, its
+/// input files are there, no read and no write failed, the documents are accepted and the data are legal, it succeeds, unless memory ran out (`complete`).
 pub fn run<F: Files, W: Sink>(alloc: Global, words: &[Txt], files: &mut F, out: &mut W) -> Status
     ensures headline { Runs F.may_fail words.now
+        (world (F.held files.old) (F.fault_count files.old) (W.written_to out.old) (W.fault_count out.old))
+        (world (F.held files.new) (F.fault_count files.new) (W.written_to out.new) (W.fault_count out.new))
+        result }
+    ensures complete { IsComplete words.now
         (world (F.held files.old) (F.fault_count files.old) (W.written_to out.old) (W.fault_count out.old))
         (world (F.held files.new) (F.fault_count files.new) (W.written_to out.new) (W.fault_count out.new))
         result }

@@ -1,0 +1,59 @@
+-- What is accepted and legal isn't refused, and what documents hold is one.
+use Rattle.std.proofs.Common.{◌≡◌, ◌⊎◌, ℕ, List, Some, None, refl, sym, ap, subst, inl, inr, ◌∙◌}
+use Rattle.std.specs.Prelude.{Option, unwrap_or}
+use Rattle.std.proofs.lemmas.Option.{none-some, same_Some}
+use Rattle.serde_json.specs.Data.{Data}
+use Rattle.json_form.specs.TreeParts.{tree_at}
+use Rattle.data_documents.specs.entity_documents.DocShapes.{IsDocFault}
+use Rattle.data_documents.specs.entity_documents.States.{state_in}
+use Rattle.data_documents.specs.table_documents.Shapes as tables
+use Rattle.data_documents.specs.table_documents.Tables.{tables_in}
+use Rattle.round_trip.specs.Words.{EntityModel, LimitFault, RoundTrips, RuleFault, Schema, State, StoreModel, Tables}
+use Rattle.region_partition.specs.mapping_limits.FirstLimit.{IsFirstLimit}
+use Rattle.region_partition.proofs.limit_laws.Told.{one_told}
+use Rattle.mapping_core.specs.mapping_verdict.Words.{Failure, IsFailureOf}
+use Rattle.mapping_core.specs.Accepted.{PassesNoLimit}
+use Rattle.mapping_core.specs.Rules.{IsToldRule, Means}
+use Rattle.mapping_core.specs.states.Documents.{HoldsNoState, HoldsNoTables, HoldsState, HoldsTables}
+
+-- documents mean one schema
+pub one_meaning : (csdl ssdl msl : List ℕ) (one two : Schema) → Means csdl ssdl msl one → Means csdl ssdl msl two → one ≡ two
+one_meaning csdl ssdl msl one two first second = first.meaning ∙ sym second.meaning
+
+-- no rule is told of documents that break none
+pub no_rule : (csdl ssdl msl : List ℕ) (schema : Schema) → Means csdl ssdl msl schema → (fault : RuleFault) → ¬ IsToldRule csdl ssdl msl fault
+no_rule csdl ssdl msl schema means fault told = means.unbroken fault.file told.fault told.broken
+
+-- nor a limit of a schema that passes none
+pub no_limit : (schema : Schema) → PassesNoLimit schema → (fault : LimitFault) → ¬ IsFirstLimit schema (Some fault)
+no_limit schema none fault first = none-some fault (one_told schema None (Some fault) none first)
+
+-- nor a failing state of one that has none
+pub no_failure : (schema : Schema) → RoundTrips schema → (failure : Failure) → ¬ IsFailureOf schema failure
+no_failure schema round_trips failure is = round_trips failure.kind failure.place failure.state (unwrap_or failure.other failure.state) is.fails
+
+-- trees of one file are one
+same_tree : (bytes : List ℕ) (one two : Data) → tree_at bytes ≡ Some one → tree_at bytes ≡ Some two → one ≡ two
+same_tree bytes one two first second = same_Some one two (sym first ∙ second)
+
+module _ (model : EntityModel) (bytes : List ℕ) (state : State) (holds : HoldsState model bytes state) where
+  -- an entity document holds one state
+  pub one_state : (other : State) → HoldsState model bytes other → state ≡ other
+  one_state other also = holds.2.meant.is ∙ ap (state_in model) (same_tree bytes holds.0 also.0 holds.1 also.1) ∙ sym also.2.meant.is
+
+  -- and has the right shape
+  pub has_state : (pointer : List ℕ) → ¬ HoldsNoState model bytes pointer
+  has_state pointer (inl none) = none-some holds.0 (sym none.0 ∙ holds.1)
+  has_state pointer (inr (d, held, fails)) =
+      holds.2.shape fails.place (subst (λ (tree : Data). IsDocFault model tree fails.place) (same_tree bytes d holds.0 held holds.1) fails.first.0)
+
+module _ (store : StoreModel) (bytes : List ℕ) (held_tables : Tables) (holds : HoldsTables store bytes held_tables) where
+  -- a table document holds one list of tables
+  pub one_tables : (other : Tables) → HoldsTables store bytes other → held_tables ≡ other
+  one_tables other also = holds.2.tables_are ∙ ap (tables_in store) (same_tree bytes holds.0 also.0 holds.1 also.1) ∙ sym also.2.tables_are
+
+  -- and has the right shape
+  pub has_tables : (pointer : List ℕ) → ¬ HoldsNoTables store bytes pointer
+  has_tables pointer (inl none) = none-some holds.0 (sym none.0 ∙ holds.1)
+  has_tables pointer (inr (d, held, fails)) =
+      holds.2.shape fails.place (subst (λ (tree : Data). tables.IsDocFault store tree fails.place) (same_tree bytes d holds.0 held holds.1) fails.first.0)

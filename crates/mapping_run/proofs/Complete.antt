@@ -1,0 +1,189 @@
+-- A run on good input, in which no read and no write failed, succeeds: all else that it could answer is excluded.
+use Rattle.std.proofs.Common.{◌≡◌, ◌⊎◌, ◌<◌, ◌≤◌, ℕ, List, [], ◌∷◌, length, Option, Some, None, Err, MatchOption, inl, inr, refl, sym, ap, subst, ◌∙◌, arith}
+use Rattle.std.proofs.lemmas.Option.{none-some, same_Some}
+use Rattle.emc_base.specs.Faults.{RoseOrStands}
+use Rattle.emc_base.specs.Lists.{At}
+use Rattle.emc_base.proofs.Lists.{at_once}
+use Rattle.emc_files.specs.Files.{FileMap}
+use Rattle.round_trip.specs.Words.{Schema, State, Tables}
+use Rattle.table_files.proofs.table_legality.Kept.{no_breach}
+use Rattle.state_legality.proofs.Joined.{no_first_breach}
+use Rattle.texts.specs.command_texts.Texts.{usage_text}
+use Rattle.mapping_core.specs.Rules.{IsReadSchema, Means}
+use Rattle.mapping_core.specs.Words.{IsAccepted, LoadsLegal}
+use Rattle.mapping_core.specs.declared.loading.LoadFault.{LoadFault}
+use Rattle.mapping_core.specs.declared.loading.LoadFault.TheVariants as load
+use Rattle.mapping_core.proofs.NotRefused.{has_state, has_tables, no_failure, no_limit, no_rule, one_meaning, one_state, one_tables}
+use Rattle.mapping_run.specs.declared.answers.answer.Answer.{Answer}
+use Rattle.mapping_run.specs.declared.answers.command.Command.{Command}
+use Rattle.mapping_run.specs.declared.answers.command.Command.TheVariants.{Check, Views, Store, Load}
+use Rattle.mapping_run.specs.declared.answers.status.Status.{Status}
+use Rattle.mapping_run.specs.declared.answers.status.Status.TheVariants.{Done, MappingRefused, DocumentRefused, Usage, FileFault, SinkFault, Memory}
+use Rattle.mapping_run.specs.answers.Gives.{GivesBy, GivesLoaded, GivesOn, GivesState, GivesStored, GivesTables, HasDocuments, RefusesMapping, RefusesSchema, Says, TellsNoState}
+use Rattle.mapping_run.specs.Commands.{command_of, inputs_of}
+use Rattle.mapping_run.specs.Completeness.{HasGoodInput, HasLegalData, HoldsLegalState, HoldsStateTables, IsComplete, IsQuiet, IsTextOf, Prints, Succeeds}
+use Rattle.mapping_run.specs.Gives.{Gives, GivesInputs}
+use Rattle.mapping_run.specs.Inputs.{AreInputs, IsInput, IsLacking, LacksInput, StandsAt, largest_file}
+use Rattle.mapping_run.specs.Runs.{Ends, Finishes, Runs}
+use Rattle.mapping_run.specs.World.{World}
+
+-- the file of a place among those that are read is read
+input_at : (held : Option FileMap) (names contents : List (List ℕ)) (i : ℕ) (name : List ℕ) → AreInputs held names contents → At names i name → (bytes : List ℕ) × IsInput held name bytes
+input_at held [] contents i name all here = absurd (none-some name here)
+input_at held (first ∷ names) [] i name all here = absurd all
+input_at held (first ∷ names) (bytes ∷ contents) 0 name all here = (bytes, subst (λ (one : List ℕ). IsInput held one bytes) (same_Some first name here) all.0)
+input_at held (first ∷ names) (bytes ∷ contents) (1 + i) name all here = input_at held names contents i name all.1 here
+
+module _ (files : FileMap) where
+  -- what stands at a name is one content
+  same_content : (name one two : List ℕ) → files name ≡ Some one → files name ≡ Some two → one ≡ two
+  same_content name one two first second = same_Some one two (sym first ∙ second)
+
+  same_contents : (names one two : List (List ℕ)) → AreInputs (Some files) names one → AreInputs (Some files) names two → one ≡ two
+  same_contents [] [] [] first second = refl
+  same_contents [] [] (bytes ∷ two) first second = absurd second
+  same_contents [] (bytes ∷ one) two first second = absurd first
+  same_contents (name ∷ names) [] two first second = absurd first
+  same_contents (name ∷ names) (bytes ∷ one) [] first second = absurd second
+  same_contents (name ∷ names) (bytes ∷ one) (others ∷ two) first second =
+      let heads = same_content name bytes others first.0.stands second.0.stands in
+      let tails = same_contents names one two first.1 second.1 in
+      λ k. heads k ∷ tails k
+
+  -- a file that is read isn't missing or too large
+  not_lacking : (name bytes text : List ℕ) → IsInput (Some files) name bytes → ¬ IsLacking (Some files) name text
+  not_lacking name bytes text is (inl missing) = none-some bytes (sym missing.0 ∙ is.stands)
+  not_lacking name bytes text is (inr (large, stands, more, told)) =
+      let same : bytes ≡ large = same_content name bytes large is.stands stands in
+      let fits : length large ≤ largest_file = subst (λ (content : List ℕ). length content ≤ largest_file) same is.fits in
+      omega (arith, more, fits)
+
+-- the answer is that of an accepted mapping with legal data
+IsGood : (command : Command) (contents : List (List ℕ)) (schema : Schema) → HasLegalData command contents schema → Answer → Type 0
+IsGood command contents schema data answer = (answer.status ≡ Done) × IsTextOf command contents schema data answer.text
+
+module _ (contents : List (List ℕ)) (schema : Schema) where
+  -- on a legal state its tables are printed
+  of_state : (data : HoldsLegalState schema.model contents) (answer : Answer) → GivesBy Store contents schema answer → IsGood Store contents schema data answer
+  unfolding IsGood
+  of_state data answer (document, is_document, gives) =
+      by_shape (subst (λ (bytes : List ℕ). GivesStored bytes schema answer) (at_once contents 3 document data.document is_document data.is_document) gives)
+    where
+      by_tables : GivesTables schema data.state answer → IsGood Store contents schema data answer
+      unfolding IsGood
+      by_tables (inl (breach, is, told)) = absurd (no_first_breach schema.model data.state breach data.legal is)
+      by_tables (inr (legal, told)) = (told.1, told.0)
+
+      by_shape : GivesStored data.document schema answer → IsGood Store contents schema data answer
+      by_shape (inl (pointer, none, told)) = absurd (has_state schema.model data.document data.state data.held pointer none)
+      by_shape (inr (state, holds, gives)) =
+          by_tables (subst (λ (one : State). GivesTables schema one answer) (sym (one_state schema.model data.document data.state data.held state holds)) gives)
+
+  -- on legal tables of a legal state, this
+  of_tables : (data : HoldsStateTables schema contents) (answer : Answer) → GivesBy Load contents schema answer → IsGood Load contents schema data answer
+  unfolding IsGood
+  of_tables data answer (document, is_document, gives) =
+      by_shape (subst (λ (bytes : List ℕ). GivesLoaded bytes schema answer) (at_once contents 3 document data.document is_document data.is_document) gives)
+    where
+      not_stateless : (fault : LoadFault) → LoadsLegal schema data.tables (Err fault) → ¬ TellsNoState schema fault answer.text
+      not_stateless (load.Breach breach) loads told = told
+      not_stateless (load.NoCase place) loads told = loads.none data.state data.is_legal data.has
+      not_stateless (load.Illegal breach) loads told = loads.none data.state data.is_legal data.has
+      not_stateless (load.Differs place held demanded) loads told = loads.none data.state data.is_legal data.has
+      not_stateless load.Memory loads told = told
+
+      by_loading : GivesState schema data.tables answer → IsGood Load contents schema data answer
+      unfolding IsGood
+      by_loading (inl (breach, is, told)) = absurd (no_breach schema.store data.tables data.legal breach is)
+      by_loading (inr (legal, inl (fault, loads, told))) = absurd (not_stateless fault loads told.0)
+      by_loading (inr (legal, inr (state, loaded, told))) = (told.1, (state, loaded.only data.state data.is_legal data.has, told.0))
+
+      by_shape : GivesLoaded data.document schema answer → IsGood Load contents schema data answer
+      by_shape (inl (pointer, none, told)) = absurd (has_tables schema.store data.document data.tables data.held pointer none)
+      by_shape (inr (tables, holds, gives)) =
+          by_loading (subst (λ (one : Tables). GivesState schema one answer) (sym (one_tables schema.store data.document data.tables data.held tables holds)) gives)
+
+  -- so each command gives by an accepted mapping
+  by_command : (command : Command) (data : HasLegalData command contents schema) (answer : Answer) → GivesBy command contents schema answer → IsGood command contents schema data answer
+  unfolding IsGood
+  by_command Check data answer told = (told.1, told.0)
+  by_command Views data answer told = (told.1, told.0)
+  by_command Store data answer gives = of_state data answer gives
+  by_command Load data answer gives = of_tables data answer gives
+
+module _ (words : List (List ℕ)) (before after : World) (good : HasGoodInput words before.held) (quiet : IsQuiet before after) (answer : Answer) where
+  abbrev IsGoodAnswer : Type 0
+  IsGoodAnswer = IsGood good.command good.contents good.schema good.data answer
+
+  -- what documents mean that are accepted isn't refused
+  not_refused : (schema : Schema) → good.schema ≡ schema → ¬ RefusesSchema schema answer
+  not_refused schema same refuses = by (subst (λ (one : Schema). RefusesSchema one answer) (sym same) refuses)
+    where
+      by : ¬ RefusesSchema good.schema answer
+      by (inl (fault, first, told)) = no_limit good.schema good.within fault first
+      by (inr (within, failure, is, told)) = no_failure good.schema good.round_trips failure is
+
+  -- on the contents that were read
+  on_contents : GivesOn good.command good.contents answer → IsGoodAnswer
+  on_contents gives = by gives.holds
+    where
+      their : HasDocuments good.contents (λ csdl ssdl msl. Means csdl ssdl msl good.schema)
+      their = good.documents
+
+      means : Means gives.csdl gives.ssdl gives.msl good.schema
+      means =
+          let csdl = at_once good.contents 0 their.csdl gives.csdl their.at_csdl gives.at_csdl in
+          let ssdl = at_once good.contents 1 their.ssdl gives.ssdl their.at_ssdl gives.at_ssdl in
+          let msl = at_once good.contents 2 their.msl gives.msl their.at_msl gives.at_msl in
+          let P : List ℕ × List ℕ × List ℕ → Type 0 = λ of. Means of.0 of.1 of.2 good.schema in
+          subst P (λ k. (csdl k, ssdl k, msl k)) their.holds
+
+      by : (RefusesMapping gives.csdl gives.ssdl gives.msl answer
+          ⊎ ((schema : Schema) × IsReadSchema gives.csdl gives.ssdl gives.msl schema × IsAccepted schema × GivesBy good.command good.contents schema answer)) → IsGoodAnswer
+      by (inl (inl (fault, is, told))) = absurd (no_rule gives.csdl gives.ssdl gives.msl good.schema means fault is)
+      by (inl (inr (schema, also, refuses))) = absurd (not_refused schema (one_meaning gives.csdl gives.ssdl gives.msl good.schema schema means also) refuses)
+      by (inr (schema, read, accepted, given)) =
+          let same = one_meaning gives.csdl gives.ssdl gives.msl good.schema schema means read.means in
+          by_command good.contents good.schema good.command good.data answer (subst (λ (one : Schema). GivesBy good.command good.contents one answer) (sym same) given)
+
+  -- on its input files
+  on_inputs : GivesInputs before.held good.command (inputs_of good.command words) answer → IsGoodAnswer
+  on_inputs (inl ((name, first, lacking), told)) =
+      let here = input_at before.held (inputs_of good.command words) good.contents first.i name good.are_inputs first.named in
+      let P : Option FileMap → Type 0 = λ held. IsInput held name here.0 × IsLacking held name answer.text in
+      let both : P (Some good.files) = subst P good.told (here.1, lacking) in
+      absurd (not_lacking good.files name here.0 answer.text both.0 both.1)
+  on_inputs (inr (contents, are, gives)) =
+      let P : Option FileMap → Type 0 = λ held. AreInputs held (inputs_of good.command words) contents × AreInputs held (inputs_of good.command words) good.contents in
+      let both : P (Some good.files) = subst P good.told (are, good.are_inputs) in
+      let same = same_contents good.files (inputs_of good.command words) contents good.contents both.0 both.1 in
+      on_contents (subst (λ (read : List (List ℕ)). GivesOn good.command read answer) same gives)
+
+  -- so the answer is good
+  good_answer : (may_fail : List ℕ → Type 0) → Ends may_fail words before.held before.file_faults after.file_faults answer → IsGoodAnswer
+  good_answer may_fail (inl (same, gives)) =
+      let P : Option Command → Type 0 = λ command. MatchOption command (Says usage_text Usage answer) (λ one. GivesInputs before.held one (inputs_of one words) answer) in
+      let on : P (Some good.command) = subst P good.is_command gives in
+      on_inputs on
+  good_answer may_fail (inr (rose, breaks)) = absurd (quiet.files rose)
+
+module _ (may_fail : List ℕ → Type 0) (words : List (List ℕ)) (before after : World) where
+  -- a run that finished with a status finished well
+  finished : (good : HasGoodInput words before.held) → IsQuiet before after → (status : Status) → Finishes may_fail words before after status → (status ≡ Done) × Prints words before after good
+  unfolding IsGood
+  finished good quiet status finishes =
+      let is = good_answer words before after good quiet finishes.answer may_fail finishes.ends in
+      (sym finishes.status_is ∙ is.0, record { text = finishes.answer.text; is_text = is.1; written = finishes.written; leaves = finishes.leaves })
+
+  other : (good : HasGoodInput words before.held) → IsQuiet before after → (status : Status) → ¬ (status ≡ Done) → ¬ Finishes may_fail words before after status
+  other good quiet status not_done finishes = not_done (finished good quiet status finishes).0
+
+  -- what it left by its status is what it has to
+  pub complete : (status : Status) → Runs may_fail words before after status → IsComplete words before after status
+  complete Done runs good quiet = (finished good quiet Done runs).1
+  complete MappingRefused runs good quiet = other good quiet MappingRefused (λ same. let never : MappingRefused ≡ Done = same in cc) runs
+  complete DocumentRefused runs good quiet = other good quiet DocumentRefused (λ same. let never : DocumentRefused ≡ Done = same in cc) runs
+  complete Usage runs good quiet = other good quiet Usage (λ same. let never : Usage ≡ Done = same in cc) runs
+  complete FileFault runs good quiet = other good quiet FileFault (λ same. let never : FileFault ≡ Done = same in cc) runs
+  complete SinkFault runs good quiet = quiet.sink runs.cause
+  complete Memory runs good quiet = tt
