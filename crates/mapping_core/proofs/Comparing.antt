@@ -1,5 +1,5 @@
 -- What the comparison of tables with those of a state asks, and what it tells.
-use Rattle.std.proofs.Common.{◌≡◌, ⊎_elim, ◌<◌, ◌≤◌, List, [], ◌∷◌, length, All, Bool, false, IsPermutation, IsTrue, sym, ap, subst, slice_get, arith}
+use Rattle.std.proofs.Common.{◌≡◌, ⊎_elim, ◌<◌, ◌≤◌, List, [], ◌∷◌, length, All, Bool, false, IsPermutation, IsTrue, sym, ap, subst, arith}
 use Rattle.std.specs.List.{AllZip}
 use Rattle.std.specs.Option.{option_map_or}
 use Rattle.std.proofs.lemmas.Bool.{cases_lt}

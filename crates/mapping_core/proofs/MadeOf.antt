@@ -1,5 +1,5 @@
 -- Parts of one schema with the same cells are told apart by nothing that regions depend on.
-use Rattle.std.proofs.Common.{List, [], false, refl, subst}
+use Rattle.std.proofs.Common.{List, [], false, refl, sym, subst}
 use Rattle.std.specs.Prelude.{unwrap_or, option_and_then}
 use Rattle.std.specs.Option.{option_map_or}
 use Rattle.round_trip.specs.Words.{Schema}
@@ -49,11 +49,12 @@ module _ (schema : Schema) (cells : Cells) (regions : List (List Region)) (views
 pub regions_by : (parts : Parts) → AreParts parts → (regions : List (List Region)) → AreRegions (basis_of parts) regions → HasRegions (schema_in parts) parts.cells.now regions
 regions_by parts are regions are_regions = record { parts = parts; of_schema = refl; of_cells = refl; are_parts = are; are_regions = are_regions }
 
--- and with views
-pub made_by : (parts : Parts) → AreParts parts → (regions : List (List Region)) → AreRegions (basis_of parts) regions → (views : MappingViews) → AreViewsOf (basis_of parts) views.update
-    → AreQueryViewsOf (basis_of parts) (is_free_in parts.cells.now) views.query → AreMadeOf (schema_in parts) parts.cells.now regions views
-made_by parts are regions are_regions views are_update_views are_query_views = record {
-  has = regions_by parts are regions are_regions;
-  are_update_views = are_update_views;
-  are_query_views = are_query_views;
+-- with views by this basis
+pub made_by : (schema : Schema) (cells : Cells) (regions : List (List Region)) → HasRegions schema cells regions → (views : MappingViews) → AreViewsOf (basis_by schema cells) views.update
+    → AreQueryViewsOf (basis_by schema cells) (is_free_in cells) views.query → AreMadeOf schema cells regions views
+made_by schema cells regions has views are_update_views are_query_views = record {
+  has = has;
+  are_update_views = subst (λ basis. AreViewsOf basis views.update) (λ i. basis_by (sym has.of_schema i) (sym has.of_cells i)) are_update_views;
+  are_query_views = subst (λ (by : Basis × Cells). AreQueryViewsOf by.0 (is_free_in by.1) views.query)
+      (λ i. (basis_by (sym has.of_schema i) (sym has.of_cells i), sym has.of_cells i)) are_query_views;
 }

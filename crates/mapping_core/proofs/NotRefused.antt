@@ -1,6 +1,6 @@
 -- What is accepted and legal isn't refused, and what documents hold is one.
-use Rattle.std.proofs.Common.{◌≡◌, ◌⊎◌, ℕ, List, Some, None, refl, sym, ap, subst, inl, inr, ◌∙◌}
-use Rattle.std.specs.Prelude.{Option, unwrap_or}
+use Rattle.std.proofs.Common.{◌≡◌, ℕ, List, Some, sym, ap, subst, inl, inr, ◌∙◌}
+use Rattle.std.specs.Prelude.{unwrap_or}
 use Rattle.std.proofs.lemmas.Option.{none-some, same_Some}
 use Rattle.serde_json.specs.Data.{Data}
 use Rattle.json_form.specs.TreeParts.{tree_at}
@@ -8,11 +8,11 @@ use Rattle.data_documents.specs.entity_documents.DocShapes.{IsDocFault}
 use Rattle.data_documents.specs.entity_documents.States.{state_in}
 use Rattle.data_documents.specs.table_documents.Shapes as tables
 use Rattle.data_documents.specs.table_documents.Tables.{tables_in}
-use Rattle.round_trip.specs.Words.{EntityModel, LimitFault, RoundTrips, RuleFault, Schema, State, StoreModel, Tables}
-use Rattle.region_partition.specs.mapping_limits.FirstLimit.{IsFirstLimit}
-use Rattle.region_partition.proofs.limit_laws.Told.{one_told}
+use Rattle.round_trip.specs.Words.{AreLegalTables, Breach, EntityModel, IsBreachOf, IsLegal, RoundTrips, RuleFault, Schema, State, StoreModel, Tables}
+use Rattle.round_trip.specs.legality.TableBreaches.{IsBreachOfTables}
+use Rattle.table_files.proofs.table_legality.Kept.{no_breach as unbroken}
+use Rattle.state_legality.proofs.Joined.{no_first_breach}
 use Rattle.mapping_core.specs.mapping_verdict.Words.{Failure, IsFailureOf}
-use Rattle.mapping_core.specs.Accepted.{PassesNoLimit}
 use Rattle.mapping_core.specs.Rules.{IsToldRule, Means}
 use Rattle.mapping_core.specs.states.Documents.{HoldsNoState, HoldsNoTables, HoldsState, HoldsTables}
 
@@ -24,11 +24,7 @@ one_meaning csdl ssdl msl one two first second = first.meaning ∙ sym second.me
 pub no_rule : (csdl ssdl msl : List ℕ) (schema : Schema) → Means csdl ssdl msl schema → (fault : RuleFault) → ¬ IsToldRule csdl ssdl msl fault
 no_rule csdl ssdl msl schema means fault told = means.unbroken fault.file told.fault told.broken
 
--- nor a limit of a schema that passes none
-pub no_limit : (schema : Schema) → PassesNoLimit schema → (fault : LimitFault) → ¬ IsFirstLimit schema (Some fault)
-no_limit schema none fault first = none-some fault (one_told schema None (Some fault) none first)
-
--- nor a failing state of one that has none
+-- nor a failing state of a schema that has none
 pub no_failure : (schema : Schema) → RoundTrips schema → (failure : Failure) → ¬ IsFailureOf schema failure
 no_failure schema round_trips failure is = round_trips failure.kind failure.place failure.state (unwrap_or failure.other failure.state) is.fails
 
@@ -57,3 +53,11 @@ module _ (store : StoreModel) (bytes : List ℕ) (held_tables : Tables) (holds :
   has_tables pointer (inl none) = none-some holds.0 (sym none.0 ∙ holds.1)
   has_tables pointer (inr (d, held, fails)) =
       holds.2.shape fails.place (subst (λ (tree : Data). tables.IsDocFault store tree fails.place) (same_tree bytes d holds.0 held holds.1) fails.first.0)
+
+-- no breach is told of a legal state
+pub no_breach : (model : EntityModel) (state : State) → IsLegal model state → (breach : Breach) → ¬ IsBreachOf model state breach
+no_breach model state legal breach = no_first_breach model state breach legal
+
+-- nor of legal tables
+pub no_table_breach : (store : StoreModel) (tables : Tables) → AreLegalTables store tables → (breach : Breach) → ¬ IsBreachOfTables store tables breach
+no_table_breach store tables legal = unbroken store tables legal

@@ -5,6 +5,7 @@ pub use Rattle.edm_types.specs.declared.faults.Breach.{Breach}
 pub use Rattle.edm_types.specs.declared.schema.Schema.{Schema}
 pub use Rattle.round_trip.specs.Words.{State, Tables, AreLegalTables, AreTables, IsBreachOf, IsLegal, IsState}
 pub use Rattle.round_trip.specs.legality.TableBreaches.{IsBreachOfTables}
+pub use Rattle.case_laws.specs.Reading.{HasStateTables}
 pub use Rattle.region_partition.specs.mapping_limits.FirstLimit.{IsFirstLimit}
 pub use Rattle.mapping_core.specs.mapping_verdict.Words.{Failure, IsFailureOf}
 pub use Rattle.mapping_core.specs.declared.loading.LoadFault.{LoadFault}

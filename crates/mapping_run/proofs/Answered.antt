@@ -1,5 +1,5 @@
 -- What the words of a command give, by what was read.
-use Rattle.std.proofs.Common.{◌≡◌, ◌≤◌, ℕ, List, [], ◌∷◌, length, ◌==◌, Bool, true, false, Option, Some, None, option_and_then, Result, Ok, Err, IfOk, MatchOption, if◌then◌else◌, inl, inr, refl, sym, subst, ◌∙◌, arith}
+use Rattle.std.proofs.Common.{◌≡◌, ℕ, List, [], ◌∷◌, length, ◌==◌, Bool, true, false, Option, Some, None, option_and_then, Result, Ok, Err, IfOk, MatchOption, if◌then◌else◌, inl, inr, refl, sym, subst, ◌∙◌, arith}
 use Rattle.std.proofs.lemmas.Option.{none-some, same_Some}
 use Rattle.std.proofs.lemmas.Bool.Decides.{nat_tests}
 use Rattle.emc_base.specs.declared.memory.Memory.{Memory}

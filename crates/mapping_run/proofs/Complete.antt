@@ -1,29 +1,26 @@
 -- A run on good input, in which no read and no write failed, succeeds: all else that it could answer is excluded.
-use Rattle.std.proofs.Common.{◌≡◌, ◌⊎◌, ◌<◌, ◌≤◌, ℕ, List, [], ◌∷◌, length, Option, Some, None, Err, MatchOption, inl, inr, refl, sym, ap, subst, ◌∙◌, arith}
+use Rattle.std.proofs.Common.{◌≡◌, ◌⊎◌, ◌≤◌, ℕ, zero, suc, List, [], ◌∷◌, length, Option, Some, Err, MatchOption, inl, inr, refl, sym, subst, ◌∙◌, arith}
 use Rattle.std.proofs.lemmas.Option.{none-some, same_Some}
-use Rattle.emc_base.specs.Faults.{RoseOrStands}
 use Rattle.emc_base.specs.Lists.{At}
 use Rattle.emc_base.proofs.Lists.{at_once}
 use Rattle.emc_files.specs.Files.{FileMap}
 use Rattle.round_trip.specs.Words.{Schema, State, Tables}
-use Rattle.table_files.proofs.table_legality.Kept.{no_breach}
-use Rattle.state_legality.proofs.Joined.{no_first_breach}
 use Rattle.texts.specs.command_texts.Texts.{usage_text}
 use Rattle.mapping_core.specs.Rules.{IsReadSchema, Means}
-use Rattle.mapping_core.specs.Words.{IsAccepted, LoadsLegal}
+use Rattle.mapping_core.specs.Words.{IsAccepted, IsFirstLimit, LimitFault, LoadsLegal, PassesNoLimit}
 use Rattle.mapping_core.specs.declared.loading.LoadFault.{LoadFault}
 use Rattle.mapping_core.specs.declared.loading.LoadFault.TheVariants as load
-use Rattle.mapping_core.proofs.NotRefused.{has_state, has_tables, no_failure, no_limit, no_rule, one_meaning, one_state, one_tables}
+use Rattle.mapping_core.proofs.NotRefused.{has_state, has_tables, no_breach, no_failure, no_rule, no_table_breach, one_meaning, one_state, one_tables}
 use Rattle.mapping_run.specs.declared.answers.answer.Answer.{Answer}
 use Rattle.mapping_run.specs.declared.answers.command.Command.{Command}
 use Rattle.mapping_run.specs.declared.answers.command.Command.TheVariants.{Check, Views, Store, Load}
 use Rattle.mapping_run.specs.declared.answers.status.Status.{Status}
 use Rattle.mapping_run.specs.declared.answers.status.Status.TheVariants.{Done, MappingRefused, DocumentRefused, Usage, FileFault, SinkFault, Memory}
 use Rattle.mapping_run.specs.answers.Gives.{GivesBy, GivesLoaded, GivesOn, GivesState, GivesStored, GivesTables, HasDocuments, RefusesMapping, RefusesSchema, Says, TellsNoState}
-use Rattle.mapping_run.specs.Commands.{command_of, inputs_of}
-use Rattle.mapping_run.specs.Completeness.{HasGoodInput, HasLegalData, HoldsLegalState, HoldsStateTables, IsComplete, IsQuiet, IsTextOf, Prints, Succeeds}
-use Rattle.mapping_run.specs.Gives.{Gives, GivesInputs}
-use Rattle.mapping_run.specs.Inputs.{AreInputs, IsInput, IsLacking, LacksInput, StandsAt, largest_file}
+use Rattle.mapping_run.specs.Commands.{inputs_of}
+use Rattle.mapping_run.specs.Completeness.{HasGoodInput, HasLegalData, HoldsLegalState, HoldsStateTables, IsComplete, IsQuiet, IsTextOf, Prints}
+use Rattle.mapping_run.specs.Gives.{GivesInputs}
+use Rattle.mapping_run.specs.Inputs.{AreInputs, IsInput, IsLacking, largest_file}
 use Rattle.mapping_run.specs.Runs.{Ends, Finishes, Runs}
 use Rattle.mapping_run.specs.World.{World}
 
@@ -31,8 +28,8 @@ use Rattle.mapping_run.specs.World.{World}
 input_at : (held : Option FileMap) (names contents : List (List ℕ)) (i : ℕ) (name : List ℕ) → AreInputs held names contents → At names i name → (bytes : List ℕ) × IsInput held name bytes
 input_at held [] contents i name all here = absurd (none-some name here)
 input_at held (first ∷ names) [] i name all here = absurd all
-input_at held (first ∷ names) (bytes ∷ contents) 0 name all here = (bytes, subst (λ (one : List ℕ). IsInput held one bytes) (same_Some first name here) all.0)
-input_at held (first ∷ names) (bytes ∷ contents) (1 + i) name all here = input_at held names contents i name all.1 here
+input_at held (first ∷ names) (bytes ∷ contents) zero name all here = (bytes, subst (λ (one : List ℕ). IsInput held one bytes) (same_Some first name here) all.0)
+input_at held (first ∷ names) (bytes ∷ contents) (suc i) name all here = input_at held names contents i name all.1 here
 
 module _ (files : FileMap) where
   -- what stands at a name is one content
@@ -59,61 +56,60 @@ module _ (files : FileMap) where
       omega (arith, more, fits)
 
 -- the answer is that of an accepted mapping with legal data
-IsGood : (command : Command) (contents : List (List ℕ)) (schema : Schema) → HasLegalData command contents schema → Answer → Type 0
-IsGood command contents schema data answer = (answer.status ≡ Done) × IsTextOf command contents schema data answer.text
+abbrev IsGood : (command : Command) (contents : List (List ℕ)) (schema : Schema) → HasLegalData command contents schema → Answer → Type 0
+IsGood command contents schema held_data answer = (answer.status ≡ Done) × IsTextOf command contents schema held_data answer.text
 
 module _ (contents : List (List ℕ)) (schema : Schema) where
   -- on a legal state its tables are printed
-  of_state : (data : HoldsLegalState schema.model contents) (answer : Answer) → GivesBy Store contents schema answer → IsGood Store contents schema data answer
-  unfolding IsGood
-  of_state data answer (document, is_document, gives) =
-      by_shape (subst (λ (bytes : List ℕ). GivesStored bytes schema answer) (at_once contents 3 document data.document is_document data.is_document) gives)
+  of_state : (held_data : HoldsLegalState schema.model contents) (answer : Answer) → GivesBy Store contents schema answer → IsGood Store contents schema held_data answer
+  of_state held_data answer (document, is_document, gives) =
+      by_shape (subst (λ (bytes : List ℕ). GivesStored bytes schema answer) (at_once contents 3 document held_data.document is_document held_data.is_document) gives)
     where
-      by_tables : GivesTables schema data.state answer → IsGood Store contents schema data answer
-      unfolding IsGood
-      by_tables (inl (breach, is, told)) = absurd (no_first_breach schema.model data.state breach data.legal is)
+      by_tables : GivesTables schema held_data.state answer → IsGood Store contents schema held_data answer
+      by_tables (inl (breach, is, told)) = absurd (no_breach schema.model held_data.state held_data.legal breach is)
       by_tables (inr (legal, told)) = (told.1, told.0)
 
-      by_shape : GivesStored data.document schema answer → IsGood Store contents schema data answer
-      by_shape (inl (pointer, none, told)) = absurd (has_state schema.model data.document data.state data.held pointer none)
+      by_shape : GivesStored held_data.document schema answer → IsGood Store contents schema held_data answer
+      by_shape (inl (pointer, none, told)) = absurd (has_state schema.model held_data.document held_data.state held_data.held pointer none)
       by_shape (inr (state, holds, gives)) =
-          by_tables (subst (λ (one : State). GivesTables schema one answer) (sym (one_state schema.model data.document data.state data.held state holds)) gives)
+          by_tables (subst (λ (one : State). GivesTables schema one answer) (sym (one_state schema.model held_data.document held_data.state held_data.held state holds)) gives)
 
   -- on legal tables of a legal state, this
-  of_tables : (data : HoldsStateTables schema contents) (answer : Answer) → GivesBy Load contents schema answer → IsGood Load contents schema data answer
-  unfolding IsGood
-  of_tables data answer (document, is_document, gives) =
-      by_shape (subst (λ (bytes : List ℕ). GivesLoaded bytes schema answer) (at_once contents 3 document data.document is_document data.is_document) gives)
+  of_tables : (held_data : HoldsStateTables schema contents) (answer : Answer) → GivesBy Load contents schema answer → IsGood Load contents schema held_data answer
+  of_tables held_data answer (document, is_document, gives) =
+      by_shape (subst (λ (bytes : List ℕ). GivesLoaded bytes schema answer) (at_once contents 3 document held_data.document is_document held_data.is_document) gives)
     where
-      not_stateless : (fault : LoadFault) → LoadsLegal schema data.tables (Err fault) → ¬ TellsNoState schema fault answer.text
+      not_stateless : (fault : LoadFault) → LoadsLegal schema held_data.tables (Err fault) → ¬ TellsNoState schema fault answer.text
       not_stateless (load.Breach breach) loads told = told
-      not_stateless (load.NoCase place) loads told = loads.none data.state data.is_legal data.has
-      not_stateless (load.Illegal breach) loads told = loads.none data.state data.is_legal data.has
-      not_stateless (load.Differs place held demanded) loads told = loads.none data.state data.is_legal data.has
+      not_stateless (load.NoCase place) loads told = loads.none held_data.state held_data.is_legal held_data.has
+      not_stateless (load.Illegal breach) loads told = loads.none held_data.state held_data.is_legal held_data.has
+      not_stateless (load.Differs place held demanded) loads told = loads.none held_data.state held_data.is_legal held_data.has
       not_stateless load.Memory loads told = told
 
-      by_loading : GivesState schema data.tables answer → IsGood Load contents schema data answer
-      unfolding IsGood
-      by_loading (inl (breach, is, told)) = absurd (no_breach schema.store data.tables data.legal breach is)
+      by_loading : GivesState schema held_data.tables answer → IsGood Load contents schema held_data answer
+      by_loading (inl (breach, is, told)) = absurd (no_table_breach schema.store held_data.tables held_data.legal breach is)
       by_loading (inr (legal, inl (fault, loads, told))) = absurd (not_stateless fault loads told.0)
-      by_loading (inr (legal, inr (state, loaded, told))) = (told.1, (state, loaded.only data.state data.is_legal data.has, told.0))
+      by_loading (inr (legal, inr (state, loaded, told))) = (told.1, (state, loaded.only held_data.state held_data.is_legal held_data.has, told.0))
 
-      by_shape : GivesLoaded data.document schema answer → IsGood Load contents schema data answer
-      by_shape (inl (pointer, none, told)) = absurd (has_tables schema.store data.document data.tables data.held pointer none)
+      by_shape : GivesLoaded held_data.document schema answer → IsGood Load contents schema held_data answer
+      by_shape (inl (pointer, none, told)) = absurd (has_tables schema.store held_data.document held_data.tables held_data.held pointer none)
       by_shape (inr (tables, holds, gives)) =
-          by_loading (subst (λ (one : Tables). GivesState schema one answer) (sym (one_tables schema.store data.document data.tables data.held tables holds)) gives)
+          by_loading (subst (λ (one : Tables). GivesState schema one answer) (sym (one_tables schema.store held_data.document held_data.tables held_data.held tables holds)) gives)
 
   -- so each command gives by an accepted mapping
-  by_command : (command : Command) (data : HasLegalData command contents schema) (answer : Answer) → GivesBy command contents schema answer → IsGood command contents schema data answer
-  unfolding IsGood
-  by_command Check data answer told = (told.1, told.0)
-  by_command Views data answer told = (told.1, told.0)
-  by_command Store data answer gives = of_state data answer gives
-  by_command Load data answer gives = of_tables data answer gives
+  by_command : (command : Command) (held_data : HasLegalData command contents schema) (answer : Answer) → GivesBy command contents schema answer → IsGood command contents schema held_data answer
+  by_command Check held_data answer told = (told.1, told.0)
+  by_command Views held_data answer told = (told.1, told.0)
+  by_command Store held_data answer gives = of_state held_data answer gives
+  by_command Load held_data answer gives = of_tables held_data answer gives
 
-module _ (words : List (List ℕ)) (before after : World) (good : HasGoodInput words before.held) (quiet : IsQuiet before after) (answer : Answer) where
+-- of a schema that passes no limit none is told
+abbrev pub TellsNoLimit : Type 0
+TellsNoLimit = (schema : Schema) → PassesNoLimit schema → (fault : LimitFault) → ¬ IsFirstLimit schema (Some fault)
+
+module _ (no_limit : TellsNoLimit) (words : List (List ℕ)) (before after : World) (good : HasGoodInput words before.held) (quiet : IsQuiet before after) (answer : Answer) where
   abbrev IsGoodAnswer : Type 0
-  IsGoodAnswer = IsGood good.command good.contents good.schema good.data answer
+  IsGoodAnswer = IsGood good.command good.contents good.schema good.held_data answer
 
   -- what documents mean that are accepted isn't refused
   not_refused : (schema : Schema) → good.schema ≡ schema → ¬ RefusesSchema schema answer
@@ -121,7 +117,7 @@ module _ (words : List (List ℕ)) (before after : World) (good : HasGoodInput w
     where
       by : ¬ RefusesSchema good.schema answer
       by (inl (fault, first, told)) = no_limit good.schema good.within fault first
-      by (inr (within, failure, is, told)) = no_failure good.schema good.round_trips failure is
+      by (inr (within, (failure, is, told))) = no_failure good.schema good.round_trips failure is
 
   -- on the contents that were read
   on_contents : GivesOn good.command good.contents answer → IsGoodAnswer
@@ -144,7 +140,7 @@ module _ (words : List (List ℕ)) (before after : World) (good : HasGoodInput w
       by (inl (inr (schema, also, refuses))) = absurd (not_refused schema (one_meaning gives.csdl gives.ssdl gives.msl good.schema schema means also) refuses)
       by (inr (schema, read, accepted, given)) =
           let same = one_meaning gives.csdl gives.ssdl gives.msl good.schema schema means read.means in
-          by_command good.contents good.schema good.command good.data answer (subst (λ (one : Schema). GivesBy good.command good.contents one answer) (sym same) given)
+          by_command good.contents good.schema good.command good.held_data answer (subst (λ (one : Schema). GivesBy good.command good.contents one answer) (sym same) given)
 
   -- on its input files
   on_inputs : GivesInputs before.held good.command (inputs_of good.command words) answer → IsGoodAnswer
@@ -167,12 +163,11 @@ module _ (words : List (List ℕ)) (before after : World) (good : HasGoodInput w
       on_inputs on
   good_answer may_fail (inr (rose, breaks)) = absurd (quiet.files rose)
 
-module _ (may_fail : List ℕ → Type 0) (words : List (List ℕ)) (before after : World) where
+module _ (no_limit : TellsNoLimit) (may_fail : List ℕ → Type 0) (words : List (List ℕ)) (before after : World) where
   -- a run that finished with a status finished well
   finished : (good : HasGoodInput words before.held) → IsQuiet before after → (status : Status) → Finishes may_fail words before after status → (status ≡ Done) × Prints words before after good
-  unfolding IsGood
   finished good quiet status finishes =
-      let is = good_answer words before after good quiet finishes.answer may_fail finishes.ends in
+      let is = good_answer no_limit words before after good quiet finishes.answer may_fail finishes.ends in
       (sym finishes.status_is ∙ is.0, record { text = finishes.answer.text; is_text = is.1; written = finishes.written; leaves = finishes.leaves })
 
   other : (good : HasGoodInput words before.held) → IsQuiet before after → (status : Status) → ¬ (status ≡ Done) → ¬ Finishes may_fail words before after status

@@ -5,8 +5,7 @@ use Rattle.emc_base.specs.Faults.{RoseOrStands}
 use Rattle.emc_base.specs.Lists.{At}
 use Rattle.emc_files.specs.Files.{FileMap}
 use Rattle.round_trip.specs.Words.{EntityModel, IsSameState, RoundTrips}
-use Rattle.case_laws.specs.Reading.{HasStateTables}
-use Rattle.mapping_core.specs.Words.{AreLegalTables, HoldsState, HoldsTables, IsLegal, IsStateText, IsTablesText, IsViewsText, Means, PassesNoLimit, Schema, State, Tables}
+use Rattle.mapping_core.specs.Words.{AreLegalTables, HasStateTables, HoldsState, HoldsTables, IsLegal, IsStateText, IsTablesText, IsViewsText, Means, PassesNoLimit, Schema, State, Tables}
 use Rattle.texts.specs.command_texts.Texts.{accepted_text}
 use Rattle.mapping_run.specs.declared.answers.command.Command.{Command}
 use Rattle.mapping_run.specs.declared.answers.command.Command.TheVariants.{Check, Views, Store, Load}
@@ -46,10 +45,10 @@ HasLegalData Load contents schema = HoldsStateTables schema contents
 
 -- the text that is to be printed: that the mapping is accepted, its cases, the tables of the state, or the state that the tables tell
 abbrev pub IsTextOf : (command : Command) (contents : List (List ℕ)) (schema : Schema) → HasLegalData command contents schema → List ℕ → Type 0
-IsTextOf Check contents schema data text = text ≡ accepted_text
-IsTextOf Views contents schema data text = IsViewsText schema text
-IsTextOf Store contents schema data text = IsTablesText schema data.state text
-IsTextOf Load contents schema data text = (told : State) × IsSameState data.state told × IsStateText schema told text
+IsTextOf Check contents schema held_data text = text ≡ accepted_text
+IsTextOf Views contents schema held_data text = IsViewsText schema text
+IsTextOf Store contents schema held_data text = IsTablesText schema held_data.state text
+IsTextOf Load contents schema held_data text = (told : State) × IsSameState held_data.state told × IsStateText schema told text
 
 -- The words are a command, each of its input files is there and not too large, the documents of the mapping break no rule, what they mean passes no limit and
 -- round-trips, and the data are legal.
@@ -64,7 +63,7 @@ pub record HasGoodInput (words : List (List ℕ)) (held : Option FileMap) : Type
   pub documents : HasDocuments contents (λ csdl ssdl msl. Means csdl ssdl msl schema)
   pub within : PassesNoLimit schema
   pub round_trips : RoundTrips schema
-  pub data : HasLegalData command contents schema
+  pub held_data : HasLegalData command contents schema
 
 -- no read and no write failed, by the counts of faults: neither rose, and neither stands at its last value
 pub record IsQuiet (before after : World) : Type 0 where
@@ -74,7 +73,7 @@ pub record IsQuiet (before after : World) : Type 0 where
 -- the whole text was written, and the files hold what the command leaves
 pub record Prints (words : List (List ℕ)) (before after : World) (good : HasGoodInput words before.held) : Type 0 where
   pub text : List ℕ
-  pub is_text : IsTextOf good.command good.contents good.schema good.data text
+  pub is_text : IsTextOf good.command good.contents good.schema good.held_data text
   pub written : after.written ≡ option_map (λ bytes. bytes ++ text) before.written
   pub leaves : Leaves words before.held after.held
 

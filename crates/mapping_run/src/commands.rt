@@ -13,6 +13,7 @@ use crate::inputs::read_inputs;
 use crate::words::{command_of, inputs_of};
 use emc_base::{Memory, Txt};
 use emc_files::{Files, Sink, SinkFault};
+use mapping_core::what_is_accepted_is_not_refused;
 use std::alloc::Global;
 use texts::usage_text;
 
@@ -28,6 +29,7 @@ pub fn run<F: Files, W: Sink>(alloc: Global, words: &[Txt], files: &mut F, out: 
         (world (F.held files.new) (F.fault_count files.new) (W.written_to out.new) (W.fault_count out.new))
         result }
 {
+    what_is_accepted_is_not_refused();
     let Ok(answer) = answer_of(alloc, words, files) else {
         return Status::Memory;
     };

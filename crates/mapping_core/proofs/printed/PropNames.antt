@@ -105,4 +105,4 @@ plain_props csdl (Some d) held keeps = each_prop (raw_model d) (λ name. name �
 -- so of documents that break no rule
 pub plain_names : (csdl ssdl msl : List ℕ) → BreaksNoRule csdl ssdl msl → All (λ (prop : Prop). prop.name ≢ codes "$type") (model_in csdl).props
 plain_names csdl ssdl msl unbroken =
-    plain_props csdl (tree_at csdl) refl (λ d held rule place breaks. unbroken Csdl (record { rule = rule; place = place }) (inl (inr (d, held, inl breaks))))
+    plain_props csdl (tree_at csdl) refl (λ d held rule place breaks. unbroken Csdl (record { rule = rule; place = place }) (inr (d, held, inl breaks)))

@@ -1,5 +1,5 @@
 -- What documents mean that break no rule is accepted, or isn't, as it was decided.
-use Rattle.std.proofs.Common.{◌≡◌, ℕ, List, Result, Ok, Err, inl, inr, sym, subst}
+use Rattle.std.proofs.Common.{ℕ, List, Result, Ok, Err, inl, inr, sym, subst}
 use Rattle.emc_base.specs.Lists.{At}
 use Rattle.mapping_core.specs.Rules.{IsReadSchema}
 use Rattle.mapping_core.specs.Words.{IsAccepted, IsFailureOf, Schema}

@@ -1,6 +1,5 @@
 -- What is answered on tables, by what loading them told.
-use Rattle.std.proofs.Common.{◌≡◌, ℕ, List, Contains, Result, Ok, Err, IfOk, inl, inr, sym, ap, subst}
-use Rattle.std.specs.Prelude.{Any}
+use Rattle.std.proofs.Common.{◌≡◌, Result, Ok, Err, IfOk, inl, inr, sym, ap, subst}
 use Rattle.emc_base.specs.Lists.{At}
 use Rattle.emc_base.proofs.Mapped.{contains_at}
 use Rattle.emc_base.specs.declared.memory.Memory.{Memory}

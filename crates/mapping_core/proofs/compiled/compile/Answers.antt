@@ -1,4 +1,4 @@
-use Rattle.std.proofs.Common.{sym, subst}
+use Rattle.std.proofs.Common.{sym, subst, ◌∙◌}
 use Rattle.round_trip.specs.Words.{Schema}
 use Rattle.mapping_core.specs.Accepted.{IsAccepted}
 use Rattle.mapping_core.specs.Rules.{Means}
@@ -9,6 +9,6 @@ decide-requires c = record { csdl = c.args.csdl.now; ssdl = c.args.ssdl.now; msl
 
 pub returns : goal.returns
 returns c =
-    let decided = c.in_ok-compiled.ensures in
+    let decided = c.in_ok-accepted.ensures in
     let Compiles : Schema → Type 0 = λ schema. Means c.args.csdl.now c.args.ssdl.now c.args.msl.now schema × IsAccepted schema in
-    subst Compiles (sym decided.0) (c.in_ok-schema.ensures.means, decided.1)
+    subst Compiles (sym (c.in_ok-compiled.ensures ∙ decided.0)) (c.in_ok-schema.ensures.means, decided.1)

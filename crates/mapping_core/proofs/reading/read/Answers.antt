@@ -1,5 +1,5 @@
 use Rattle.std.proofs.Common.{Err, refl}
-use Rattle.mapping_core.proofs.Told.{stops_at_mapping, stops_at_model, stops_at_store}
+use Rattle.mapping_core.proofs.Told.{all_meant, stops_at_mapping, stops_at_model, stops_at_store}
 use Rattle.mapping_core.proofs.reading.read.Goals as goal
 
 pub returns-in_err-model : goal.returns-in_err-model
@@ -15,3 +15,7 @@ pub returns-in-Err : goal.returns-in-Err
 returns-in-Err c =
     stops_at_mapping c.args.csdl.now c.args.ssdl.now c.args.msl.now c.in_ok-model.model c.in_ok-model.ensures c.in_ok-store.store c.in_ok-store.ensures
     c.in-Err.fault (Err c.in-Err.fault) refl c.in-Err.ensures
+
+pub returns-in-Ok : goal.returns-in-Ok
+returns-in-Ok c =
+    all_meant c.args.csdl.now c.args.ssdl.now c.args.msl.now c.in_ok-model.model c.in_ok-model.ensures c.in_ok-store.store c.in_ok-store.ensures c.in-Ok.mapping c.in-Ok.ensures

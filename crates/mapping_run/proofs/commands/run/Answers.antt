@@ -11,7 +11,7 @@ returns-then-is_empty g c =
     let after : World = world (g.F.Files.held c.answer_of.new.files) (g.F.Files.fault_count c.answer_of.new.files) (g.W.Sink.written_to c.args.out.now) (g.W.Sink.fault_count c.args.out.now) in
     let ended = none_written g.F.Files.may_fail c.args.words.now before after
     c.in-Ok.answer c.as_slice.result.now c.in-Ok.ensures.ends c.as_slice.ensures.bytes c.answer_of.ensures.same c.if-is_empty.ensures refl refl in
-    record { headline = ended; complete = complete g.F.Files.may_fail c.args.words.now before after c.in-Ok.answer.status ended }
+    record { headline = ended; complete = complete c.what_is_accepted_is_not_refused.ensures.limit g.F.Files.may_fail c.args.words.now before after c.in-Ok.answer.status ended }
 
 pub returns-in-Ok-put : goal.returns-in-Ok-put
 returns-in-Ok-put g c =
@@ -20,7 +20,7 @@ returns-in-Ok-put g c =
     let ended = all_written g.F.Files.may_fail c.args.words.now before after
     c.in-Ok.answer c.as_slice-2.result.now c.in-Ok.ensures.ends c.as_slice-2.ensures.bytes c.answer_of.ensures.same
     c.in-Ok-put.ensures.cause c.in-Ok-put.ensures.writes in
-    record { headline = ended; complete = complete g.F.Files.may_fail c.args.words.now before after c.in-Ok.answer.status ended }
+    record { headline = ended; complete = complete c.what_is_accepted_is_not_refused.ensures.limit g.F.Files.may_fail c.args.words.now before after c.in-Ok.answer.status ended }
 
 pub returns-in-Err-Failed : goal.returns-in-Err-Failed
 returns-in-Err-Failed g c =
@@ -30,4 +30,4 @@ returns-in-Err-Failed g c =
     c.in-Ok.answer c.as_slice-2.result.now c.in-Ok.ensures.ends c.as_slice-2.ensures.bytes c.answer_of.ensures.same
     (λ empty. not_nothing c.as_slice.result.now c.if-is_empty.ensures (c.as_slice.ensures.bytes ∙ empty))
     c.in-Err-Failed.field-0 c.in-Err-Failed.field-0-is c.in-Err-Failed.ensures.writes c.in-Err-Failed.ensures.cause in
-    record { headline = ended; complete = complete g.F.Files.may_fail c.args.words.now before after SinkFault ended }
+    record { headline = ended; complete = complete c.what_is_accepted_is_not_refused.ensures.limit g.F.Files.may_fail c.args.words.now before after SinkFault ended }

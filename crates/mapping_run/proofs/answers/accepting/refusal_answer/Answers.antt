@@ -1,5 +1,4 @@
 use Rattle.std.proofs.Common.{subst}
-use Rattle.mapping_core.specs.declared.verdict.Refusal.{Refusal}
 use Rattle.mapping_run.specs.answers.Answers.{ShowsFailure}
 use Rattle.mapping_run.proofs.answers.accepting.refusal_answer.Goals as goal
 
