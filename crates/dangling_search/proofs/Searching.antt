@@ -1,26 +1,23 @@
 -- What was looked at so far, in a search for a focus at which a key dangles.
 use Rattle.std.proofs.Common.{◌≡◌, ◌↔◌, ⊎_elim, ℕ, ◌<◌, ◌≤◌, ◌+◌, List, take, All, Contains, Option, Some, None, IsSome, Result, Ok, Err, IfOk, length, refl, sym, subst, ◌∙◌, arith}
 use Rattle.std.proofs.lemmas.Bool.{cases_lt}
-use Rattle.std.proofs.lemmas.Option.{slice_get_within}
 use Rattle.std.proofs.lemmas.List.{take_all}
 use Rattle.std.proofs.lemmas.List.Elements.{All-contains, All-same}
 use Rattle.emc_base.specs.declared.memory.Memory.{Memory}
-use Rattle.round_trip.specs.Words.{AssocId, ForeignKey, At}
+use Rattle.round_trip.specs.Words.{ForeignKey}
 use Rattle.round_trip.specs.declared.FailKind.TheVariants as kind
 use Rattle.cells.specs.Limits.{IsWithinLimits}
 use Rattle.regions.specs.Basis.{Basis}
-use Rattle.regions.specs.Regions.{regions_of}
 use Rattle.regions.specs.declared.pattern.Focus.{Focus}
 use Rattle.regions.specs.declared.pattern.Focus.TheVariants as focus
 use Rattle.regions.specs.declared.region.Region.{Region}
 use Rattle.regions.specs.region_laws.IsBasis.{IsBasis}
-use Rattle.regions.proofs.region_laws.listing.Listed.{is_listed}
 use Rattle.region_states.specs.conflicts.There.{NoneFailsBy}
 use Rattle.dangling_keys.specs.Dangling.{DanglesAt, IsRowFocus, IsDangling}
 use Rattle.dangling_keys.specs.declared.key.DanglingKey.{DanglingKey}
 use Rattle.dangling_keys.proofs.failing.Whole.{told_fails}
 use Rattle.dangling_keys.proofs.told.Told.{dangling_told}
-use Rattle.dangling_search.specs.Searched.{FindsKey, FindsLink, SomeFails}
+use Rattle.dangling_search.specs.Searched.{FindsAmong, FindsKey, SomeFails}
 use Rattle.dangling_search.specs.declared.first.Spot.{Spot}
 
 -- the key dangles nowhere at the focus
@@ -69,33 +66,8 @@ none_in basis key regions items are i end none of among =
     let all : All (λ region. NeverAt basis key (focus.Entity region)) regions = All-same (λ (region : Region). NeverAt basis key (focus.Entity region)) regions (take i items) (sym (take_all i items end ∙ are)) none in
     subst (NeverAt basis key) (sym among.2) (All-contains (λ (region : Region). NeverAt basis key (focus.Entity region)) regions among.0 all among.1)
 
--- and the links of all associations
-pub none_linked : (basis : Basis) (key : ForeignKey) (n : ℕ) → length basis.schema.model.assocs ≤ n → IsSoBelow (λ i. NeverAt basis key (focus.Link (record { index = i }))) n
-    → (of : Focus) → ((a : AssocId) × (of ≡ focus.Link a)) → NeverAt basis key of
-none_linked basis key n end none of (a, is_link) = subst (NeverAt basis key) (sym is_link) never
-  where
-    never : NeverAt basis key (focus.Link a)
-    never principal dangles =
-        let its = dangles.of_rows.1 in
-        let At_assoc : AssocId → Type 0 = λ b. At basis.schema.model.assocs b.index its.assoc in
-        let inside = slice_get_within basis.schema.model.assocs a.index its.assoc (subst At_assoc its.of_assoc its.joined.is_assoc) in
-        none a.index (omega (arith, inside, end)) principal dangles
-
--- an entity of a region of the set of a number
-abbrev pub IsOfSet : Basis → ℕ → Focus → Type 0
-IsOfSet basis i of = (region : Region) × Contains (regions_of basis (record { index = i })) region × (of ≡ focus.Entity region)
-
--- so all were looked at
-pub all_seen : (basis : Basis) (key : ForeignKey) (n : ℕ) → length basis.schema.model.sets ≤ n → IsSoBelow (λ i. (of : Focus) → IsOfSet basis i of → NeverAt basis key of) n
-    → ((of : Focus) → ((a : AssocId) × (of ≡ focus.Link a)) → NeverAt basis key of) → (of : Focus) → NeverAt basis key of
-all_seen basis key n end sets links (focus.Link a) = links (focus.Link a) (a, refl)
-all_seen basis key n end sets links (focus.Entity region) = λ principal dangles.
-    (let listed = is_listed basis dangles.of_rows.0 region dangles.of_rows.1 in
-    let inside = slice_get_within basis.schema.model.sets dangles.of_rows.0.index listed.set listed.is_set in
-    sets dangles.of_rows.0.index (omega (arith, inside, end)) (focus.Entity region) (region, dangles.of_rows.1, refl) principal dangles)
-
--- where the links were looked at last
-pub all_found : (basis : Basis) (key : ForeignKey) (n : ℕ) → length basis.schema.model.sets ≤ n → IsSoBelow (λ i. (of : Focus) → IsOfSet basis i of → NeverAt basis key of) n
-    → (found : Option Spot) → FindsLink basis key found → FindsKey basis key found
-all_found basis key n end sets None links = λ of any. all_seen basis key n end sets links of
-all_found basis key n end sets (Some spot) dangles = dangles
+-- what is found among focuses outside of which the key dangles nowhere
+pub found_among : (basis : Basis) (key : ForeignKey) (Among : Focus → Type 0) → ((of : Focus) (principal : Option Region) → DanglesAt basis of key principal → Among of)
+    → (found : Option Spot) → FindsAmong basis key Among found → FindsKey basis key found
+found_among basis key Among only None none = λ of any principal dangles. none of (only of principal dangles) principal dangles
+found_among basis key Among only (Some spot) dangles = dangles

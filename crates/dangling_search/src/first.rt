@@ -5,21 +5,20 @@ ghost use Rattle.round_trip.specs.Words.{SetId};
 ghost use Rattle.round_trip.specs.declared.FailKind.TheVariants as fails;
 ghost use Rattle.regions.specs.Regions.{regions_of};
 ghost use Rattle.regions.specs.declared.pattern.Focus.TheVariants as focus;
-ghost use Rattle.regions.specs.declared.pattern.Focus.TheVariants as focus;
 ghost use Rattle.region_partition.specs.set_regions.Regions.{AreRegions};
 ghost use Rattle.region_states.specs.region_basis.BasisOf.{basis_of};
 ghost use Rattle.region_states.specs.conflicts.There.{NoneFailsBy};
 ghost use Rattle.dangling_keys.specs.Dangling.{IsRowFocus, IsDangling};
 ghost use Rattle.dangling_keys.specs.declared.key.DanglingKey.{DanglingKey};
 ghost use Rattle.dangling_search.specs.Found.{TargetHere};
-ghost use Rattle.dangling_search.specs.Searched.{FindsAt, FindsIn, FindsKey, FindsLink, IsJoinedPlace, SomeFails};
+ghost use Rattle.dangling_search.specs.Searched.{FindsAt, FindsIn, FindsKey, IsJoinedPlace, SomeFails};
 
 use crate::at_focus::at_focus;
 use crate::target::{Target, target_of};
-use cells::{LinkPlace, Parts};
+use cells::{LinkPlace, Owner, Parts};
 use dangling_keys::DanglingKey;
 use edm_types::ForeignKey;
-use emc_base::{AssocId, FkId, Memory, Seq};
+use emc_base::{AssocId, FkId, Memory, Seq, SetId};
 use region_states::parts_are_a_basis;
 use regions::{Focus, Region};
 use std::alloc::Global;
@@ -34,7 +33,7 @@ struct Spot {
 
 /// The first foreign key that dangles, with a focus at which it does; `None` exactly where none dangles. The regions are to be those of all sets. Where no
 /// legal state clashes, that is exactly where no legal state has a row that refers by a key and finds none. At which of several focuses it is told no clause
-/// says: sets are looked at before associations. `Memory` comes where memory ran out.
+/// says. Looked at are the regions of the set that owns the key's table, or the links of the association that does. `Memory` comes where memory ran out.
 pub fn first_dangling(
     alloc: Global,
     parts: &Parts<'_>,
@@ -85,13 +84,14 @@ fn by_key(
     requires parts { AreParts parts.now }
     requires regions { AreRegions (basis_of parts.now) regions.now }
     requires within { key.now.to.index < length parts.now.store.now.tables }
+    requires from { key.now.from.index < length parts.now.store.now.tables }
     ensures { IfOk result (FindsKey (basis_of parts.now) key.now) }
 {
     let target = target_of(alloc, parts, regions, key)?;
     by_target(alloc, parts, regions, key, target.as_ref())
 }
 
-// The same, where it is known to what the key points.
+// The same, where it is known to what the key points. Only the set or the association that owns the table from which it points has rows there.
 fn by_target(
     alloc: Global,
     parts: &Parts<'_>,
@@ -101,15 +101,35 @@ fn by_target(
 ) -> Result<Option<Spot>, Memory>
     requires parts { AreParts parts.now }
     requires regions { AreRegions (basis_of parts.now) regions.now }
+    requires within { key.now.from.index < length parts.now.store.now.tables }
     requires target { TargetHere (basis_of parts.now) key.now (option_copied target) }
     ensures { IfOk result (FindsKey (basis_of parts.now) key.now) }
 {
-    for of_set in regions.as_slice() {
-        if let Some(spot) = in_set(alloc, parts, key, target, of_set)? {
-            return Ok(Some(spot));
-        }
+    match parts.cells.owner(key.from) {
+        Some(Owner::Set(set)) => in_owner(alloc, parts, regions, key, target, set),
+        Some(Owner::Assoc(assoc)) => at_links(alloc, parts, key, target, assoc),
+        None => Ok(None),
     }
-    in_links(alloc, parts, key, target)
+}
+
+// One of the regions of the set that owns the table.
+fn in_owner(
+    alloc: Global,
+    parts: &Parts<'_>,
+    regions: &Seq<Seq<Region>>,
+    key: &ForeignKey,
+    target: Option<&Target>,
+    set: SetId,
+) -> Result<Option<Spot>, Memory>
+    requires parts { AreParts parts.now }
+    requires regions { AreRegions (basis_of parts.now) regions.now }
+    requires target { TargetHere (basis_of parts.now) key.now (option_copied target) }
+    ensures { IfOk result (FindsIn (basis_of parts.now) key.now (regions_of (basis_of parts.now) set)) }
+{
+    match regions.get(set.index as usize) {
+        Some(of_set) => in_set(alloc, parts, key, target, of_set),
+        None => Ok(None),
+    }
 }
 
 // One of the regions of a set at which it does.
@@ -129,28 +149,6 @@ fn in_set(
         let of = focus_on(region)?;
         if let Some(principal) = at_focus(alloc, parts, key, target, &of)? {
             return Ok(Some(Spot { of, principal }));
-        }
-    }
-    Ok(None)
-}
-
-// An association with a table of its own at whose links it does.
-fn in_links(
-    alloc: Global,
-    parts: &Parts<'_>,
-    key: &ForeignKey,
-    target: Option<&Target>,
-) -> Result<Option<Spot>, Memory>
-    requires parts { AreParts parts.now }
-    requires target { TargetHere (basis_of parts.now) key.now (option_copied target) }
-    ensures { IfOk result (FindsLink (basis_of parts.now) key.now) }
-{
-    for index in 0..parts.model.assocs.len() {
-        let assoc = AssocId {
-            index: index as u32,
-        };
-        if let Some(spot) = at_links(alloc, parts, key, target, assoc)? {
-            return Ok(Some(spot));
         }
     }
     Ok(None)

@@ -21,6 +21,15 @@ by_key-requires-clause-within c =
     (contains_at keys i c.key-item.result here) in
     ids.to
 
+pub by_key-requires-clause-from : goal.by_key-requires-clause-from
+by_key-requires-clause-from c =
+    let i = c.loop-index.index in
+    let keys = c.args.parts.now.store.now.keys in
+    let here : At keys i c.key-item.result = subst (λ (list : List ForeignKey). At list i c.key-item.result) c.as_slice-key-items.ensures.items (slice_get_read _ _ i _ refl c.loop-index-test.true c.key-item.is) in
+    let ids : HasForeignIds (schema_in c.args.parts.now).store c.key-item.result = All-contains (HasForeignIds (schema_in c.args.parts.now).store) keys c.key-item.result c.requires.parts.sound.store.ids.foreign
+    (contains_at keys i c.key-item.result here) in
+    ids.from
+
 pub loop-index-preserved : goal.loop-index-preserved
 loop-index-preserved c =
     let basis = basis_of c.args.parts.now in
