@@ -2,5 +2,6 @@ pub mod Telling
 pub mod Lists
 pub mod Pairing
 pub mod Owning
-pub mod Rows
+pub mod Writers
 pub mod Searching
+pub mod Tables

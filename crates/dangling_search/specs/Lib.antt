@@ -1,3 +1,4 @@
 pub mod Lent
 pub mod Found
 pub mod Searched
+pub mod Rows

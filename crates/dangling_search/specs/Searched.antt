@@ -17,9 +17,12 @@ abbrev pub FindsAmong : Basis → ForeignKey → (Focus → Type 0) → Option S
 FindsAmong basis key Among None = (of : Focus) → Among of → (principal : Option Region) → ¬ DanglesAt basis of key principal
 FindsAmong basis key Among (Some spot) = DanglesAt basis spot.of key spot.principal
 
--- at a region of these, at the links of the association, and at any focus
+-- at a region of these, at this region, at the links of the association, and at any focus
 abbrev pub FindsIn : Basis → ForeignKey → List Region → Option Spot → Type 0
 FindsIn basis key regions = FindsAmong basis key (λ of. (region : Region) × Contains regions region × (of ≡ focus.Entity region))
+
+abbrev pub FindsRegion : Basis → ForeignKey → Region → Option Spot → Type 0
+FindsRegion basis key region = FindsAmong basis key (λ of. of ≡ focus.Entity region)
 
 abbrev pub FindsAt : Basis → ForeignKey → AssocId → Option Spot → Type 0
 FindsAt basis key a = FindsAmong basis key (λ of. of ≡ focus.Link a)

@@ -1,4 +1,4 @@
-ghost use Rattle.std.specs.Prelude.{◌≡◌, ◌<◌, ◌↔◌, IfOk, IsSome, IsTrue, None, Some, length};
+ghost use Rattle.std.specs.Prelude.{◌≡◌, ◌<◌, ◌↔◌, IfOk, IsSome, IsTrue, None, Some, length, map};
 ghost use Rattle.std.specs.Option.{option_copied};
 ghost use Rattle.cells.specs.Parts.{AreParts, schema_in};
 ghost use Rattle.round_trip.specs.Words.{SetId};
@@ -11,9 +11,11 @@ ghost use Rattle.region_states.specs.conflicts.There.{NoneFailsBy};
 ghost use Rattle.dangling_keys.specs.Dangling.{IsRowFocus, IsDangling};
 ghost use Rattle.dangling_keys.specs.declared.key.DanglingKey.{DanglingKey};
 ghost use Rattle.dangling_search.specs.Found.{TargetHere};
-ghost use Rattle.dangling_search.specs.Searched.{FindsAt, FindsIn, FindsKey, IsJoinedPlace, SomeFails};
+ghost use Rattle.dangling_search.specs.Rows.{AreRows, region_rows};
+ghost use Rattle.dangling_search.specs.Searched.{FindsAt, FindsIn, FindsKey, FindsRegion, IsJoinedPlace, SomeFails};
 
 use crate::at_focus::at_focus;
+use crate::region_rows::{RegionRows, rows_of_sets, writes};
 use crate::target::{Target, target_of};
 use cells::{LinkPlace, Owner, Parts};
 use dangling_keys::DanglingKey;
@@ -60,8 +62,25 @@ fn search(
     ensures told { IfOk result (λ found. (told : DanglingKey) → found ≡ Some told → IsDangling (basis_of parts.now) told) }
     ensures free { IfOk result (λ found. found ≡ None → (told : DanglingKey) → ¬ IsDangling (basis_of parts.now) told) }
 {
+    let rows = rows_of_sets(alloc, parts, regions)?;
+    let found = by_keys(alloc, parts, &rows);
+    drop(rows);
+    found
+}
+
+// The same, by the tables of each region.
+fn by_keys(
+    alloc: Global,
+    parts: &Parts<'_>,
+    rows: &Seq<Seq<RegionRows>>,
+) -> Result<Option<DanglingKey>, Memory>
+    requires parts { AreParts parts.now }
+    requires rows { AreRows (basis_of parts.now) rows.now }
+    ensures told { IfOk result (λ found. (told : DanglingKey) → found ≡ Some told → IsDangling (basis_of parts.now) told) }
+    ensures free { IfOk result (λ found. found ≡ None → (told : DanglingKey) → ¬ IsDangling (basis_of parts.now) told) }
+{
     for (index, key) in parts.store.keys.as_slice().iter().enumerate() {
-        if let Some(spot) = by_key(alloc, parts, regions, key)? {
+        if let Some(spot) = by_key(alloc, parts, rows, key)? {
             return Ok(Some(DanglingKey {
                 focus: spot.of,
                 key: FkId {
@@ -78,35 +97,35 @@ fn search(
 fn by_key(
     alloc: Global,
     parts: &Parts<'_>,
-    regions: &Seq<Seq<Region>>,
+    rows: &Seq<Seq<RegionRows>>,
     key: &ForeignKey,
 ) -> Result<Option<Spot>, Memory>
     requires parts { AreParts parts.now }
-    requires regions { AreRegions (basis_of parts.now) regions.now }
+    requires rows { AreRows (basis_of parts.now) rows.now }
     requires within { key.now.to.index < length parts.now.store.now.tables }
     requires from { key.now.from.index < length parts.now.store.now.tables }
     ensures { IfOk result (FindsKey (basis_of parts.now) key.now) }
 {
-    let target = target_of(alloc, parts, regions, key)?;
-    by_target(alloc, parts, regions, key, target.as_ref())
+    let target = target_of(alloc, parts, rows, key)?;
+    by_target(alloc, parts, rows, key, target.as_ref())
 }
 
 // The same, where it is known to what the key points. Only the set or the association that owns the table from which it points has rows there.
 fn by_target(
     alloc: Global,
     parts: &Parts<'_>,
-    regions: &Seq<Seq<Region>>,
+    rows: &Seq<Seq<RegionRows>>,
     key: &ForeignKey,
     target: Option<&Target>,
 ) -> Result<Option<Spot>, Memory>
     requires parts { AreParts parts.now }
-    requires regions { AreRegions (basis_of parts.now) regions.now }
+    requires rows { AreRows (basis_of parts.now) rows.now }
     requires within { key.now.from.index < length parts.now.store.now.tables }
     requires target { TargetHere (basis_of parts.now) key.now (option_copied target) }
     ensures { IfOk result (FindsKey (basis_of parts.now) key.now) }
 {
     match parts.cells.owner(key.from) {
-        Some(Owner::Set(set)) => in_owner(alloc, parts, regions, key, target, set),
+        Some(Owner::Set(set)) => in_owner(alloc, parts, rows, key, target, set),
         Some(Owner::Assoc(assoc)) => at_links(alloc, parts, key, target, assoc),
         None => Ok(None),
     }
@@ -116,17 +135,17 @@ fn by_target(
 fn in_owner(
     alloc: Global,
     parts: &Parts<'_>,
-    regions: &Seq<Seq<Region>>,
+    rows: &Seq<Seq<RegionRows>>,
     key: &ForeignKey,
     target: Option<&Target>,
     set: SetId,
 ) -> Result<Option<Spot>, Memory>
     requires parts { AreParts parts.now }
-    requires regions { AreRegions (basis_of parts.now) regions.now }
+    requires rows { AreRows (basis_of parts.now) rows.now }
     requires target { TargetHere (basis_of parts.now) key.now (option_copied target) }
     ensures { IfOk result (FindsIn (basis_of parts.now) key.now (regions_of (basis_of parts.now) set)) }
 {
-    match regions.get(set.index as usize) {
+    match rows.get(set.index as usize) {
         Some(of_set) => in_set(alloc, parts, key, target, of_set),
         None => Ok(None),
     }
@@ -138,20 +157,43 @@ fn in_set(
     parts: &Parts<'_>,
     key: &ForeignKey,
     target: Option<&Target>,
-    regions: &Seq<Region>,
+    rows: &Seq<RegionRows>,
 ) -> Result<Option<Spot>, Memory>
     requires parts { AreParts parts.now }
     requires target { TargetHere (basis_of parts.now) key.now (option_copied target) }
-    requires regions { (s : SetId) × (regions.now ≡ regions_of (basis_of parts.now) s) }
-    ensures { IfOk result (FindsIn (basis_of parts.now) key.now regions.now) }
+    requires rows { (s : SetId) × (rows.now ≡ map (region_rows (basis_of parts.now)) (regions_of (basis_of parts.now) s)) }
+    ensures { IfOk result (FindsIn (basis_of parts.now) key.now (map (λ one. one.region) rows.now)) }
 {
-    for region in regions.as_slice() {
-        let of = focus_on(region)?;
-        if let Some(principal) = at_focus(alloc, parts, key, target, &of)? {
-            return Ok(Some(Spot { of, principal }));
+    for of_region in rows.as_slice() {
+        if let Some(spot) = at_region(alloc, parts, key, target, of_region)? {
+            return Ok(Some(spot));
         }
     }
     Ok(None)
+}
+
+// The entity of a region, where it dangles there. Only where it has a row of the key's table its pattern is made again.
+fn at_region(
+    alloc: Global,
+    parts: &Parts<'_>,
+    key: &ForeignKey,
+    target: Option<&Target>,
+    rows: &RegionRows,
+) -> Result<Option<Spot>, Memory>
+    requires parts { AreParts parts.now }
+    requires target { TargetHere (basis_of parts.now) key.now (option_copied target) }
+    requires rows { rows.now ≡ region_rows (basis_of parts.now) rows.now.region }
+    requires focus { IsRowFocus (basis_of parts.now) (focus.Entity rows.now.region) }
+    ensures { IfOk result (FindsRegion (basis_of parts.now) key.now rows.now.region) }
+{
+    if !writes(rows, key.from) {
+        return Ok(None);
+    }
+    let of = focus_on(&rows.region)?;
+    match at_focus(alloc, parts, key, target, &of)? {
+        Some(principal) => Ok(Some(Spot { of, principal })),
+        None => Ok(None),
+    }
 }
 
 // The links of an association, where it dangles there.

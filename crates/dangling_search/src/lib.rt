@@ -1,9 +1,10 @@
-//! The search for foreign keys that dangle: key by key, at each region and at the links of each association with a table of its own.
+//! The search for foreign keys that dangle: key by key, at the regions of the set or at the links of the association that owns its table.
 #![tactic(auto)]
 
 mod at_focus;
 mod first;
 mod fitting;
+mod region_rows;
 mod shown;
 mod target;
 

@@ -1,19 +1,19 @@
-ghost use Rattle.std.specs.Prelude.{◌≡◌, ◌<◌, ◌∷◌, [], IfOk, filter, length};
-ghost use Rattle.std.specs.List.{cons_option};
+ghost use Rattle.std.specs.Prelude.{◌≡◌, ◌<◌, IfOk, length};
+ghost use Rattle.std.specs.List.{filter_map};
 ghost use Rattle.cells.specs.Parts.{AreParts, schema_in};
 ghost use Rattle.round_trip.specs.Words.{key_columns};
-ghost use Rattle.region_partition.specs.set_regions.Regions.{AreRegions};
 ghost use Rattle.region_states.specs.region_basis.BasisOf.{basis_of};
 ghost use Rattle.dangling_keys.specs.Dangling.{OwnsTable};
-ghost use Rattle.dangling_search.specs.Found.{IsOwnedBy, OwnedHere, TargetHere, lacks_row, pairs_by};
+ghost use Rattle.dangling_search.specs.Found.{IsOwnedBy, OwnedHere, TargetHere, pairs_by};
+ghost use Rattle.dangling_search.specs.Rows.{AreRows, lacking};
 
-use crate::shown::has_row;
+use crate::region_rows::{RegionRows, writes};
 use cells::{Owner, Parts};
 use edm_types::{ForeignKey, Pair, StoreModel};
 use emc_base::{ColId, Memory, PropId, Seq, SetId, TableId, put_found};
 use regions::Region;
 use std::alloc::Global;
-use symbolic_rows::{copy_region, region_pattern};
+use symbolic_rows::copy_region;
 
 /// The set that owns a table, and the pairs of its key with the table's.
 #[derive(Drop)]
@@ -36,70 +36,44 @@ pub struct Target {
 pub fn target_of(
     alloc: Global,
     parts: &Parts<'_>,
-    regions: &Seq<Seq<Region>>,
+    rows: &Seq<Seq<RegionRows>>,
     key: &ForeignKey,
 ) -> Result<Option<Target>, Memory>
     requires parts { AreParts parts.now }
-    requires regions { AreRegions (basis_of parts.now) regions.now }
+    requires rows { AreRows (basis_of parts.now) rows.now }
     requires within { key.now.to.index < length parts.now.store.now.tables }
     ensures { IfOk result (TargetHere (basis_of parts.now) key.now) }
 {
     let Some(owned) = owned_by(alloc, parts, key.to)? else {
         return Ok(None);
     };
-    let lacking = match regions.get(owned.set.index as usize) {
-        Some(of_set) => lacking_in(alloc, parts, of_set, key.to)?,
+    let lacking = match rows.get(owned.set.index as usize) {
+        Some(of_set) => lacking_in(alloc, of_set, key.to)?,
         None => Seq::empty(alloc),
     };
     Ok(Some(Target { owned, lacking }))
 }
 
 // The regions that have no row of a table.
-fn lacking_in(
-    alloc: Global,
-    parts: &Parts<'_>,
-    regions: &Seq<Region>,
-    table: TableId,
-) -> Result<Seq<Region>, Memory>
-    requires { AreParts parts.now }
-    ensures { IfOk result (λ list. list ≡ filter (lacks_row (basis_of parts.now) table) regions.now) }
+fn lacking_in(alloc: Global, rows: &Seq<RegionRows>, table: TableId) -> Result<Seq<Region>, Memory>
+    ensures { IfOk result (λ list. list ≡ filter_map (lacking table) rows.now) }
 {
     let mut list = Seq::empty(alloc);
-    for region in regions.as_slice() {
-        put_found(&mut list, lacking(alloc, parts, region, table)?)?;
+    for of_region in rows.as_slice() {
+        put_found(&mut list, lacking(of_region, table)?)?;
     }
     Ok(list)
 }
 
 // The region, where its entities have no row of a table.
-fn lacking(
-    alloc: Global,
-    parts: &Parts<'_>,
-    region: &Region,
-    table: TableId,
-) -> Result<Option<Region>, Memory>
-    requires { AreParts parts.now }
-    ensures { IfOk result (λ found. cons_option found [] ≡ filter (lacks_row (basis_of parts.now) table) (region.now ∷ [])) }
+fn lacking(rows: &RegionRows, table: TableId) -> Result<Option<Region>, Memory>
+    ensures { IfOk result (λ found. found ≡ lacking table rows.now) }
 {
-    if lacks_row(alloc, parts, region, table)? {
-        Ok(Some(copy_region(region)?))
-    } else {
+    if writes(rows, table) {
         Ok(None)
+    } else {
+        Ok(Some(copy_region(&rows.region)?))
     }
-}
-
-// Whether the entities of a region have no row of a table.
-fn lacks_row(
-    alloc: Global,
-    parts: &Parts<'_>,
-    region: &Region,
-    table: TableId,
-) -> Result<bool, Memory>
-    requires { AreParts parts.now }
-    ensures { IfOk result (λ lacks. lacks ≡ lacks_row (basis_of parts.now) table region.now) }
-{
-    let pattern = region_pattern(alloc, parts, region)?;
-    Ok(!has_row(&pattern, table))
 }
 
 /// The set that owns a table, with the pairs of their keys; `None` where no set owns it, as where nothing writes it. `Memory` comes where memory ran out.

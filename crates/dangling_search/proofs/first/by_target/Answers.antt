@@ -6,7 +6,7 @@ use Rattle.regions.specs.declared.pattern.Focus.{Focus}
 use Rattle.regions.specs.declared.pattern.Focus.TheVariants as focus
 use Rattle.region_states.specs.region_basis.BasisOf.{basis_of}
 use Rattle.region_states.proofs.region_basis.Bases.{basis_is}
-use Rattle.dangling_search.proofs.Rows.{IsOfSet, assoc_within, of_joined, of_nothing, of_owner}
+use Rattle.dangling_search.proofs.Writers.{IsOfSet, assoc_within, of_joined, of_nothing, of_owner}
 use Rattle.dangling_search.proofs.Searching.{found_among}
 use Rattle.dangling_search.proofs.first.by_target.Goals as goal
 

@@ -5,5 +5,5 @@ use Rattle.dangling_search.proofs.Searching.{NeverAt}
 use Rattle.dangling_search.proofs.first.in_set.Given as goal
 
 -- at the regions so far the key doesn't dangle
-abbrev pub invariant-loop-region : goal.invariant-loop-region
-invariant-loop-region l = All (λ region. NeverAt (basis_of l.parts) l.key (focus.Entity region)) (take l.region-index l.region-items)
+abbrev pub invariant-loop-of_region : goal.invariant-loop-of_region
+invariant-loop-of_region l = All (λ rows. NeverAt (basis_of l.parts) l.key (focus.Entity rows.region)) (take l.of_region-index l.of_region-items)

@@ -10,7 +10,7 @@ use Rattle.regions.specs.declared.pattern.Focus.{Focus}
 use Rattle.region_states.specs.region_basis.BasisOf.{basis_of}
 use Rattle.dangling_search.specs.Searched.{FindsKey}
 use Rattle.dangling_search.proofs.Searching.{NeverAt, so_of_one_more}
-use Rattle.dangling_search.proofs.first.search.Goals as goal
+use Rattle.dangling_search.proofs.first.by_keys.Goals as goal
 
 pub by_key-requires-clause-within : goal.by_key-requires-clause-within
 by_key-requires-clause-within c =
