@@ -1,0 +1,4 @@
+pub mod Primary
+pub mod Replaced
+pub mod Stepping
+pub mod Leads
