@@ -1,1 +1,3 @@
 pub mod leading
+pub mod ordering
+pub mod joining

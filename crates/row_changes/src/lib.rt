@@ -5,4 +5,7 @@ mod change;
 mod laws;
 
 pub use change::RowChange;
-pub use laws::row_changes_lead_to_the_new_tables;
+pub use laws::{
+    a_cycle_has_no_order, orders_keep_all_keys, row_changes_lead_to_the_new_tables,
+    touched_rows_are_enough,
+};

@@ -24,13 +24,13 @@ before_so R (z ∷ xs) y ys pairs x has = ⊎_elim
     (contains_cons_cases z xs x has)
 
 -- rows are one or not, and one of a list has a key or none
-same_or_not : (one other : Row) → (one ≡ other) ⊎ (one ≢ other)
+pub same_or_not : (one other : Row) → (one ≡ other) ⊎ (one ≢ other)
 same_or_not one other = ⊎_elim
     (λ (same : one.cells ≡ other.cells). inl (λ k. record { cells = same k }))
     (λ (differ : one.cells ≢ other.cells). inr (λ same. differ (ap (λ (row : Row). row.cells) same)))
     (either (same_key one.cells other.cells) (Decides-key one.cells other.cells))
 
-row_or_none : (store : StoreModel) (t : TableId) (key : List Value) (rows : List Row) → ((row : Row) × (Contains rows row × (key_in store t row ≡ key))) ⊎ ((row : Row) → ¬ (Contains rows row × (key_in store t row ≡ key)))
+pub row_or_none : (store : StoreModel) (t : TableId) (key : List Value) (rows : List Row) → ((row : Row) × (Contains rows row × (key_in store t row ≡ key))) ⊎ ((row : Row) → ¬ (Contains rows row × (key_in store t row ≡ key)))
 row_or_none store t key [] = inr (λ row has. contains_nil row has.0)
 row_or_none store t key (first ∷ rows) = ⊎_elim
     (λ (same : key_in store t first ≡ key). inl (first, (contains_head first rows, same)))

@@ -5,11 +5,13 @@ use Rattle.std.proofs.lemmas.List.{get_or-set_other, get_or-set_same}
 use Rattle.std.proofs.lemmas.Option.{unwrap_or-slice_get}
 use Rattle.emc_base.proofs.Members.{contains_cons_cases, contains_head, contains_nil, contains_tail}
 use Rattle.round_trip.specs.Words.{Row, StoreModel, TableId, Tables, Value, rows_in}
+use Rattle.schema_laws.specs.state_demand.Selecting.{same_key}
+use Rattle.schema_laws.proofs.state_demand.writings.Selecting.{Decides-key}
 use Rattle.row_changes.specs.declared.change.RowChange.{RowChange}
 use Rattle.row_changes.specs.declared.change.RowChange.TheVariants.{Insert, Update, Delete}
 use Rattle.row_changes.specs.Changes.{FindsItsRow, HasNoRow, HasRow, after_one, key_in, key_of_change, rows_after, table_of}
 use Rattle.row_changes.specs.Differences.{AreBothLegal, IsChange}
-use Rattle.row_changes.proofs.leading.Primary.{AreApartBy, legal_apart, one_row, row_within}
+use Rattle.row_changes.proofs.leading.Primary.{AreApartBy, either, legal_apart, one_row, row_within}
 use Rattle.row_changes.proofs.leading.Replaced.{AreReplaced, Brings, rows_replaced}
 
 module _ (store : StoreModel) where
@@ -39,6 +41,29 @@ module _ (store : StoreModel) where
   clash tables t u same_table key other same_keys none row has =
       let P : TableId × List Value → Type 0 = λ at. HasRow store tables at.0 at.1 row in
       none row (subst P (λ k. (sym same_table k, sym same_keys k)) has)
+
+  -- whether one of them is at a row is decided
+  pub changed_or_not : (t : TableId) (key : List Value) (done : List RowChange) → IsChanged done t key ⊎ ¬ IsChanged done t key
+  changed_or_not t key [] = inr (λ changed. contains_nil changed.0 changed.1)
+  changed_or_not t key (change ∷ done) = ⊎_elim
+      (λ (here : IsAt change t key). inl (change, contains_head change done, here))
+      (λ (not_here : ¬ IsAt change t key). ⊎_elim
+      (λ (changed : IsChanged done t key). inl (changed.0, contains_tail change done changed.0 changed.1, changed.2))
+      (λ (unchanged : ¬ IsChanged done t key). inr (λ changed. ⊎_elim
+      (λ (is : changed.0 ≡ change). not_here (subst (λ (c : RowChange). IsAt c t key) is changed.2))
+      (λ (later : Contains done changed.0). unchanged (changed.0, later, changed.2))
+      (contains_cons_cases change done changed.0 changed.1)))
+      (changed_or_not t key done))
+      (at_or_not change t key)
+    where
+      at_or_not : (change : RowChange) (t : TableId) (key : List Value) → IsAt change t key ⊎ ¬ IsAt change t key
+      at_or_not change t key = ⊎_elim
+          (λ (same : (table_of change).index ≡ t.index). ⊎_elim
+          (λ (keys : key_of_change store change ≡ key). inl (λ k. record { index = same k }, keys))
+          (λ (other : key_of_change store change ≢ key). inr (λ at. other at.1))
+          (either (same_key (key_of_change store change) key) (Decides-key (key_of_change store change) key)))
+          (λ (other : (table_of change).index ≢ t.index). inr (λ at. other (ap (λ (u : TableId). u.index) at.0)))
+          (cases_eq (table_of change).index t.index)
 
 module _ (store : StoreModel) (old new : Tables) (both : AreBothLegal store old new) where
   pub old_apart : (t : TableId) → AreApartBy store old t
@@ -166,9 +191,12 @@ module _ (store : StoreModel) (old new : Tables) (both : AreBothLegal store old 
         → (Contains (rows_in old t) row × (¬ IsChanged store more t (key_in store t row))) ⊎ (Contains (rows_in new t) row × IsChanged store more t (key_in store t row))
     stands_here row has = ⊎_elim
         (λ (stays : Contains rows row × (key_in store t row ≢ key)). ⊎_elim
-        (λ (is_old : Contains (rows_in old t) row × (¬ IsChanged store done t (key_in store t row))). inl (is_old.0, λ changed. ⊎_elim
-        (λ (at : IsAt store change t (key_in store t row)). stays.1 (sym at.1))
-        is_old.1 (changed_cases t (key_in store t row) changed)))
+        (λ (is_old : Contains (rows_in old t) row × (¬ IsChanged store done t (key_in store t row))). inl (
+          is_old.0,
+          λ changed. ⊎_elim
+              (λ (at : IsAt store change t (key_in store t row)). stays.1 (sym at.1))
+              is_old.1 (changed_cases t (key_in store t row) changed),
+        ))
         (λ (is_new : Contains (rows_in new t) row × IsChanged store done t (key_in store t row)). inr (is_new.0, later t (key_in store t row) is_new.1))
         (between.stands t row stays.0))
         (λ (brought : Brings change row). let found = brought_new change is row brought in inr (found.0, (change, contains_head change done, (refl, sym found.1))))

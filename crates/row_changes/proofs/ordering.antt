@@ -1,0 +1,4 @@
+pub mod Targets
+pub mod Breaking
+pub mod Keeping
+pub mod Ordered
