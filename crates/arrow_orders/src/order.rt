@@ -23,11 +23,7 @@ pub fn order_of(alloc: Global, ends: &[Seq<usize>]) -> Result<Order, Memory>
     let mut walk = Walk::new(alloc, ends)?;
     for place in 0..ends.len() {
         if let Some(position) = walk.visit(ends, place)? {
-            return Ok(Order::Ring(rest_of(
-                alloc,
-                walk.path.as_slice(),
-                position,
-            )?));
+            return Ok(Order::Ring(rest_of(alloc, walk.path.as_slice(), position)?));
         }
     }
     Ok(Order::Line(walk.line))
