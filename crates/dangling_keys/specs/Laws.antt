@@ -1,7 +1,7 @@
 -- What the laws on foreign keys that dangle rest on, and what they say.
 -- Source: this project's; the round-trip criterion of Melnik, Adya and Bernstein, SIGMOD 2007.
 use Rattle.std.specs.Prelude.{◌≡◌, ◌≤◌, ℕ, Contains, List, Option, None, Some}
-use Rattle.round_trip.specs.Words.{Assoc, AssocId, At, EntitySet, ForeignKey, IsIndependent, Pair, Place, PropId, SetId}
+use Rattle.round_trip.specs.Words.{Assoc, AssocId, At, ColId, EntitySet, ForeignKey, IsIndependent, Pair, Place, PropId, SetId}
 use Rattle.round_trip.specs.declared.FailKind.{FailKind}
 use Rattle.round_trip.specs.declared.FailKind.TheVariants as kind
 use Rattle.cells.specs.Limits.{IsWithinLimits}
@@ -23,6 +23,8 @@ use Rattle.dangling_keys.specs.DanglingStates.{IsRowPlace, dangling_state}
 use Rattle.dangling_keys.specs.Failing.{FailsAtKey}
 use Rattle.dangling_keys.specs.FlowStates.{AreOpen, flow_state, values_of_focus}
 use Rattle.dangling_keys.specs.LeftOut.{LeavesUnforcedOut, SetsApart}
+use Rattle.dangling_keys.specs.Outer.{IsPartOrOuter, outer_row}
+use Rattle.dangling_keys.specs.Showing.{cell_at, not_null_for}
 use Rattle.dangling_keys.specs.declared.key.DanglingKey.{DanglingKey}
 
 -- a sound mapping within the limits
@@ -96,3 +98,11 @@ pub record HoldsEntity (basis : Basis) (outer : ℕ) (region : Region) (not_null
 -- it holds the plain link
 abbrev pub HoldsLinkOf : Basis → ℕ → AssocId → Assoc → List PropId → Type 0
 HoldsLinkOf basis outer a assoc not_null = HoldsLink basis.schema.model outer a assoc (flow_state basis outer (focus.Link a) not_null)
+
+-- in the row of numbers that is chosen for a foreign key the focus shows by it parts of keys, and else values which that row doesn't have, so that nobody in the state has one of them in a key;
+-- and of the properties that are to be none it is open whether they are null
+pub record ShowsApart (basis : Basis) (of : Focus) (key : ForeignKey) : Type 0 where
+  pub row : IsRow (outer_row basis of key)
+  pub open_ : (region : Region) → of ≡ focus.Entity region → AreOpen basis region (not_null_for basis of key)
+  pub cells : (col : ColId) → Contains key.from_cols col
+      → IsPartOrOuter basis (outer_row basis of key) of (values_of_focus basis (outer_row basis of key) of (not_null_for basis of key)) (cell_at basis of key.from col)

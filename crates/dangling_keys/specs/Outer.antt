@@ -1,6 +1,6 @@
 -- Values that the row of numbers of a state doesn't have, and the row that is chosen for a foreign key at a focus.
 -- Source: this project's choice of the states that it shows.
-use Rattle.std.specs.Prelude.{◌≢◌, ◌==◌, ◌+◌, ◌%◌, ◌<◌, ℕ, pos, List, [], ◌∷◌, map, slice_get, chars, Bool, if◌then◌else◌}
+use Rattle.std.specs.Prelude.{◌≢◌, ◌⊎◌, ◌==◌, ◌+◌, ◌%◌, ◌<◌, ℕ, pos, List, [], ◌∷◌, map, slice_get, chars, Bool, if◌then◌else◌}
 use Rattle.std.specs.List.{list_any}
 use Rattle.std.specs.Option.{option_map_or}
 use Rattle.emc_base.specs.declared.value.Value.TheVariants as value
@@ -8,10 +8,12 @@ use Rattle.round_trip.specs.Words.{Value, Null, Kind, ForeignKey}
 use Rattle.round_trip.specs.soundness.mappings.Joined.{prop}
 use Rattle.schema_laws.specs.short_values.Fresh.{fresh, most_indices}
 use Rattle.regions.specs.Basis.{Basis}
+use Rattle.regions.specs.Patterns.{Valuation, value_under}
 use Rattle.regions.specs.Settled.{Settled, free, known}
 use Rattle.regions.specs.declared.pattern.Focus.{Focus}
 use Rattle.regions.specs.declared.pattern.Symbol.TheVariants as symbol
 use Rattle.region_states.specs.defaults.Candidates.{first_free}
+use Rattle.dangling_keys.specs.Flow.{IsFlow}
 use Rattle.dangling_keys.specs.Showing.{cell_at}
 
 -- the value is none of the row of numbers
@@ -53,3 +55,8 @@ module _ (basis : Basis) where
 
   abbrev pub outer_row : Focus → ForeignKey → ℕ
   outer_row of key = row_beside (outer_values of key)
+
+  -- what a cell holds is a part of a key, or no value of the row of numbers
+  abbrev pub IsPartOrOuter : ℕ → Focus → Valuation → Settled → Type 0
+  IsPartOrOuter outer of values (known value) = IsOuter outer value
+  IsPartOrOuter outer of values (free one nullable) = ((i : ℕ) × IsFlow basis of one i) ⊎ IsOuter outer (value_under values one)

@@ -1,5 +1,7 @@
 -- Lists of what stands beside something, and of pairs.
-use Rattle.std.proofs.Common.{arith, ◌≡◌, ℕ, ◌+◌, List, [], ◌∷◌, ◌++◌, length, filter, take, Bool, None, refl, sym, ap, ◌∙◌}
+use Rattle.std.specs.Prelude.{◌&&◌, ◌||◌, if◌then◌else◌}
+use Rattle.std.specs.List.{cons_option, filter_map, list_all}
+use Rattle.std.proofs.Common.{arith, ◌≡◌, ℕ, ◌+◌, List, [], ◌∷◌, ◌++◌, length, filter, take, Bool, true, false, not, None, Some, refl, sym, ap, ◌∙◌}
 use Rattle.std.proofs.lemmas.List.Elements.{filter-append}
 use Rattle.emc_base.specs.Lists.{At}
 use Rattle.emc_base.proofs.Loops.{take_item}
@@ -36,3 +38,13 @@ pairs_are (pair ∷ pairs) = ap (λ rest. pair ∷ rest) (pairs_are pairs)
 -- one item more of those that pass
 pub passes_more : {X : Type 0} (p : X → Bool) (xs : List X) (i : ℕ) (x : X) → At xs i x → filter p (take i xs) ++ filter p (x ∷ []) ≡ filter p (take (i + 1) xs)
 passes_more p xs i x at = sym (filter-append p (take i xs) (x ∷ [])) ∙ ap (filter p) (sym (take_item xs i x at))
+
+-- what is so of the types of those that pass is so of each that passes
+of_passing : {Y : Type 0} (b : Bool) (y : Y) (g : Y → Bool) (rest : List Y) (others : Bool) → list_all g rest ≡ others → list_all g (cons_option (if b then Some y else None) rest) ≡ ((not b || g y) && others)
+of_passing true y g rest others is = ap (λ more. g y && more) is
+of_passing false y g rest others is = is
+
+pub all_passing : {X Y : Type 0} (f : X → Bool) (ty : X → Y) (g : Y → Bool) (xs : List X)
+    → list_all g (filter_map (λ x. if f x then Some (ty x) else None) xs) ≡ list_all (λ x. not (f x) || g (ty x)) xs
+all_passing f ty g [] = refl
+all_passing f ty g (x ∷ xs) = of_passing (f x) (ty x) g (filter_map (λ one. if f one then Some (ty one) else None) xs) (list_all (λ one. not (f one) || g (ty one)) xs) (all_passing f ty g xs)

@@ -1,8 +1,8 @@
 -- What the search for dangling keys finds: to what a key points, and whether it dangles at a focus.
 -- Source: this project's; SSDL version 3, Association and ReferentialConstraint.
-use Rattle.std.specs.Prelude.{◌≡◌, ◌||◌, List, [], ◌∷◌, filter, Bool, not, Option, None, Some}
+use Rattle.std.specs.Prelude.{◌≡◌, ◌||◌, List, [], ◌∷◌, filter, Bool, not, Option, None, Some, if◌then◌else◌}
 use Rattle.std.specs.List.{list_all}
-use Rattle.round_trip.specs.Words.{ColId, ForeignKey, Pair, PropId, Schema, SetId, TableId}
+use Rattle.round_trip.specs.Words.{ColId, ForeignKey, Pair, PropId, Schema, SetId, TableId, TypeId}
 use Rattle.round_trip.specs.soundness.mappings.Owners.{IsOwner, set}
 use Rattle.regions.specs.Basis.{Basis}
 use Rattle.regions.specs.Patterns.{pattern_of}
@@ -52,6 +52,14 @@ DanglesHere basis of key (Some principal) = DanglesAt basis of key principal
 abbrev pub OwnFits : Basis → Focus → ForeignKey → Owned → Option Region → Type 0
 OwnFits basis of key owned None = (own : Forced) → IsOwn basis of own → ¬ Fits basis of key owned.set owned.pairing own
 OwnFits basis of key owned (Some region) = (of ≡ focus.Entity region) × Fits basis of key owned.set owned.pairing (own_member basis region)
+
+-- the type of one that has the key that is shown
+abbrev pub fitting_type : Basis → Focus → ForeignKey → Owned → Forced → Option TypeId
+fitting_type basis of key owned one = if fits basis of key owned.set owned.pairing one then Some one.ty else None
+
+-- whether the region's type is under all of these
+abbrev pub is_below : Basis → List TypeId → Region → Bool
+is_below basis types region = list_all (basis.is_a region.ty) types
 
 -- whether the region's type is under the types of all of these that have the key that is shown
 abbrev pub is_below_all : Basis → Focus → ForeignKey → Owned → List Forced → Region → Bool

@@ -1,5 +1,5 @@
 ghost use Rattle.std.specs.Prelude.{◌≡◌, ◌↔◌, IfOk, IsTrue, Some, find};
-ghost use Rattle.std.specs.List.{list_any};
+ghost use Rattle.std.specs.List.{filter_map, list_any};
 ghost use Rattle.std.specs.Option.{option_copied};
 ghost use Rattle.cells.specs.Parts.{AreParts};
 ghost use Rattle.round_trip.specs.soundness.models.Models.{IsSoundModel};
@@ -7,7 +7,7 @@ ghost use Rattle.round_trip.specs.Words.{IsA};
 ghost use Rattle.region_states.specs.region_basis.BasisOf.{basis_of};
 ghost use Rattle.dangling_keys.specs.Dangling.{IsRowFocus};
 ghost use Rattle.dangling_keys.specs.Showing.{MayRefer, fits};
-ghost use Rattle.dangling_search.specs.Found.{DanglesHere, OwnFits, TargetHere, is_below_all};
+ghost use Rattle.dangling_search.specs.Found.{DanglesHere, OwnFits, TargetHere, fitting_type, is_below, is_below_all};
 ghost use Rattle.dangling_search.specs.Lent.{IsLook};
 
 use crate::fitting::{fits, own_member};
@@ -15,7 +15,7 @@ use crate::shown::{Look, has_row, may_refer, not_null_for};
 use crate::target::{Owned, Target};
 use cells::Parts;
 use edm_types::{EntityModel, ForeignKey, is_of};
-use emc_base::{Memory, TypeId};
+use emc_base::{Memory, Seq, TypeId, put_found};
 use forced_entities::{Forced, forced};
 use regions::{Focus, Region};
 use std::alloc::Global;
@@ -75,7 +75,7 @@ fn with_target(
     if !some_fits(parts, look, key, &target.owned, list.as_slice()) {
         return Ok(Some(None));
     }
-    match lacking_in(parts, look, key, target, list.as_slice()) {
+    match lacking_in(alloc, parts, look, key, target, list.as_slice())? {
         Some(region) => Ok(Some(Some(copy_region(region)?))),
         None => Ok(None),
     }
@@ -119,40 +119,72 @@ fn some_fits(
 
 // A region without a row, under the types of all of these that have the key that is shown.
 fn lacking_in<'a>(
+    alloc: Global,
     parts: &Parts<'_>,
     look: Look<'_>,
     key: &ForeignKey,
     target: &'a Target,
     list: &[Forced],
-) -> Option<&'a Region>
+) -> Result<Option<&'a Region>, Memory>
     requires parts { AreParts parts.now }
     requires look { IsLook (basis_of parts.now) look }
-    ensures { option_copied result ≡ find (is_below_all (basis_of parts.now) look.entry.of.now key.now target.now.owned list.now) target.now.lacking }
+    ensures { IfOk result (λ found. option_copied found ≡ find (is_below_all (basis_of parts.now) look.entry.of.now key.now target.now.owned list.now) target.now.lacking) }
 {
-    target.lacking.as_slice().iter().find(|region| is_below_all(
-        parts,
-        look,
-        key,
-        &target.owned,
-        list,
-        region,
-    ))
+    let types = fitting_types(alloc, parts, look, key, &target.owned, list)?;
+    Ok(first_below(parts, target.lacking.as_slice(), types.as_slice()))
 }
 
-// Whether the region is so.
-fn is_below_all(
+// The types of all of these that have the key that is shown.
+fn fitting_types(
+    alloc: Global,
     parts: &Parts<'_>,
     look: Look<'_>,
     key: &ForeignKey,
     owned: &Owned,
     list: &[Forced],
-    region: &Region,
-) -> bool
-    requires parts { AreParts parts.now }
-    requires look { IsLook (basis_of parts.now) look }
-    ensures { result ≡ is_below_all (basis_of parts.now) look.entry.of.now key.now owned.now list.now region.now }
+) -> Result<Seq<TypeId>, Memory>
+    requires { IsLook (basis_of parts.now) look }
+    ensures { IfOk result (λ types. types ≡ filter_map (fitting_type (basis_of parts.now) look.entry.of.now key.now owned.now) list.now) }
 {
-    list.iter().all(|one| !fits(parts, look, key, owned, one) || is_under(parts, region.ty, one.ty))
+    let mut types = Seq::empty(alloc);
+    for one in list {
+        put_found(&mut types, fitting_type(parts, look, key, owned, one))?;
+    }
+    Ok(types)
+}
+
+// Its type, where it has the key.
+fn fitting_type(
+    parts: &Parts<'_>,
+    look: Look<'_>,
+    key: &ForeignKey,
+    owned: &Owned,
+    one: &Forced,
+) -> Option<TypeId>
+    requires { IsLook (basis_of parts.now) look }
+    ensures { result ≡ fitting_type (basis_of parts.now) look.entry.of.now key.now owned.now one.now }
+{
+    if fits(parts, look, key, owned, one) {
+        Some(one.ty)
+    } else {
+        None
+    }
+}
+
+// The first of some regions whose type is under all of these.
+fn first_below<'a>(parts: &Parts<'_>, regions: &'a [Region], types: &[TypeId]) -> Option<&'a Region>
+    requires { AreParts parts.now }
+    ensures { option_copied result ≡ find (is_below (basis_of parts.now) types.now) regions.now }
+{
+    regions.iter().find(|region| is_below(parts, types, region))
+}
+
+// Whether the region's type is so.
+fn is_below(parts: &Parts<'_>, types: &[TypeId], region: &Region) -> bool
+    requires { AreParts parts.now }
+    ensures { result ≡ is_below (basis_of parts.now) types.now region.now }
+{
+    types.iter().all(|t| is_under(parts, region.ty, *t))
 }
 
 // Whether a type is another or derived from it.

@@ -62,6 +62,9 @@ fn search(
     ensures told { IfOk result (λ found. (told : DanglingKey) → found ≡ Some told → IsDangling (basis_of parts.now) told) }
     ensures free { IfOk result (λ found. found ≡ None → (told : DanglingKey) → ¬ IsDangling (basis_of parts.now) told) }
 {
+    if parts.store.keys.is_empty() {
+        return Ok(None);
+    }
     let rows = rows_of_sets(alloc, parts, regions)?;
     let found = by_keys(alloc, parts, &rows);
     drop(rows);

@@ -11,7 +11,6 @@ use Rattle.schema_laws.proofs.sound_demand.Fitting.{sound_link}
 use Rattle.cells.specs.Limits.{IsWithinLimits}
 use Rattle.regions.specs.Basis.{Basis}
 use Rattle.regions.specs.Patterns.{Valuation, by_link, value_under}
-use Rattle.regions.specs.Settled.{Settled, free, known}
 use Rattle.regions.specs.declared.pattern.Focus.{Focus}
 use Rattle.regions.specs.declared.pattern.Focus.TheVariants as focus
 use Rattle.regions.specs.declared.pattern.Symbol.{Symbol}
@@ -39,14 +38,13 @@ use Rattle.dangling_keys.specs.DanglingStates.{lone_state}
 use Rattle.dangling_keys.specs.Failing.{FailsAtKey}
 use Rattle.dangling_keys.specs.Flow.{IsFlow}
 use Rattle.dangling_keys.specs.FlowStates.{flow_state}
-use Rattle.dangling_keys.specs.Outer.{IsOuter, outer_row, outer_value}
+use Rattle.dangling_keys.specs.Outer.{IsPartOrOuter, outer_row}
 use Rattle.dangling_keys.specs.Showing.{MayRefer, cell_at, not_null_for}
-use Rattle.dangling_keys.proofs.referring.EntityParts.{cell_outer, outer_small, shown_parts}
-use Rattle.dangling_keys.proofs.referring.Fitting.{IsPartOrOuter, fitting_one}
+use Rattle.dangling_keys.proofs.referring.EntityParts.{link_part, outer_small, shown_parts}
+use Rattle.dangling_keys.proofs.referring.Fitting.{fitting_one}
 use Rattle.dangling_keys.proofs.referring.Joined.{joined_given}
 use Rattle.dangling_keys.proofs.left_out.LeftOut.{link_held}
 use Rattle.dangling_keys.proofs.left_out.LinkRead.{link_state_is, link_value, own_read}
-use Rattle.dangling_keys.proofs.referring.Listing.{link_symbol}
 use Rattle.dangling_keys.proofs.referring.OwnTable.{never_itself}
 use Rattle.dangling_keys.proofs.referring.Shown.{FailsShown, link_place, link_shown}
 use Rattle.dangling_keys.proofs.referring.Target.{IsShown, shown_fails, target_key, target_of, target_owned, target_shows}
@@ -135,11 +133,7 @@ module _ (basis : Basis) (is : IsBasis basis) (limits : IsWithinLimits basis.sch
   valued = link_value basis is outer has fragment.assoc assoc joined.is_assoc not_null
 
   pub cell_part : (col : ColId) → Contains key.from_cols col → IsPartOrOuter basis outer The values (cell_at basis The key.from col)
-  cell_part col among = by (cell_at basis The key.from col) refl (cell_outer basis is key is_key The col among)
-    where
-      by : (cell : Settled) → cell_at basis The key.from col ≡ cell → IsOuter outer (outer_value basis (cell_at basis The key.from col)) → IsPartOrOuter basis outer The values cell
-      by (known value) is_it outside = subst (IsOuter outer) (ap (outer_value basis) is_it) outside
-      by (free one nullable) is_it outside = inl (link_symbol basis is fragment.assoc key is_key may.row col among one nullable is_it)
+  cell_part = link_part basis is fragment.assoc key is_key may values
 
   -- a link of this association is the link
   only_link : (one : Link) → Contains (links_in shown_state fragment.assoc) one → link ≡ one

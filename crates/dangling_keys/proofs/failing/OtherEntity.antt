@@ -62,12 +62,12 @@ use Rattle.dangling_keys.specs.FlowStates.{AreOpen}
 use Rattle.dangling_keys.specs.LeftOut.{IsMember, IsNumberKey, IsRead}
 use Rattle.dangling_keys.specs.OtherStates.{keeps, other_given, other_key, other_links, other_state, other_wanted, own_links}
 use Rattle.dangling_keys.specs.Showing.{Fits, MayRefer, shown_at}
+use Rattle.dangling_keys.specs.Outer.{IsPartOrOuter}
 use Rattle.dangling_keys.proofs.failing.Actor.{HasFlagLinks, HasOwnLinks, actor_holds, actor_rooted, link_by}
 use Rattle.dangling_keys.proofs.failing.ShownValues.{own_root, partner_roots, shown_is}
 use Rattle.dangling_keys.proofs.referring.EntityParts as parts
 use Rattle.dangling_keys.proofs.left_out.EntityRead as reading
 use Rattle.dangling_keys.proofs.referring.ShownEntity as at_key
-use Rattle.dangling_keys.proofs.referring.Fitting.{IsPartOrOuter}
 use Rattle.dangling_keys.proofs.left_out.FlowValues.{flow_admissible}
 use Rattle.dangling_keys.proofs.referring.KeyNumbers.{same_side}
 use Rattle.dangling_keys.proofs.left_out.LeftOut as left

@@ -65,8 +65,8 @@ use Rattle.dangling_keys.specs.LeftOut.{IsMember, IsNumberKey, IsRead}
 use Rattle.dangling_keys.specs.FlowStates.{values_of_focus}
 use Rattle.dangling_keys.specs.OtherStates.{other_given, other_key, other_links, other_state, other_wanted}
 use Rattle.dangling_keys.specs.Showing.{Fits, MayRefer, shown_at}
+use Rattle.dangling_keys.specs.Outer.{IsPartOrOuter}
 use Rattle.dangling_keys.proofs.referring.EntityParts.{shown_parts}
-use Rattle.dangling_keys.proofs.referring.Fitting.{IsPartOrOuter}
 use Rattle.dangling_keys.proofs.referring.Joined.{hosts_none}
 use Rattle.dangling_keys.proofs.failing.LinkFails as first
 use Rattle.dangling_keys.proofs.left_out.LinkRead as reading

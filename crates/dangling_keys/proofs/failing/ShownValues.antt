@@ -25,9 +25,8 @@ use Rattle.host_states.specs.FocusStates.{by_assoc, linked_hosts, told_key}
 use Rattle.host_states.proofs.focus.HostEnds.{IsLinkedHost, is_linked_host, partner_side, to_assoc}
 use Rattle.dangling_keys.specs.DanglingStates.{held_value, partner_root, principal_roots, principal_values}
 use Rattle.dangling_keys.specs.Flow.{IsFlow}
-use Rattle.dangling_keys.specs.Outer.{IsOuter}
+use Rattle.dangling_keys.specs.Outer.{IsOuter, IsPartOrOuter}
 use Rattle.dangling_keys.specs.Showing.{shown_at}
-use Rattle.dangling_keys.proofs.referring.Fitting.{IsPartOrOuter}
 use Rattle.dangling_keys.proofs.referring.NoRow.{HasShownKey}
 
 -- the first pair of a property tells its value

@@ -1,9 +1,9 @@
 -- A state that leaves out what isn't forced sets its values apart: all parts of keys are of its row of numbers, and a symbol for a part has another number than what is unknown.
-use Rattle.std.proofs.Common.{◌≡◌, ◌≢◌, ◌⊎◌, ℕ, ◌≤◌, List, Contains, Option, Some, None, refl, sym, subst, ◌∙◌, arith}
+use Rattle.std.proofs.Common.{◌≡◌, ◌≢◌, ℕ, ◌≤◌, List, Contains, Option, Some, None, refl, sym, subst, ◌∙◌, arith}
 use Rattle.std.specs.Option.{option_map_or}
 use Rattle.std.specs.Prelude.{slice_get, []}
 use Rattle.emc_base.proofs.Members.{contains_nil}
-use Rattle.round_trip.specs.Words.{Assoc, AssocId, At, Entity, EntityModel, EntitySet, IsIndependent, IsLegal, Kind, Null, PropId, SetId, State, Value, entities_in, key_of, key_props, value_of}
+use Rattle.round_trip.specs.Words.{Assoc, AssocId, At, EntityModel, EntitySet, IsIndependent, Kind, Null, PropId, SetId, State, key_props}
 use Rattle.round_trip.specs.soundness.Lookups.{set_key}
 use Rattle.round_trip.specs.soundness.models.Inheritance.{IsKeyProp}
 use Rattle.schema_laws.specs.short_values.Fresh.{added_value, fresh, fresh_at}
@@ -23,7 +23,7 @@ use Rattle.population.specs.Given.{HasNumbers}
 use Rattle.host_states.proofs.focus.Focus.{HasRegion}
 use Rattle.dangling_keys.specs.Flow.{IsFlow}
 use Rattle.dangling_keys.specs.FlowStates.{AreOpen, flow_state, flow_values, values_of_focus}
-use Rattle.dangling_keys.specs.LeftOut.{IsMember, IsNumberKey, IsRead, LeavesUnforcedOut, SetsApart}
+use Rattle.dangling_keys.specs.LeftOut.{LeavesUnforcedOut, SetsApart}
 use Rattle.dangling_keys.specs.Laws.{LeavesOutAt}
 use Rattle.dangling_keys.proofs.left_out.Flow.{flow_small}
 use Rattle.dangling_keys.proofs.left_out.FlowValues.{flow_value}

@@ -5,7 +5,7 @@ use Rattle.std.proofs.lemmas.List.{length-map}
 use Rattle.emc_base.proofs.FoundItems.{contains_flat_map}
 use Rattle.emc_base.proofs.Mapped.{contains_map}
 use Rattle.emc_base.proofs.Members.{contains_head}
-use Rattle.round_trip.specs.Words.{ColId, Entity, ForeignKey, Kind, Null, Pair, Prop, PropId, SetId, Value, entities_in, key_columns, key_of, value_beside}
+use Rattle.round_trip.specs.Words.{AssocId, ColId, Entity, ForeignKey, Kind, Null, Pair, Prop, PropId, SetId, Value, entities_in, key_columns, key_of, value_beside}
 use Rattle.round_trip.specs.soundness.Lookups.{set_key}
 use Rattle.round_trip.specs.soundness.mappings.Joined.{prop}
 use Rattle.schema_laws.specs.short_values.Fresh.{fresh}
@@ -28,16 +28,17 @@ use Rattle.region_states.proofs.Entities.{has_value}
 use Rattle.forced_entities.specs.Forced.{part_in}
 use Rattle.forced_entities.specs.declared.member.Forced.{Forced}
 use Rattle.forced_entities.specs.Held.{values_at}
+use Rattle.dangling_keys.specs.Dangling.{IsRowFocus}
 use Rattle.dangling_keys.specs.Flow.{IsFlow}
-use Rattle.dangling_keys.specs.FlowStates.{AreOpen}
+use Rattle.dangling_keys.specs.FlowStates.{AreOpen, values_of_focus}
+use Rattle.dangling_keys.specs.Laws.{ShowsApart}
 use Rattle.dangling_keys.specs.LeftOut.{IsMember, IsNumberKey, IsRead, ReadsPart}
-use Rattle.dangling_keys.specs.Outer.{IsOuter, outer_row, outer_value, outer_values}
+use Rattle.dangling_keys.specs.Outer.{IsOuter, IsPartOrOuter, outer_row, outer_value, outer_values}
 use Rattle.dangling_keys.specs.Showing.{MayRefer, cell_at, not_null_for, nullable_in, shown_at}
 use Rattle.dangling_keys.proofs.left_out.EntityRead.{entity_read}
-use Rattle.dangling_keys.proofs.referring.Fitting.{IsPartOrOuter}
 use Rattle.dangling_keys.proofs.left_out.FlowValues.{flow_value, free_some, several_value}
 use Rattle.dangling_keys.proofs.left_out.LeftOut as left
-use Rattle.dangling_keys.proofs.referring.Listing.{IsPlainProp, are_open, few_cols, free_listed, key_is_sound, shown_symbol}
+use Rattle.dangling_keys.proofs.referring.Listing.{IsPlainProp, are_open, few_cols, free_listed, key_is_sound, link_symbol, shown_symbol}
 use Rattle.dangling_keys.proofs.told.Matching.{HasBeside, from_there}
 use Rattle.dangling_keys.proofs.referring.Outer.{row_free, row_outer}
 
@@ -124,9 +125,9 @@ module _ (basis : Basis) (is : IsBasis basis) (limits : IsWithinLimits basis.sch
       (entity_read basis outer s region (left.of basis is limits outer row s region listed not_null open_) not_null open_ u one stands)
 
   -- a property that is no dependent one has the value that was set apart
-  plain_value : (col : ColId) → Contains key.from_cols col → (one : Symbol) (nullable : Bool) → cell_at basis The key.from col ≡ free one nullable → (plain : IsPlainProp basis is region one)
-      → value_under values one ≡ outer_value basis (cell_at basis The key.from col)
-  plain_value col has one nullable told plain =
+  plain_usual : (col : ColId) → Contains key.from_cols col → (one : Symbol) (nullable : Bool) → cell_at basis The key.from col ≡ free one nullable → (plain : IsPlainProp basis is region one)
+      → usual.prop plain.p ≡ outer_value basis (cell_at basis The key.from col)
+  plain_usual col has one nullable told plain =
       let p : PropId = plain.p in
       let declared = declared_above basis.schema.model is.sound.model p region.ty plain.among in
       let one_told : cell_at basis The key.from col ≡ free (symbol.Prop p) nullable = told ∙ ap (λ (it : Symbol). free it nullable) plain.is_prop in
@@ -141,18 +142,52 @@ module _ (basis : Basis) (is : IsBasis basis) (limits : IsWithinLimits basis.sch
       ap (λ (found : Option Prop). option_map_or (λ (it : Prop). first_free it.kind (basis.constants (prop p))) found Null) declared.1 in
       let is_some : usual.prop p ≡ first = several_value basis outer s region region_of not_null open_ p declared.0 declared.1 plain.no_key nullable several given
       ∙ free_some basis outer s region region_of not_null open_ p declared.0 declared.1 plain.free_of in
-      ap (value_under values) plain.is_prop ∙ has_value basis region usual p plain.among ∙ is_some ∙ sym set_apart ∙ ap (outer_value basis) (sym one_told)
+      is_some ∙ sym set_apart ∙ ap (outer_value basis) (sym one_told)
 
-  cell_part : (col : ColId) → Contains key.from_cols col → IsPartOrOuter basis outer The values (cell_at basis The key.from col)
-  cell_part col has = by (cell_at basis The key.from col) refl (cell_outer basis is key is_key The col has)
+  -- so where values have it for such a property, each cell is a part of a key, or outside of the row
+  part_of : (these : Valuation) → ((one : Symbol) (plain : IsPlainProp basis is region one) → value_under these one ≡ usual.prop plain.p)
+      → (col : ColId) → Contains key.from_cols col → IsPartOrOuter basis outer The these (cell_at basis The key.from col)
+  part_of these same col has = by (cell_at basis The key.from col) refl (cell_outer basis is key is_key The col has)
     where
-      by : (cell : Settled) → cell_at basis The key.from col ≡ cell → IsOuter outer (outer_value basis (cell_at basis The key.from col)) → IsPartOrOuter basis outer The values cell
+      by : (cell : Settled) → cell_at basis The key.from col ≡ cell → IsOuter outer (outer_value basis (cell_at basis The key.from col)) → IsPartOrOuter basis outer The these cell
       by (known value) told outside = subst (IsOuter outer) (ap (outer_value basis) told) outside
       by (free one nullable) told outside = ⊎_elim
           (λ (flow : (i : ℕ) × IsFlow basis The one i). inl flow)
-          (λ (plain : IsPlainProp basis is region one). inr (subst (IsOuter outer) (sym (plain_value col has one nullable told plain)) outside))
+          (λ (plain : IsPlainProp basis is region one). inr (subst (IsOuter outer) (sym (same one plain ∙ plain_usual col has one nullable told plain)) outside))
           (shown_symbol basis is s region listed key is_key may.row col has one nullable told)
+
+  cell_part : (col : ColId) → Contains key.from_cols col → IsPartOrOuter basis outer The values (cell_at basis The key.from col)
+  cell_part = part_of values (λ one plain. ap (value_under values) plain.is_prop ∙ has_value basis region usual plain.p plain.among)
+
+  pub entity_apart : ShowsApart basis The key
+  entity_apart = record {
+    row = row;
+    open_ = λ other same. (let is_it : region ≡ other = (let both : focus.Entity region ≡ focus.Entity other = same in cc) in subst (λ (it : Region). AreOpen basis it not_null) is_it open_);
+    cells = part_of usual (λ one plain. ap (value_under usual) plain.is_prop);
+  }
 
   pub entity_parts : (pairing : List Pair) → cols_of pairing ≡ key_columns basis.schema.store key.to → (pair : Pair) → Contains pairing pair
       → IsPartOrOuter basis outer The values (shown_at basis The key pair.col)
   entity_parts = shown_parts basis is key is_key The values cell_part
+
+-- a link shows parts of keys, and constants outside of the row
+pub link_part : (basis : Basis) (is : IsBasis basis) (a : AssocId) (key : ForeignKey) → Contains basis.schema.store.keys key → MayRefer basis (focus.Link a) key → (values : Valuation) (col : ColId) → Contains key.from_cols col
+    → IsPartOrOuter basis (outer_row basis (focus.Link a) key) (focus.Link a) values (cell_at basis (focus.Link a) key.from col)
+link_part basis is a key is_key may values col has = by (cell_at basis (focus.Link a) key.from col) refl (cell_outer basis is key is_key (focus.Link a) col has)
+  where
+    by : (cell : Settled) → cell_at basis (focus.Link a) key.from col ≡ cell → IsOuter (outer_row basis (focus.Link a) key) (outer_value basis (cell_at basis (focus.Link a) key.from col))
+        → IsPartOrOuter basis (outer_row basis (focus.Link a) key) (focus.Link a) values cell
+    by (known value) told outside = subst (IsOuter (outer_row basis (focus.Link a) key)) (ap (outer_value basis) told) outside
+    by (free one nullable) told outside = inl (link_symbol basis is a key is_key may.row col has one nullable told)
+
+link_apart : (basis : Basis) (is : IsBasis basis) (a : AssocId) (key : ForeignKey) → Contains basis.schema.store.keys key → MayRefer basis (focus.Link a) key → ShowsApart basis (focus.Link a) key
+link_apart basis is a key is_key may = record {
+  row = outer_small basis is key is_key (focus.Link a);
+  open_ = λ region same. absurd (let never : focus.Link a ≡ focus.Entity region = same in cc);
+  cells = link_part basis is a key is_key may (values_of_focus basis (outer_row basis (focus.Link a) key) (focus.Link a) (not_null_for basis (focus.Link a) key));
+}
+
+pub shows_apart : (basis : Basis) (is : IsBasis basis) (limits : IsWithinLimits basis.schema) (key : ForeignKey) → Contains basis.schema.store.keys key → (of : Focus) → IsRowFocus basis of → MayRefer basis of key
+    → ShowsApart basis of key
+shows_apart basis is limits key is_key (focus.Entity region) row may = entity_apart basis is limits row.0 region row.1 key is_key may
+shows_apart basis is limits key is_key (focus.Link a) row may = link_apart basis is a key is_key may

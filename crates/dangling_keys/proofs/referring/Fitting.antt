@@ -26,16 +26,11 @@ use Rattle.forced_entities.specs.declared.member.Forced.{Forced}
 use Rattle.dangling_keys.specs.Dangling.{OwnsTable}
 use Rattle.dangling_keys.specs.Flow.{IsFlow}
 use Rattle.dangling_keys.specs.LeftOut.{IsMember, IsNumberKey, IsRead, ReadsPart}
-use Rattle.dangling_keys.specs.Outer.{IsOuter}
+use Rattle.dangling_keys.specs.Outer.{IsPartOrOuter}
 use Rattle.dangling_keys.specs.Showing.{Fits, IsShownPart, shown_at}
 use Rattle.dangling_keys.proofs.left_out.Flow.{flow_small}
 use Rattle.dangling_keys.proofs.left_out.LeftOut.{not_added, shows, the_part}
 use Rattle.dangling_keys.proofs.told.Rows.{HoldsSettled}
-
--- what a cell holds is a part of a key, or no value of the row of numbers
-abbrev pub IsPartOrOuter : Basis → ℕ → Focus → Valuation → Settled → Type 0
-IsPartOrOuter basis outer of values (known value) = IsOuter outer value
-IsPartOrOuter basis outer of values (free one nullable) = ((i : ℕ) × IsFlow basis of one i) ⊎ IsOuter outer (value_under values one)
 
 module _ (basis : Basis) (is : IsBasis basis) (limits : IsWithinLimits basis.schema) (outer : ℕ) (row : outer ≤ 4) (of : Focus) (not_null : List PropId) (values : Valuation) (state : State)
     (legal : IsLegal basis.schema.model state)

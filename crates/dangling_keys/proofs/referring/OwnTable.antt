@@ -34,7 +34,7 @@ use Rattle.conflict_laws.proofs.null.Listed.{cell_there}
 use Rattle.failure_laws.proofs.links.LinkRows.{told_link}
 use Rattle.dangling_keys.specs.Flow.{IsFlow}
 use Rattle.dangling_keys.specs.Showing.{cell_at, col_beside}
-use Rattle.dangling_keys.proofs.referring.Fitting.{IsPartOrOuter}
+use Rattle.dangling_keys.specs.Outer.{IsPartOrOuter}
 use Rattle.dangling_keys.proofs.left_out.Flow.{flow_once, flow_small}
 use Rattle.dangling_keys.proofs.referring.Listing.{end_flow, free_listed, key_is_sound}
 use Rattle.dangling_keys.proofs.told.Matching.{all_alike, as_many}

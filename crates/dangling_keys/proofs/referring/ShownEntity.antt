@@ -19,8 +19,8 @@ use Rattle.dangling_keys.specs.Dangling.{OwnsTable}
 use Rattle.dangling_keys.specs.Flow.{IsFlow}
 use Rattle.dangling_keys.specs.LeftOut.{IsMember, IsNumberKey, IsRead}
 use Rattle.dangling_keys.specs.Showing.{Fits, shown_at}
+use Rattle.dangling_keys.specs.Outer.{IsPartOrOuter}
 use Rattle.dangling_keys.proofs.referring.Fitting as fitting
-use Rattle.dangling_keys.proofs.referring.Fitting.{IsPartOrOuter}
 use Rattle.dangling_keys.proofs.referring.KeyNumbers.{key_numbered}
 use Rattle.dangling_keys.proofs.left_out.LeftOut.{fresh_there}
 use Rattle.dangling_keys.proofs.referring.NoRow.{HasShownKey, fitting_shown}

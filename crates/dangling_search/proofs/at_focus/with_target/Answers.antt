@@ -42,22 +42,22 @@ returns-then-not-some_fits c =
     (ap (list_any (fits basis c.args.look.of.now c.args.key.now c.args.target.now.owned.set c.args.target.now.owned.pairing)) (sym c.as_slice-2.ensures.items) ∙ sym c.some_fits.ensures
     ∙ c.if-not-some_fits.true)
 
-pub returns-in-Some-lacking_in : goal.returns-in-Some-lacking_in
-returns-in-Some-lacking_in c =
+pub returns-in-Some-2 : goal.returns-in-Some-2
+returns-in-Some-2 c =
     let basis = basis_of c.args.parts.now in
     let owned = c.args.target.now.owned in
     let not_own = subst (λ found. OwnFits basis c.args.look.of.now c.args.key.now c.args.target.now.owned (option_copied found)) c.in_default.is c.in_ok-region.ensures in
     let forced = subst (λ (props : List PropId). AreForced basis c.args.look.of.now props c.in_ok-list.list) (c.as_slice.ensures.items ∙ c.in_ok-not_null.ensures) c.in_ok-list.ensures in
     let test = λ (list : List Forced). is_below_all basis c.args.look.of.now c.args.key.now owned list in
-    let found = found_passes (test c.as_slice-3.result.now) c.args.target.now.lacking c.in-Some-lacking_in.region.now
-    (sym c.lacking_in.ensures ∙ ap option_copied c.in-Some-lacking_in.is) in
-    subst (λ (region : Region). DanglesAt basis c.args.look.of.now c.args.key.now (Some region)) (sym c.in_ok-copy_region-in-Some-lacking_in.ensures)
+    let found = found_passes (test c.as_slice-3.result.now) c.args.target.now.lacking c.in-Some-2.region.now
+    (sym c.in_ok-region-2.ensures ∙ ap option_copied c.in-Some-2.is) in
+    subst (λ (region : Region). DanglesAt basis c.args.look.of.now c.args.key.now (Some region)) (sym c.in_ok-copy_region-in-Some-2.ensures)
     (other_dangles basis c.args.look.of.now c.args.key.now (basis_is c.args.parts.now c.requires.parts) c.requires.of c.requires.refers owned.set owned.pairing c.requires.target.0
     not_own c.in_ok-list.list forced
     (ap (list_any (fits basis c.args.look.of.now c.args.key.now owned.set owned.pairing)) (sym c.as_slice-2.ensures.items) ∙ sym c.some_fits.ensures
     ∙ c.if-not-some_fits.false)
-    c.in-Some-lacking_in.region.now (subst (λ (list : List Region). Contains list c.in-Some-lacking_in.region.now) c.requires.target.1 found.0)
-    (ap (λ (list : List Forced). test list c.in-Some-lacking_in.region.now) (sym c.as_slice-3.ensures.items) ∙ found.1))
+    c.in-Some-2.region.now (subst (λ (list : List Region). Contains list c.in-Some-2.region.now) c.requires.target.1 found.0)
+    (ap (λ (list : List Forced). test list c.in-Some-2.region.now) (sym c.as_slice-3.ensures.items) ∙ found.1))
 
 pub returns : goal.returns
 returns c =
@@ -72,5 +72,5 @@ returns c =
     ∙ c.if-not-some_fits.false)
     (λ region has. ap (λ (list : List Forced). test list region) (sym c.as_slice-3.ensures.items)
     ∙ false_from_ne_true (test c.as_slice-3.result.now region) (λ told.
-    none_passes (test c.as_slice-3.result.now) c.args.target.now.lacking region (sym c.lacking_in.ensures ∙ ap option_copied c.in-None.is)
+    none_passes (test c.as_slice-3.result.now) c.args.target.now.lacking region (sym c.in_ok-region-2.ensures ∙ ap option_copied c.in-None.is)
     (subst (λ (list : List Region). Contains list region) (sym c.requires.target.1) has) told))
