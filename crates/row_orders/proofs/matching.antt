@@ -1,0 +1,5 @@
+pub mod Altered
+pub mod Waited
+pub mod Placed
+pub mod Lined
+pub mod Ringed
