@@ -1,7 +1,7 @@
 -- Changes of rows: at which row each is, what it needs, and what is left of the tables.
 -- Source: INSERT, UPDATE and DELETE of SQL, by primary key.
-use Rattle.std.specs.Prelude.{◌≡◌, ℕ, List, [], ◌∷◌, ◌++◌, map, filter, set, Contains, Bool, not, if◌then◌else◌}
-use Rattle.round_trip.specs.Words.{ColId, Row, StoreModel, TableId, Tables, Value, cells_of, key_columns, rows_in}
+use Rattle.std.specs.Prelude.{◌≡◌, List, [], ◌∷◌, ◌++◌, map, filter, set, Contains, not, if◌then◌else◌}
+use Rattle.round_trip.specs.Words.{Row, StoreModel, TableId, Tables, Value, cells_of, key_columns, rows_in}
 use Rattle.schema_laws.specs.state_demand.Selecting.{same_key}
 use Rattle.row_changes.specs.declared.change.RowChange.{RowChange}
 use Rattle.row_changes.specs.declared.change.RowChange.TheVariants.{Insert, Update, Delete}

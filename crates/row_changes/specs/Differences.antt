@@ -1,6 +1,6 @@
 -- The changes that lead from tables to others, each row's once.
 -- Source: this project's; SSDL version 3, EntityType and Key.
-use Rattle.std.specs.Prelude.{◌≡◌, ◌≢◌, List, All, Contains}
+use Rattle.std.specs.Prelude.{◌≢◌, List, All, Contains}
 use Rattle.emc_base.specs.Lists.{AreApart}
 use Rattle.round_trip.specs.Words.{AreLegalTables, Row, StoreModel, Tables, rows_in}
 use Rattle.round_trip.specs.soundness.Stores.{IsSoundStore}

@@ -6,6 +6,7 @@ use Rattle.round_trip.specs.Words.{At, ForeignKey, KeepsForeignKey, Refers, Row,
 use Rattle.row_changes.specs.declared.change.RowChange.{RowChange}
 use Rattle.row_changes.specs.declared.change.RowChange.TheVariants.{Insert, Delete}
 use Rattle.row_changes.specs.Changes.{HasRow, after, key_in, key_of_change, table_of}
+use Rattle.row_changes.specs.Differences.{AreDifference}
 
 module _ (store : StoreModel) where
   -- no two rows of a table have one primary key, and each row that refers by a foreign key finds a row
@@ -53,6 +54,10 @@ module _ (store : StoreModel) (old new : Tables) where
   -- no change stands behind one that it has to come before
   abbrev pub Respects : List RowChange → Type 0
   Respects changes = AllPairs (λ one later. ¬ MustPrecede later one) changes
+
+  -- no list of all changes keeps all keys after each of them
+  abbrev pub HasNoOrder : Type 0
+  HasNoOrder = (changes : List RowChange) → AreDifference store old new changes → ¬ StepLegal store changes old
 
   -- each has to come before the next, and the last before the first
   pub record IsCycle (changes : List RowChange) : Type 0 where

@@ -4,7 +4,7 @@ ghost use Rattle.row_changes.specs.declared.change.RowChange.{RowChange};
 ghost use Rattle.row_changes.specs.Changes.{FindsItsRow, after};
 ghost use Rattle.row_changes.specs.Differences.{AreBothLegal, AreDifference, IsChange};
 ghost use Rattle.row_changes.specs.Joined.{AreWithOneRest};
-ghost use Rattle.row_changes.specs.Orders.{IsCycle, MustPrecede, Respects, StepLegal};
+ghost use Rattle.row_changes.specs.Orders.{HasNoOrder, IsCycle, MustPrecede, Respects, StepLegal};
 
 /// The law that the changes from tables to others lead there, in any order: each finds what it needs at its turn (`finds`), and after all of them the tables are
 /// the new ones, up to the order of rows (`leads`).
@@ -27,8 +27,8 @@ pub fn orders_keep_all_keys()
 /// The law that a cycle has no order: where changes from tables to others have to come before one another in a ring, no list of all the changes keeps all keys
 /// after each of them.
 pub fn a_cycle_has_no_order()
-    ensures { (store : StoreModel) (old new : Tables) → AreBothLegal store old new → (ring : List RowChange) → IsCycle store old new ring → All (IsChange store old new) ring
-        → (changes : List RowChange) → AreDifference store old new changes → ¬ StepLegal store changes old }
+    ensures { (store : StoreModel) (old new : Tables) → AreBothLegal store old new → (ring : List RowChange) → IsCycle store old new ring
+        → All (IsChange store old new) ring → HasNoOrder store old new }
 {}
 
 /// The law that the rows which may differ are enough: of tables that are put together with one rest before and afterwards, the changes are those of the two parts

@@ -1,12 +1,12 @@
 -- Of tables with one rest the changes are those of the parts, and so is what has to come first.
-use Rattle.std.proofs.Common.{◌≡◌, ◌≢◌, ◌⊎◌, ◌↔◌, ⊎_elim, inl, inr, List, Contains, refl, sym, ap, subst, ◌∙◌}
+use Rattle.std.proofs.Common.{◌≡◌, ◌⊎◌, ◌↔◌, ⊎_elim, inl, inr, List, Contains, refl, sym, ap, subst, ◌∙◌}
 use Rattle.round_trip.specs.Words.{ForeignKey, Row, StoreModel, TableId, Tables, Value, rows_in}
 use Rattle.row_changes.specs.declared.change.RowChange.{RowChange}
 use Rattle.row_changes.specs.declared.change.RowChange.TheVariants.{Insert, Update, Delete}
 use Rattle.row_changes.specs.Changes.{HasNoRow, HasRow, key_in, key_of_change, table_of}
 use Rattle.row_changes.specs.Differences.{IsChange}
 use Rattle.row_changes.specs.Joined.{AreJoined, AreWithOneRest}
-use Rattle.row_changes.specs.Orders.{InsertsFor, LeavesFor, MustPrecede, RefersTo}
+use Rattle.row_changes.specs.Orders.{InsertsFor, LeavesFor, MustPrecede}
 
 module _ (store : StoreModel) (part_before part_after rest old new : Tables) (joined : AreWithOneRest store part_before part_after rest old new) where
   -- what has no row in the whole has none in the part

@@ -1,10 +1,10 @@
 -- Legal tables have one row at most at a key.
-use Rattle.std.proofs.Common.{◌≡◌, ◌≢◌, ◌⊎◌, ⊎_elim, inl, inr, ◌<◌, ◌≤◌, List, [], length, AllPairs, Contains, Bool, true, false, Decides, refl, sym, subst, ◌∙◌, arith}
+use Rattle.std.proofs.Common.{◌≡◌, ◌≢◌, ◌⊎◌, ⊎_elim, inl, inr, ◌<◌, ◌≤◌, List, length, AllPairs, Contains, Bool, true, false, Decides, refl, sym, subst, ◌∙◌, arith}
 use Rattle.std.proofs.lemmas.Bool.{cases_lt}
 use Rattle.emc_base.proofs.Lists.{item_at}
 use Rattle.emc_base.proofs.Members.{contains_nil}
 use Rattle.edm_types.proofs.Lookups.{rows_beyond}
-use Rattle.round_trip.specs.Words.{AreLegalTables, ColId, Row, StoreModel, TableId, Tables, Value, cells_of, key_columns, rows_in}
+use Rattle.round_trip.specs.Words.{AreLegalTables, ColId, Row, StoreModel, TableId, Tables, Value, cells_of, rows_in}
 use Rattle.round_trip.proofs.Lookups.{key_columns_at}
 use Rattle.schema_laws.proofs.state_demand.lists.Lists.{same_by_key}
 use Rattle.row_changes.specs.Changes.{HasRow, key_in}

@@ -1,9 +1,9 @@
 -- Where one of two changes that has to come first isn't made, and the other is, a row refers to nothing.
-use Rattle.std.proofs.Common.{◌≡◌, ◌≢◌, ◌⊎◌, ⊎_elim, inl, inr, List, All, Contains, refl, sym, ap, subst, ◌∙◌}
-use Rattle.round_trip.specs.Words.{ForeignKey, KeepsForeignKey, Row, StoreModel, TableId, Tables, Value, cells_of, rows_in}
+use Rattle.std.proofs.Common.{◌≡◌, ⊎_elim, List, All, Contains, sym, ap, subst, ◌∙◌}
+use Rattle.round_trip.specs.Words.{ForeignKey, KeepsForeignKey, StoreModel, TableId, Tables, Value, rows_in}
 use Rattle.row_changes.specs.declared.change.RowChange.{RowChange}
 use Rattle.row_changes.specs.declared.change.RowChange.TheVariants.{Insert, Delete}
-use Rattle.row_changes.specs.Changes.{HasRow, key_in, key_of_change, table_of}
+use Rattle.row_changes.specs.Changes.{key_in, key_of_change, table_of}
 use Rattle.row_changes.specs.Differences.{AreBothLegal, IsChange}
 use Rattle.row_changes.specs.Orders.{InsertsFor, LeavesFor, MustPrecede}
 use Rattle.row_changes.proofs.leading.Stepping.{AreBetween, IsAt, IsChanged, one_at}

@@ -1,14 +1,13 @@
 -- Where none of the changes that aren't made has to come before one that is, each row that refers finds a row.
-use Rattle.std.proofs.Common.{◌≡◌, ◌≢◌, ◌⊎◌, ⊎_elim, inl, inr, List, All, Contains, refl, sym, ap, subst, ◌∙◌}
-use Rattle.emc_base.proofs.Lists.{all_from_members}
-use Rattle.round_trip.specs.Words.{ForeignKey, KeepsForeignKey, Refers, Row, StoreModel, TableId, Tables, Value, cells_of, rows_in}
+use Rattle.std.proofs.Common.{◌≡◌, ◌≢◌, ⊎_elim, inl, inr, List, Contains, refl, sym, ap, subst, ◌∙◌}
+use Rattle.round_trip.specs.Words.{ForeignKey, KeepsForeignKey, Refers, Row, StoreModel, TableId, Tables, Value, rows_in}
 use Rattle.row_changes.specs.declared.change.RowChange.{RowChange}
 use Rattle.row_changes.specs.declared.change.RowChange.TheVariants.{Insert, Update, Delete}
 use Rattle.row_changes.specs.Changes.{HasNoRow, HasRow, key_in, key_of_change, table_of}
 use Rattle.row_changes.specs.Differences.{AreBothLegal, AreDifference, IsChange}
 use Rattle.row_changes.specs.Orders.{InsertsFor, LeavesFor, MustPrecede, RefersTo}
 use Rattle.row_changes.proofs.leading.Leads.{row_or_none, same_or_not}
-use Rattle.row_changes.proofs.leading.Stepping.{AreBetween, IsAt, IsChanged, changed_or_not}
+use Rattle.row_changes.proofs.leading.Stepping.{AreBetween, IsChanged, changed_or_not}
 use Rattle.row_changes.proofs.ordering.Targets.{finds_target, keeps_key, one_key, one_target}
 
 module _ (store : StoreModel) (old new : Tables) (both : AreBothLegal store old new) (changes : List RowChange) (difference : AreDifference store old new changes)

@@ -1,5 +1,5 @@
 -- A list of the changes keeps all keys after each of them exactly where it respects what has to come before what; so a ring has no order.
-use Rattle.std.proofs.Common.{◌≡◌, ◌≢◌, ◌⊎◌, ◌↔◌, ⊎_elim, inl, inr, ℕ, zero, suc, ◌+◌, ◌<◌, ◌≤◌, List, [], ◌∷◌, ◌++◌, get_or, length, All, AllPairs, Contains, Some, refl, sym, ap, subst, ◌∙◌, arith}
+use Rattle.std.proofs.Common.{◌≡◌, ◌≢◌, ◌↔◌, ⊎_elim, ℕ, zero, suc, ◌+◌, ◌<◌, ◌≤◌, List, [], ◌∷◌, ◌++◌, get_or, length, All, AllPairs, Contains, Some, refl, sym, ap, subst, ◌∙◌, arith}
 use Rattle.std.proofs.lemmas.Bool.{cases_eq, cases_lt}
 use Rattle.std.proofs.lemmas.List.Elements.{All-contains, Contains-append_cases, Contains-append_left, Contains-append_right}
 use Rattle.std.proofs.lemmas.Option.{get_or_from_slice_get, slice_get_within}
@@ -7,10 +7,10 @@ use Rattle.emc_base.specs.Lists.{At}
 use Rattle.emc_base.proofs.Joined.{pairs_head, pairs_tail}
 use Rattle.emc_base.proofs.Lists.{all_from_members, at_once, item_at}
 use Rattle.emc_base.proofs.Mapped.{contains_at}
-use Rattle.emc_base.proofs.Members.{contains_cons_cases, contains_head, contains_nil, contains_tail}
+use Rattle.emc_base.proofs.Members.{contains_cons_cases, contains_nil, contains_tail}
 use Rattle.emc_base.proofs.facts.Pairs.{pairs_append}
 use Rattle.round_trip.proofs.Lookups.{key_columns_at}
-use Rattle.round_trip.specs.Words.{AreLegalTables, ColId, HasAllowedNullCells, HasCellsInDomain, KeepsForeignKey, Row, StoreModel, Table, TableId, Tables, cells_of, rows_in}
+use Rattle.round_trip.specs.Words.{AreLegalTables, ColId, HasAllowedNullCells, HasCellsInDomain, KeepsForeignKey, Row, StoreModel, TableId, Tables, cells_of, rows_in}
 use Rattle.row_changes.specs.declared.change.RowChange.{RowChange}
 use Rattle.row_changes.specs.Changes.{after, key_in}
 use Rattle.row_changes.specs.Differences.{AreBothLegal, AreDifference, IsChange}

@@ -1,10 +1,10 @@
 -- A foreign key points to a whole primary key: rows that show the same there have one key, and rows with one key show the same.
-use Rattle.std.proofs.Common.{◌≡◌, ⊎_elim, List, [], ◌∷◌, map, All, Any, Contains, refl, sym, ap, subst, ◌∙◌}
+use Rattle.std.proofs.Common.{◌≡◌, ⊎_elim, List, [], ◌∷◌, map, All, Any, Contains, refl, sym, ap, ◌∙◌}
 use Rattle.std.proofs.lemmas.List.Elements.{All-contains}
 use Rattle.emc_base.specs.Lists.{HoldsEachOnce}
 use Rattle.emc_base.proofs.Lists.{all_from_members}
 use Rattle.emc_base.proofs.Members.{contains_cons_cases, contains_head, contains_nil, contains_tail}
-use Rattle.round_trip.specs.Words.{ColId, ForeignKey, KeepsForeignKey, Refers, Row, StoreModel, Tables, Value, cell_of, cells_of, key_columns, rows_in}
+use Rattle.round_trip.specs.Words.{ColId, ForeignKey, KeepsForeignKey, Refers, Row, StoreModel, Tables, cell_of, cells_of, key_columns, rows_in}
 use Rattle.round_trip.specs.soundness.Stores.{IsSoundForeignKey, IsSoundStore}
 use Rattle.schema_laws.proofs.state_demand.lists.Lists.{any_of, of_any}
 use Rattle.row_changes.specs.Changes.{key_in}
