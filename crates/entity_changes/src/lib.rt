@@ -1,0 +1,8 @@
+//! Changes of entities and links, one after the other: the state that they lead to, the first that is refused, and what they touch.
+#![tactic(auto)]
+
+mod change;
+mod touched;
+
+pub use change::{Change, Reason};
+pub use touched::Touched;
