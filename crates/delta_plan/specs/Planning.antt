@@ -1,0 +1,63 @@
+-- When changes of rows are planned for what is touched, and what is told then.
+-- Source: this project's, as in the tables that an update keeps.
+use Rattle.std.specs.Prelude.{◌≡◌, ◌+◌, ◌*◌, ⊤, ℕ, List, Bool, IsTrue, Result, Ok, Err, length}
+use Rattle.emc_base.specs.Lists.{AreApart}
+use Rattle.round_trip.specs.Words.{AreLegalTables, EntityModel, IsLegal, KeepsFree, State, StoreModel, Tables, ColId, TableId}
+use Rattle.round_trip.specs.soundness.Stores.{IsSoundStore}
+use Rattle.cells.specs.declared.cells.Cells.{Cells}
+use Rattle.cells.specs.Cells.{is_free_in}
+use Rattle.cells.specs.Parts.{CoverModel}
+use Rattle.keyed_rows.specs.row_differences.SameButFree.{AreSameButFree, HaveRowsApart}
+use Rattle.entity_changes.specs.declared.touched.Touched.{Touched}
+use Rattle.entity_changes.specs.Touching.{DifferOnlyAt}
+use Rattle.row_changes.specs.declared.change.RowChange.{RowChange}
+use Rattle.row_plans.specs.declared.plan.RowPlan.{RowPlan}
+use Rattle.row_plans.specs.declared.plan.RowPlan.TheVariants.{Steps, Circular}
+use Rattle.row_plans.specs.Plans.{IsPlan}
+use Rattle.delta_plan.specs.RowsOf.{AreTablesOf, Giving, rows_of}
+use Rattle.delta_plan.specs.Steps.{RoseAtMost, raised}
+use Rattle.delta_plan.specs.Units.{count_at}
+use Rattle.delta_plan.specs.declared.planning.PlanFault.{PlanFault}
+use Rattle.delta_plan.specs.declared.planning.PlanFault.TheVariants as fault
+
+-- the column of the table is free, as the cells tell
+abbrev pub Free : Cells → TableId → ColId → Type 0
+Free cells t col = IsTrue (is_free_in cells t col)
+
+-- tables that hold the rows of a state, before, and the rows of another, afterwards: the states differ only at what is touched
+pub record MayBePlanned (gives : Giving) (model : EntityModel) (store : StoreModel) (cells : Cells) (tables : Tables) (touched : Touched) (before after : State) : Type 0 where
+  pub sound : IsSoundStore store
+  pub cover : CoverModel model cells
+  pub old_legal : IsLegal model before
+  pub new_legal : IsLegal model after
+  pub differ : DifferOnlyAt model cells touched before after
+  pub keys_once : AreApart touched.entities
+  pub links_once : AreApart touched.links
+  -- no two rows that the views give have one key
+  pub old_rows : Tables
+  pub are_old : AreTablesOf store (rows_of gives model cells before) old_rows
+  pub old_apart : HaveRowsApart store old_rows
+  pub new_rows : Tables
+  pub are_new : AreTablesOf store (rows_of gives model cells after) new_rows
+  pub new_apart : HaveRowsApart store new_rows
+  -- the tables are legal, and those of the state before but for what free cells hold
+  pub legal : AreLegalTables store tables
+  pub same : AreSameButFree store (is_free_in cells) tables old_rows
+  -- those of the state afterwards, with free columns kept
+  pub kept : Tables
+  pub keeps : KeepsFree store (Free cells) tables new_rows kept
+  pub kept_legal : AreLegalTables store kept
+
+-- what is told of a plan: of its steps or its cycle; want of memory is free
+abbrev pub TellsSteps : (RowPlan → Type 0) → Result (List RowChange) PlanFault → Type 0
+TellsSteps P (Ok changes) = P (Steps changes)
+TellsSteps P (Err (fault.Circular ring)) = P (Circular ring)
+TellsSteps P (Err fault.Memory) = ⊤
+
+-- a plan that leads from the tables to the kept ones of the state afterwards
+abbrev pub LeadsToKept : StoreModel → Cells → Tables → Tables → RowPlan → Type 0
+LeadsToKept store cells tables new_rows plan = (kept : Tables) → KeepsFree store (Free cells) tables new_rows kept → IsPlan store tables kept plan
+
+-- the views were asked once for each entity at a touched key, before and afterwards; and no more often at any answer
+abbrev pub AsksOnce : EntityModel → Touched → State → State → ℕ → ℕ → RowPlan → Type 0
+AsksOnce model touched before after old now plan = now ≡ raised (count_at model touched before + count_at model touched after) old

@@ -1,0 +1,9 @@
+//! Changes of entities turned into changes of rows: the tables with free columns kept, and a plan in which each step keeps all keys.
+#![tactic(auto)]
+
+mod asking;
+mod marked;
+mod marks;
+mod planning;
+
+pub use planning::PlanFault;
