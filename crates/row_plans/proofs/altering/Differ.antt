@@ -1,5 +1,5 @@
 -- Rows that differ, and the row of a key.
-use Rattle.std.proofs.Common.{◌≡◌, ◌≢◌, List, Bool, true, false, true≢false, Option, None, Some, refl, sym, ap, ◌∙◌}
+use Rattle.std.proofs.Common.{◌≡◌, ◌≢◌, List, true, false, true≢false, Option, None, Some, refl, sym, ap, ◌∙◌}
 use Rattle.std.proofs.lemmas.Bool.{not-false, not-true}
 use Rattle.std.proofs.lemmas.Option.{none-some, same_Some}
 use Rattle.schema_laws.proofs.state_demand.writings.Selecting.{Decides-key}

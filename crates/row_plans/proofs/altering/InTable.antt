@@ -1,5 +1,5 @@
 -- What the groups of a table's rows add are the alterations of the table.
-use Rattle.std.proofs.Common.{◌≡◌, ◌≢◌, ℕ, ◌<◌, List, [], ◌∷◌, Bool, true, false, All, AllPairs, Contains, Option, None, Some, if◌then◌else◌, map, get_or, refl, sym, ap, subst, ◌∙◌, arith}
+use Rattle.std.proofs.Common.{◌≡◌, ◌≢◌, List, [], ◌∷◌, Bool, true, false, All, AllPairs, Contains, Option, None, Some, if◌then◌else◌, map, refl, sym, ap, subst, ◌∙◌, arith}
 use Rattle.std.specs.Borrow.{Bor}
 use Rattle.std.specs.List.{flat_map}
 use Rattle.std.specs.Option.{option_copied}
@@ -22,8 +22,8 @@ use Rattle.keyed_rows.specs.declared.row_groups.groups.KeyGroup.{KeyGroup}
 use Rattle.row_changes.specs.Changes.{key_in, key_of_change}
 use Rattle.row_changes.proofs.leading.Primary.{AreApartBy}
 use Rattle.row_orders.specs.declared.alteration.Alteration.{Alteration}
-use Rattle.row_orders.specs.Alterations.{IsAlteration, IsRowThere, change_by, change_of, new_row, old_row, whose}
-use Rattle.row_plans.specs.Altered.{altered_at, altered_by, altered_in, differ, first_of}
+use Rattle.row_orders.specs.Alterations.{IsAlteration, IsRowThere, change_of, whose}
+use Rattle.row_plans.specs.Altered.{altered_in, differ, first_of}
 use Rattle.row_plans.specs.Sides.{AreRowGroups}
 use Rattle.row_plans.specs.declared.altered.sides.Side.{Side}
 use Rattle.row_plans.specs.declared.altered.sides.Side.TheVariants.{Before, Afterwards}

@@ -1,8 +1,8 @@
 -- The rows that differ between two tables differ in all tables of which they are a part, with one rest, and no others do.
-use Rattle.std.proofs.Common.{◌≡◌, ◌≢◌, ◌⊎◌, ⊎_elim, List, All, Contains, Option, None, Some, refl, sym, ap, ◌∙◌}
+use Rattle.std.proofs.Common.{◌≡◌, ◌≢◌, ⊎_elim, List, Contains, Option, None, Some, refl, sym, ap, ◌∙◌}
 use Rattle.std.proofs.lemmas.List.Elements.{All-weaker}
 use Rattle.round_trip.specs.Words.{Row, StoreModel, TableId, Tables, Value, rows_in}
-use Rattle.row_changes.specs.Changes.{HasNoRow, HasRow, key_in}
+use Rattle.row_changes.specs.Changes.{HasNoRow, HasRow}
 use Rattle.row_changes.specs.Joined.{AreJoined, AreWithOneRest}
 use Rattle.row_orders.specs.declared.alteration.Alteration.{Alteration}
 use Rattle.row_orders.specs.Alterations.{AreAlterations, IsAlteration, IsRowThere, new_row, old_row, whose}

@@ -1,8 +1,7 @@
 -- What is told of an order of alterations is told of the changes.
-use Rattle.std.proofs.Common.{◌≡◌, ⊎_elim, ℕ, zero, suc, ◌<◌, ◌≤◌, List, length, All, Contains, get_or, refl, sym, subst, arith}
+use Rattle.std.proofs.Common.{◌≡◌, ⊎_elim, ℕ, zero, suc, ◌<◌, ◌≤◌, List, length, All, subst, arith}
 use Rattle.std.proofs.lemmas.Bool.{cases_lt}
 use Rattle.std.proofs.lemmas.Option.{slice_get_within}
-use Rattle.emc_base.specs.Lists.{At}
 use Rattle.emc_base.proofs.Joined.{all_from_places}
 use Rattle.emc_base.proofs.Lists.{all_from_members, item_at}
 use Rattle.round_trip.specs.Words.{StoreModel, Tables}
@@ -10,7 +9,6 @@ use Rattle.arrow_orders.specs.Orders.{IsLine, IsRing, TellsOrder, Waits}
 use Rattle.arrow_orders.specs.declared.order.Order.{Order}
 use Rattle.arrow_orders.specs.declared.order.Order.TheVariants.{Line, Ring}
 use Rattle.row_changes.specs.Differences.{AreBothLegal}
-use Rattle.row_changes.specs.Joined.{AreWithOneRest}
 use Rattle.row_orders.specs.declared.alteration.Alteration.{Alteration}
 use Rattle.row_orders.specs.Alterations.{AreAlterations}
 use Rattle.row_orders.specs.Waiting.{TellWaits}

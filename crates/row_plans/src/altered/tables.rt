@@ -32,7 +32,14 @@ pub(crate) fn alterations_of<'t>(
             index: index as u32,
         };
         let key = store.tables.at(index).key.as_slice();
-        add_table(alloc, &mut found, id, key, old.rows(id).as_slice(), new.rows(id).as_slice())?;
+        add_table(
+            alloc,
+            &mut found,
+            id,
+            key,
+            old.rows(id).as_slice(),
+            new.rows(id).as_slice(),
+        )?;
     }
     Ok(found)
 }

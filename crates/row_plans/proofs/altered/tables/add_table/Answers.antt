@@ -1,8 +1,8 @@
-use Rattle.std.proofs.Common.{◌≡◌, List, sym, subst, ap, ◌∙◌, ◌++◌}
+use Rattle.std.proofs.Common.{List, sym, ap, ◌∙◌, ◌++◌}
 use Rattle.std.specs.List.{flat_map}
 use Rattle.std.proofs.lemmas.Result.{IfOk-weaker}
 use Rattle.keyed_rows.specs.declared.row_groups.groups.KeyGroup.{KeyGroup}
-use Rattle.row_plans.specs.Altered.{AddsTable, altered_in}
+use Rattle.row_plans.specs.Altered.{altered_in}
 use Rattle.row_plans.specs.declared.altered.sides.SidedRow.{SidedRow}
 use Rattle.row_plans.proofs.altering.Tables.{nothing_added}
 use Rattle.row_plans.proofs.altered.tables.add_table.Goals as goal

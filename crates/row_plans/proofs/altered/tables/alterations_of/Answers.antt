@@ -1,8 +1,7 @@
-use Rattle.std.proofs.Common.{◌≡◌, ◌<◌, ◌≤◌, ◌+◌, ℕ, List, All, length, sym, subst, ◌∙◌}
-use Rattle.round_trip.specs.Words.{ColId, Row, Table, TableId, rows_in}
-use Rattle.row_orders.specs.declared.alteration.Alteration.{Alteration}
+use Rattle.std.proofs.Common.{◌<◌, ◌≤◌, ℕ, List, All, length, sym, subst, ◌∙◌}
+use Rattle.round_trip.specs.Words.{ColId, Row, TableId, rows_in}
 use Rattle.row_plans.specs.Altered.{AddsTable}
-use Rattle.row_plans.proofs.altering.Tables.{all_tables, as_long, key_within, none_yet, table_added}
+use Rattle.row_plans.proofs.altering.Tables.{all_tables, key_within, table_added}
 use Rattle.row_plans.proofs.altered.tables.alterations_of.Goals as goal
 
 pub add_table-requires-clause-within : goal.add_table-requires-clause-within
