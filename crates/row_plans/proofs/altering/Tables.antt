@@ -1,14 +1,16 @@
 -- The alterations of tables, one table after the other.
 use Rattle.std.proofs.Common.{◌≡◌, ◌≢◌, ⊎_elim, ◌==◌, ℕ, ◌+◌, ◌<◌, ◌≤◌, true, List, [], ◌∷◌, ◌++◌, append-nil, length, map, All, AllPairs, Contains, Option, None, Some, refl, sym, ap, subst, ◌∙◌, arith}
 use Rattle.std.specs.List.{flat_map}
+use Rattle.std.specs.Option.{option_map_or}
 use Rattle.std.proofs.lemmas.Bool.{cases_eq, eqb-true}
 use Rattle.std.proofs.lemmas.List.Elements.{All-append, All-contains, All-weaker, Contains-append_left, Contains-append_right}
 use Rattle.emc_base.proofs.Joined.{apart-append}
-use Rattle.emc_base.proofs.Lists.{all_from_members}
+use Rattle.emc_base.proofs.Lists.{all_from_members, item_at}
 use Rattle.edm_types.proofs.Lookups.{same_table}
 use Rattle.emc_base.proofs.Mapped.{contains_at}
 use Rattle.emc_base.proofs.Members.{contains_nil}
 use Rattle.round_trip.specs.Words.{At, AreTables, ColId, Row, StoreModel, Table, TableId, Tables, Value, cells_of, rows_in}
+use Rattle.round_trip.specs.soundness.Lookups.{columns_of}
 use Rattle.round_trip.specs.soundness.Stores.{IsSoundStore}
 use Rattle.round_trip.proofs.Lookups.{key_columns_at}
 use Rattle.row_changes.proofs.leading.Primary.{row_within}
@@ -18,7 +20,7 @@ use Rattle.keyed_rows.specs.row_differences.SameButFree.{HaveRowsApart}
 use Rattle.keyed_rows.specs.row_groups.Shown.{shown_cells}
 use Rattle.keyed_rows.specs.declared.row_groups.groups.KeyGroup.{KeyGroup}
 use Rattle.row_plans.specs.Altered.{AddsTable, altered_in}
-use Rattle.row_plans.specs.Lengths.{AreAsLong, IsAsLong}
+use Rattle.row_plans.specs.Lengths.{AreAsLong, HasLongRows, IsAsLong}
 use Rattle.row_plans.specs.Sides.{AreRowGroups, rows_of}
 use Rattle.row_plans.specs.declared.altered.sides.Side.{Side}
 use Rattle.row_plans.specs.declared.altered.sides.Side.TheVariants.{Before, Afterwards}
@@ -111,19 +113,22 @@ module _ (store : StoreModel) (old new : Tables) where
             are.all t (omega (arith, within, size, end)) key None (Some row) was is apart
 
     -- their rows are as long as the columns
-    long_row : (tables : Tables) → AreTables store tables → (t : TableId) (table : Table) → At store.tables t.index table → (key : List Value) (found : Option Row)
-        → IsRowThere store tables t key found → IsAsLong table found
-    long_row tables are t table at key found there row is =
+    long_row : (tables : Tables) → AreTables store tables → (t : TableId) (key : List Value) (found : Option Row) → IsRowThere store tables t key found
+        → (row : Row) → found ≡ Some row → IsAsLong store t row
+    long_row tables are t key found there row is =
         let has : IsRowThere store tables t key (Some row) = subst (IsRowThere store tables t key) is there in
-        All-contains (λ (r : Row). length r.cells ≡ length table.cols) (rows_in tables t) row (are.rows t table at) has.0
+        let within = row_within tables t row has.0 in
+        let size = are.each in
+        let table = item_at store.tables t.index (omega (arith, within, size)) in
+        let cols : columns_of store t ≡ table.0.cols = ap (λ (declared : Option Table). option_map_or (λ (one : Table). one.cols) declared []) table.1 in
+        All-contains (λ (r : Row). length r.cells ≡ length table.0.cols) (rows_in tables t) row (are.rows t table.0 table.1) has.0 ∙ ap length (sym cols)
 
     pub as_long : (found : List Alteration) → AreAlterations store old new found → AreAsLong store found
-    as_long found are = All-weaker (IsAlteration store old new)
-        (λ (one : Alteration). (table : Table) → At store.tables one.table.index table → IsAsLong table (old_row one) × IsAsLong table (new_row one))
-        (λ one is table at. (
-          long_row old old_tables one.table table at (whose store one).1 (old_row one) is.before,
-          long_row new new_tables one.table table at (whose store one).1 (new_row one) is.afterwards,
-        )) found are.only
+    as_long found are = All-weaker (IsAlteration store old new) (HasLongRows store)
+        (λ one is. record {
+          old = long_row old old_tables one.table (whose store one).1 (old_row one) is.before;
+          new = long_row new new_tables one.table (whose store one).1 (new_row one) is.afterwards;
+        }) found are.only
 
 -- what a table adds are its alterations
 pub table_added : (store : StoreModel) (old new : Tables) → HaveRowsApart store old → HaveRowsApart store new → (t : TableId) (table : Table) → At store.tables t.index table
