@@ -1,1 +1,5 @@
+pub mod Altered
+pub mod Lengths
+pub mod Planned
 pub mod Plans
+pub mod Sides

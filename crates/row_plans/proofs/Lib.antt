@@ -1,0 +1,2 @@
+mod altering
+mod listing

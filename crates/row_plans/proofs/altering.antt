@@ -1,0 +1,7 @@
+mod Differ
+mod FirstOf
+pub mod Grouped
+pub mod InTable
+pub mod Joined
+pub mod Tables
+mod WithKey
