@@ -1,2 +1,5 @@
 pub mod Marking
 pub mod Stepped
+pub mod Groups
+pub mod KeptCells
+pub mod Kept

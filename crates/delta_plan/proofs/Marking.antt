@@ -56,3 +56,18 @@ module _ {X Y : Type 0} (p : Y → Bool) (f : ℕ × List X → List Y) (lists i
   numbered_all before end was =
       let End : List (List X) → Type 0 = λ all. length all ≤ i in
       was ∙ ap (λ all. filter p (flat_map f all)) (take-enumerated lists i (subst End is end))
+
+module _ {X Y : Type 0} (f : ℕ × X → Y) (list items : List X) (is : items ≡ list) (i : ℕ) where
+  -- of numbered items, with one more
+  pub next_mapped : (x : X) (before now : List Y) → At items i x → before ≡ map f (take i (enumerate_from 0 list)) → now ≡ before ++ f (i, x) ∷ []
+      → now ≡ map f (take (i + 1) (enumerate_from 0 list))
+  next_mapped x before now here was step =
+      let Here : List X → Type 0 = λ all. At all i x in
+      step ∙ ap (λ all. all ++ f (i, x) ∷ []) was ∙ sym (map-append f (take i (enumerate_from 0 list)) ((i, x) ∷ []))
+      ∙ ap (map f) (sym (take_item (enumerate_from 0 list) i (i, x) (numbered_at list i x (subst Here is here))))
+
+  -- after the last
+  pub mapped_all : (before : List Y) → length items ≤ i → before ≡ map f (take i (enumerate_from 0 list)) → before ≡ map f (enumerate_from 0 list)
+  mapped_all before end was =
+      let End : List X → Type 0 = λ all. length all ≤ i in
+      was ∙ ap (map f) (take-enumerated list i (subst End is end))

@@ -4,4 +4,5 @@ pub mod Steps
 pub mod Marks
 pub mod Marked
 pub mod Asking
+pub mod Keeping
 pub mod Planning

@@ -14,15 +14,12 @@ use Rattle.row_changes.specs.declared.change.RowChange.{RowChange}
 use Rattle.row_plans.specs.declared.plan.RowPlan.{RowPlan}
 use Rattle.row_plans.specs.declared.plan.RowPlan.TheVariants.{Steps, Circular}
 use Rattle.row_plans.specs.Plans.{IsPlan}
+use Rattle.delta_plan.specs.Keeping.{Free}
 use Rattle.delta_plan.specs.RowsOf.{AreTablesOf, Giving, rows_of}
 use Rattle.delta_plan.specs.Steps.{RoseAtMost, raised}
 use Rattle.delta_plan.specs.Units.{count_at}
 use Rattle.delta_plan.specs.declared.planning.PlanFault.{PlanFault}
 use Rattle.delta_plan.specs.declared.planning.PlanFault.TheVariants as fault
-
--- the column of the table is free, as the cells tell
-abbrev pub Free : Cells → TableId → ColId → Type 0
-Free cells t col = IsTrue (is_free_in cells t col)
 
 -- tables that hold the rows of a state, before, and the rows of another, afterwards: the states differ only at what is touched
 pub record MayBePlanned (gives : Giving) (model : EntityModel) (store : StoreModel) (cells : Cells) (tables : Tables) (touched : Touched) (before after : State) : Type 0 where

@@ -2,6 +2,7 @@
 #![tactic(auto)]
 
 mod asking;
+mod keeping;
 mod marked;
 mod marks;
 mod planning;

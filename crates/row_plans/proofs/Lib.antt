@@ -1,2 +1,2 @@
-mod altering
+pub mod altering
 mod listing

@@ -1,5 +1,5 @@
 mod Differ
-mod FirstOf
+pub mod FirstOf
 pub mod Grouped
 pub mod InTable
 pub mod Joined

@@ -7,5 +7,6 @@ mod plan;
 mod planning;
 mod waiting;
 
+pub use altered::{Side, SidedRow, row_groups, row_of};
 pub use plan::RowPlan;
 pub use planning::plan_rows;

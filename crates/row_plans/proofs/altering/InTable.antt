@@ -47,7 +47,7 @@ not_below x y less same = equal_is_not (sym (ap (slice_cmp value_cmp x) (sym sam
     equal_is_not is = cc
 
 -- what each of some gives is apart where these are, and what one gives is one at most
-pairs_of_flat_map : {X Y : Type 0} (R : X → X → Type 0) (S : Y → Y → Type 0) (f : X → List Y) (xs : List X) → AllPairs R xs
+pub pairs_of_flat_map : {X Y : Type 0} (R : X → X → Type 0) (S : Y → Y → Type 0) (f : X → List Y) (xs : List X) → AllPairs R xs
     → ((x : X) → AllPairs S (f x)) → ((x z : X) (y w : Y) → Contains xs x → Contains xs z → R x z → Contains (f x) y → Contains (f z) w → S y w) → AllPairs S (flat_map f xs)
 pairs_of_flat_map R S f [] pairs each apart = λ i j d below within. absurd (omega arith)
 pairs_of_flat_map {X} {Y} R S f (x ∷ xs) pairs each apart = subst (AllPairs S) (sym (flat_map-cons f x xs))

@@ -7,17 +7,21 @@ use emc_base::{ColId, Memory, Value};
 use keyed_rows::{KeyGroup, key_groups, lent_cells};
 use std::alloc::Global;
 
-// Which tables a row is of: those before, or those afterwards.
+/// Which tables a row is of.
 #[derive(Clone, Copy)]
-pub(super) enum Side {
+pub enum Side {
+    /// Those before.
     Before,
+    /// Those afterwards.
     Afterwards,
 }
 
-// A lent row, and whose it is.
+/// A lent row, and whose it is.
 #[derive(Clone, Copy)]
-pub(super) struct SidedRow<'t> {
+pub struct SidedRow<'t> {
+    /// Which tables it is of.
     pub side: Side,
+    /// The row.
     pub row: &'t Row,
 }
 
@@ -31,8 +35,8 @@ fn is_same_side(one: Side, other: Side) -> bool
     }
 }
 
-// The first row of a side.
-pub(super) fn row_of<'t>(rows: &[SidedRow<'t>], side: Side) -> Option<&'t Row>
+/// The first row of a side; `None` where no row is of it.
+pub fn row_of<'t>(rows: &[SidedRow<'t>], side: Side) -> Option<&'t Row>
     ensures { result ≡ first_of side rows.now }
 {
     for one in rows {
@@ -43,8 +47,8 @@ pub(super) fn row_of<'t>(rows: &[SidedRow<'t>], side: Side) -> Option<&'t Row>
     None
 }
 
-// The rows of both sides, grouped by their cells in some columns, in the order of these.
-pub(super) fn row_groups<'t>(
+/// The rows of both sides, grouped by their cells in some columns, in the order of these. `Memory` comes where memory ran out.
+pub fn row_groups<'t>(
     alloc: Global,
     cols: &[ColId],
     old: &'t [Row],
