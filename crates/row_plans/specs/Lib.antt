@@ -1,1 +1,3 @@
 pub mod Plans
+pub mod Roles
+pub mod Waits

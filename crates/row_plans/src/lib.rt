@@ -2,5 +2,6 @@
 #![tactic(auto)]
 
 mod plan;
+mod waiting;
 
 pub use plan::RowPlan;
