@@ -27,6 +27,10 @@ row_by Goes old None = old
 row_by Goes old (Some _) = None
 row_by Referred old new = old
 
+-- a part with its cells, unless one of these is null
+abbrev pub part_with : List Value → Part → List (List Value × Part)
+part_with cells part = if list_all is_value cells then (cells, part) ∷ [] else []
+
 module _ (key : ForeignKey) where
   -- the table of the rows of a role
   abbrev pub table_in : Role → TableId
@@ -52,10 +56,6 @@ module _ (key : ForeignKey) where
 
   abbrev pub Fits : Alteration → Type 0
   Fits alteration = (role : Role) → FitsIn alteration role
-
-  -- the part with its cells, unless one of these is null
-  abbrev pub part_with : List Value → Part → List (List Value × Part)
-  part_with cells part = if list_all is_value cells then (cells, part) ∷ [] else []
 
   abbrev pub part_by : Option Row → Part → List (List Value × Part)
   part_by None part = []

@@ -1,7 +1,7 @@
 ghost use Rattle.std.specs.Prelude.{◌≡◌, ◌++◌, All, IfOk};
 ghost use Rattle.std.specs.List.{flat_map};
 ghost use Rattle.row_plans.specs.Roles.{Fits};
-ghost use Rattle.row_plans.specs.Waits.{AddsArrows, arrows_between, arrows_from, arrows_in, arrows_in_groups};
+ghost use Rattle.row_plans.specs.Waits.{AddsArrows, arrows_between, arrows_from, arrows_in, arrows_in_groups, is_target};
 
 use crate::waiting::parts::{Part, Role, parts_of};
 use edm_types::ForeignKey;

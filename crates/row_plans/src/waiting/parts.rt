@@ -1,7 +1,7 @@
 ghost use Rattle.std.specs.Prelude.{◌≡◌, ◌++◌, All, IfOk, map};
 ghost use Rattle.std.specs.List.{list_all};
 ghost use Rattle.std.specs.Option.{option_copied};
-ghost use Rattle.keyed_rows.specs.row_groups.Shown.{shown_cells, shown_keyed};
+ghost use Rattle.keyed_rows.specs.row_groups.Shown.{shown_keyed};
 ghost use Rattle.row_plans.specs.Roles.{Fits, FitsIn, all_parts, cols_in, is_value, parts_at, parts_in, row_in, table_in};
 
 use edm_types::{ForeignKey, Row};
@@ -41,7 +41,7 @@ pub(super) fn parts_of<'t>(
 {
     let mut parts = Vec::new(alloc);
     for (place, alteration) in alterations.iter().enumerate() {
-        add_parts(alloc, &mut parts, key, place, *alteration)?;
+        add_parts(alloc, &mut parts, key, place, alteration)?;
     }
     Ok(parts)
 }
@@ -52,10 +52,10 @@ fn add_parts<'t>(
     parts: &mut Vec<(Vec<&'t Value>, Part)>,
     key: &ForeignKey,
     place: usize,
-    alteration: Alteration<'t>,
+    alteration: &Alteration<'t>,
 ) -> Result<(), Memory>
-    requires { Fits key.now alteration }
-    ensures { IfOk result (λ _. map shown_keyed parts.new.items ≡ map shown_keyed parts.old.items ++ parts_at key.now place alteration) }
+    requires { Fits key.now alteration.now }
+    ensures { IfOk result (λ _. map shown_keyed parts.new.items ≡ map shown_keyed parts.old.items ++ parts_at key.now place alteration.now) }
 {
     for role in [Role::Comes, Role::Refers, Role::Goes, Role::Referred] {
         add_part(alloc, parts, key, Part { place, role }, alteration)?;
@@ -69,10 +69,10 @@ fn add_part<'t>(
     parts: &mut Vec<(Vec<&'t Value>, Part)>,
     key: &ForeignKey,
     part: Part,
-    alteration: Alteration<'t>,
+    alteration: &Alteration<'t>,
 ) -> Result<(), Memory>
-    requires { FitsIn key.now alteration part.role }
-    ensures { IfOk result (λ _. map shown_keyed parts.new.items ≡ map shown_keyed parts.old.items ++ parts_in key.now alteration part) }
+    requires { FitsIn key.now alteration.now part.role }
+    ensures { IfOk result (λ _. map shown_keyed parts.new.items ≡ map shown_keyed parts.old.items ++ parts_in key.now alteration.now part) }
 {
     let Some(row) = row_of(key, part.role, alteration) else {
         return Ok(());
@@ -85,8 +85,8 @@ fn add_part<'t>(
 }
 
 // The row of an alteration that may have a role.
-fn row_of<'t>(key: &ForeignKey, role: Role, alteration: Alteration<'t>) -> Option<&'t Row>
-    ensures { option_copied result ≡ row_in key.now role alteration }
+fn row_of<'t>(key: &ForeignKey, role: Role, alteration: &Alteration<'t>) -> Option<&'t Row>
+    ensures { option_copied result ≡ row_in key.now role alteration.now }
 {
     if table_of(key, role) != alteration.table {
         return None;
@@ -121,7 +121,7 @@ fn cols_of(key: &ForeignKey, role: Role) -> &[ColId]
 
 // Whether none of the cells is null.
 fn have_values(cells: &[&Value]) -> bool
-    ensures { result ≡ list_all is_value (map (λ cell. cell.now) cells.now) }
+    ensures { result ≡ list_all (λ cell. is_value cell.now) cells.now }
 {
     cells.iter().all(|cell| is_value(cell))
 }
