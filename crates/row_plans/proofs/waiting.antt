@@ -1,2 +1,4 @@
-pub mod Given
-pub mod Listed
+mod Given
+mod Listed
+mod Paired
+mod Playing

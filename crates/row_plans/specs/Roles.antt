@@ -31,6 +31,9 @@ row_by Referred old new = old
 abbrev pub part_with : List Value → Part → List (List Value × Part)
 part_with cells part = if list_all is_value cells then (cells, part) ∷ [] else []
 
+abbrev pub all_roles : List Role
+all_roles = Comes ∷ Refers ∷ Goes ∷ Referred ∷ []
+
 module _ (key : ForeignKey) where
   -- the table of the rows of a role
   abbrev pub table_in : Role → TableId
@@ -64,9 +67,6 @@ module _ (key : ForeignKey) where
   -- the part of an alteration in a role, if it has it
   abbrev pub parts_in : Alteration → Part → List (List Value × Part)
   parts_in alteration part = part_by (row_in part.role alteration) part
-
-  abbrev pub all_roles : List Role
-  all_roles = Comes ∷ Refers ∷ Goes ∷ Referred ∷ []
 
   -- all parts of an alteration
   abbrev pub parts_at : ℕ → Alteration → List (List Value × Part)

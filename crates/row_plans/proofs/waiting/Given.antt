@@ -1,11 +1,13 @@
 -- The part that a row gives, where none of its cells is null, and where one is.
-use Rattle.std.proofs.Common.{◌≡◌, ◌++◌, List, [], ◌∷◌, map, Bool, true, false, Some, sym, ap, ◌∙◌, append-nil}
+use Rattle.std.proofs.Common.{◌≡◌, ◌++◌, List, [], ◌∷◌, map, Bool, true, false, Some, sym, ap, ◌∙◌, append-nil, append_assoc, ℕ, ◌+◌, refl, take}
 use Rattle.std.specs.Prelude.{if◌then◌else◌}
 use Rattle.std.specs.Borrow.{Bor}
 use Rattle.std.specs.Global.{Vec}
-use Rattle.std.specs.List.{list_all}
+use Rattle.std.specs.List.{flat_map, list_all}
 use Rattle.std.proofs.lemmas.List.{map-append}
 use Rattle.std.proofs.lemmas.List.Folds.{list_all-map}
+use Rattle.emc_base.specs.Lists.{At}
+use Rattle.emc_base.proofs.Turns.{flat_more}
 use Rattle.round_trip.specs.Words.{ColId, ForeignKey, Row, Value, cells_of}
 use Rattle.keyed_rows.specs.row_groups.Shown.{shown_cells, shown_keyed}
 use Rattle.row_orders.specs.declared.alteration.Alteration.{Alteration}
@@ -26,9 +28,19 @@ module _ (key : ForeignKey) (alteration : Alteration) (part : Part) (row : Row) 
   -- it is given where none is null
   pub one_given : (before after : List (Vec (Bor Value) × Part)) → whole ≡ true → after ≡ before ++ (cells, part) ∷ []
       → map shown_keyed after ≡ map shown_keyed before ++ parts_in key alteration part
-  one_given before after yes added = ap (map shown_keyed) added ∙ map-append shown_keyed before ((cells, part) ∷ [])
-      ∙ ap (λ more. map shown_keyed before ++ more) (sym (gives ∙ ap if_whole yes))
+  one_given before after is_whole added = ap (map shown_keyed) added ∙ map-append shown_keyed before ((cells, part) ∷ [])
+      ∙ ap (λ more. map shown_keyed before ++ more) (sym (gives ∙ ap if_whole is_whole))
 
   -- and none where one is
   pub none_given : (before : List (Vec (Bor Value) × Part)) → whole ≡ false → map shown_keyed before ≡ map shown_keyed before ++ parts_in key alteration part
-  none_given before no = sym (append-nil (map shown_keyed before)) ∙ ap (λ more. map shown_keyed before ++ more) (sym (gives ∙ ap if_whole no))
+  none_given before is_not = sym (append-nil (map shown_keyed before)) ∙ ap (λ more. map shown_keyed before ++ more) (sym (gives ∙ ap if_whole is_not))
+
+-- what one more item gives was added
+pub more_added : {X Y : Type 0} (f : X → List Y) (items : List X) (i : ℕ) (item : X) (start made now : List Y) → made ≡ start ++ flat_map f (take i items) → At items i item
+    → now ≡ made ++ f item → now ≡ start ++ flat_map f (take (i + 1) items)
+more_added f items i item start made now so here added = added ∙ ap (λ list. list ++ f item) so ∙ append_assoc start (flat_map f (take i items)) (f item)
+    ∙ ap (λ list. start ++ list) (flat_more f items i item (flat_map f (take i items)) refl here)
+
+pub next_added : {X Y : Type 0} (f : X → List Y) (items : List X) (i : ℕ) (item : X) (made now : List Y) → made ≡ flat_map f (take i items) → At items i item
+    → now ≡ made ++ f item → now ≡ flat_map f (take (i + 1) items)
+next_added f items i item made now so here added = added ∙ flat_more f items i item made so here
