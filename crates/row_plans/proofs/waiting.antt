@@ -1,4 +1,5 @@
 mod Given
 mod Listed
+mod OfKey
 mod Paired
 mod Playing
