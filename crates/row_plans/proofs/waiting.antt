@@ -1,3 +1,5 @@
+mod Collected
+mod Fitting
 mod Given
 mod Listed
 mod OfKey
