@@ -1,6 +1,6 @@
 -- What the rows of alterations are to a foreign key: they come, refer, go, or referred.
 -- Source: SSDL version 3, ReferentialConstraint; foreign keys that are checked at each statement.
-use Rattle.std.specs.Prelude.{◌≡◌, ◌<◌, ◌++◌, ℕ, List, [], ◌∷◌, length, All, Bool, true, false, Option, Some, None, if◌then◌else◌}
+use Rattle.std.specs.Prelude.{◌≡◌, ◌<◌, ℕ, List, [], ◌∷◌, length, All, Bool, true, false, Option, Some, None, if◌then◌else◌}
 use Rattle.std.specs.List.{enumerate_from, flat_map, list_all}
 use Rattle.std.specs.Prelude.{nat_eq}
 use Rattle.round_trip.specs.Words.{ColId, ForeignKey, Row, TableId, Value, Null, Whole, Flag, Text, Bytes, cells_of}

@@ -11,14 +11,14 @@ ghost use Rattle.row_orders.specs.Waiting.{TellWaits};
 ghost use Rattle.row_plans.specs.Waits.{AreAsLong, AreArrowsBy};
 
 use arrows::{Arrow, add_key};
-use emc_base::{Memory, Seq};
 use edm_types::StoreModel;
+use emc_base::{Memory, Seq};
 use ends::ends_by_place;
 use row_orders::Alteration;
 use std::alloc::Global;
 
-/// For each alteration the places of those that it waits for, by the foreign keys of the store: in the order of these, and those of one key in the order of the
-/// key's values; a place may be listed more than once. `Memory` comes where memory ran out.
+/// For each alteration the places of those that it waits for, by the foreign keys of the store, in the order of these; a place may be listed more than once. None
+/// waits for itself. `Memory` comes where memory ran out.
 pub(crate) fn waits_of(
     alloc: Global,
     store: &StoreModel,

@@ -1,13 +1,11 @@
 -- The arrows by all keys, one key after another.
-use Rattle.std.proofs.Common.{◌≡◌, ◌⊎◌, ⊎_elim, inl, inr, ◌↔◌, ◌+◌, ◌++◌, ◌∷◌, ◌<◌, ℕ, List, [], take, length, All, Contains, refl, sym, ap, subst, ◌∙◌}
-use Rattle.std.proofs.lemmas.List.Elements.{All-contains, Contains-append_cases, Contains-append_left, Contains-append_right, Contains-push, Contains-push_cases}
+use Rattle.std.proofs.Common.{◌≡◌, ⊎_elim, inl, inr, ◌↔◌, ◌++◌, ◌∷◌, ◌<◌, ℕ, List, [], length, All, Contains, sym, subst}
+use Rattle.std.proofs.lemmas.List.Elements.{Contains-append_cases, Contains-append_left, Contains-append_right, Contains-push, Contains-push_cases}
 use Rattle.std.proofs.lemmas.Option.{slice_get_within}
-use Rattle.emc_base.specs.Lists.{At}
-use Rattle.emc_base.proofs.Loops.{take_item}
 use Rattle.emc_base.proofs.Lists.{all_from_members}
 use Rattle.emc_base.proofs.Members.{contains_nil}
 use Rattle.round_trip.specs.Words.{ForeignKey}
-use Rattle.arrow_orders.specs.Orders.{EndWithin, Waits}
+use Rattle.arrow_orders.specs.Orders.{EndWithin}
 use Rattle.row_orders.specs.declared.alteration.Alteration.{Alteration}
 use Rattle.row_orders.specs.Waiting.{TellWaits, WaitsFor}
 use Rattle.row_plans.specs.Waits.{AddsArrows, AreArrowsBy, AreEnds, HasArrow, WaitsBy}
@@ -40,7 +38,15 @@ module _ (alterations : List Alteration) where
 
   by_one : (keys : List ForeignKey) (key : ForeignKey) → Contains keys key → (i j : ℕ) → WaitsBy key alterations i j → WaitsFor keys alterations i j
   by_one keys key is_key i j waits = record {
-    apart = waits.apart; one = waits.one; at_one = waits.at_one; other = waits.other; at_other = waits.at_other; key = key; is_key = is_key; by_key = waits.by_key }
+    apart = waits.apart;
+    one = waits.one;
+    at_one = waits.at_one;
+    other = waits.other;
+    at_other = waits.at_other;
+    key = key;
+    is_key = is_key;
+    by_key = waits.by_key;
+  }
 
   by_key : (keys : List ForeignKey) (i j : ℕ) (waits : WaitsFor keys alterations i j) → WaitsBy waits.key alterations i j
   by_key keys i j waits = record { apart = waits.apart; one = waits.one; at_one = waits.at_one; other = waits.other; at_other = waits.at_other; by_key = waits.by_key }
@@ -51,8 +57,8 @@ module _ (alterations : List Alteration) where
   one_key keys key before after so_far adds i j = (
     λ has. ⊎_elim
         (λ (old : HasArrow before i j).
-          let waits = (so_far i j).0 old in
-          by_one (keys ++ key ∷ []) waits.key (Contains-append_left keys (key ∷ []) waits.key waits.is_key) i j (by_key keys i j waits))
+        let waits = (so_far i j).0 old in
+        by_one (keys ++ key ∷ []) waits.key (Contains-append_left keys (key ∷ []) waits.key waits.is_key) i j (by_key keys i j waits))
         (λ (new : WaitsBy key alterations i j). by_one (keys ++ key ∷ []) key (Contains-push keys key) i j new)
         ((adds i j).0 has),
     λ waits.

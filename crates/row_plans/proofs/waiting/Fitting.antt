@@ -1,12 +1,12 @@
 -- Rows as long as their tables have cells for the columns of each foreign key.
-use Rattle.std.proofs.Common.{◌≡◌, ◌<◌, ℕ, List, get_or, length, All, Contains, Some, sym, ap, subst, ◌∙◌}
+use Rattle.std.proofs.Common.{◌≡◌, ◌<◌, ℕ, List, get_or, length, All, Contains, sym, subst}
 use Rattle.std.proofs.lemmas.List.Elements.{All-contains}
 use Rattle.emc_base.proofs.Lists.{all_from_members}
 use Rattle.round_trip.specs.Words.{ColId, ForeignKey, Row, StoreModel, TableId}
 use Rattle.round_trip.specs.soundness.Lookups.{columns_of}
 use Rattle.round_trip.specs.soundness.Stores.{HasForeignIds, IsColId, IsSoundStore}
 use Rattle.row_orders.specs.declared.alteration.Alteration.{Alteration}
-use Rattle.row_plans.specs.Roles.{Fits, FitsIn, cols_in, table_in}
+use Rattle.row_plans.specs.Roles.{Fits, FitsIn}
 use Rattle.row_plans.specs.Waits.{AreAsLong, HasLongRows, IsAsLong}
 use Rattle.row_plans.specs.declared.waiting.parts.Role.{Role}
 use Rattle.row_plans.specs.declared.waiting.parts.Role.TheVariants.{Comes, Refers, Goes, Referred}

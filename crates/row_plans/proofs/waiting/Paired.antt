@@ -1,5 +1,5 @@
 -- The arrows in groups of parts are just those from alterations to those that they wait for.
-use Rattle.std.proofs.Common.{◌≡◌, ◌≢◌, ◌⊎◌, ⊎_elim, inl, inr, ◌↔◌, ℕ, List, [], ◌∷◌, map, All, Bool, true, false, Contains, refl, sym, ap, subst, subst₂, ◌∙◌, nat_eq, eqb-true}
+use Rattle.std.proofs.Common.{◌≡◌, ◌≢◌, ⊎_elim, inl, inr, ◌↔◌, ℕ, List, [], ◌∷◌, map, All, Bool, true, false, Contains, refl, sym, ap, subst, ◌∙◌, nat_eq, eqb-true}
 use Rattle.std.specs.Prelude.{if◌then◌else◌}
 use Rattle.std.specs.List.{flat_map}
 use Rattle.std.proofs.lemmas.Bool.{eqb-false}
@@ -9,8 +9,7 @@ use Rattle.emc_base.proofs.FoundItems.{contains_flat_map}
 use Rattle.emc_base.proofs.Joined.{in_flat_map}
 use Rattle.emc_base.proofs.Mapped.{contains_map}
 use Rattle.emc_base.proofs.Members.{contains_cons_cases, contains_head, contains_nil, in_map}
-use Rattle.round_trip.specs.Words.{ForeignKey, Null, Row, Value, cells_of}
-use Rattle.row_changes.specs.Orders.{RefersTo}
+use Rattle.round_trip.specs.Words.{ForeignKey, Null, Value, cells_of}
 use Rattle.keyed_rows.specs.row_groups.KeyGroups.{AreKeyGroups, with_key}
 use Rattle.keyed_rows.specs.row_groups.Shown.{shown_cells, shown_group}
 use Rattle.keyed_rows.specs.declared.row_groups.groups.KeyGroup.{KeyGroup}
@@ -101,28 +100,35 @@ module _ (keyed : List (List Value × Part)) (groups : List (KeyGroup Part)) (ar
         between = other.2;
       }
 
+  -- each key of a part has a group
+  group_of : (cells : List Value) (part : Part) → Contains keyed (cells, part) → (group : KeyGroup Part) × Contains groups group × (shown_cells group.key ≡ cells)
+  group_of cells part has =
+      let Grouped : List Value × Part → Type 0 = λ one. Contains (map (λ (group : List Value × List Part). group.0) (map shown_group groups)) one.0 in
+      let shown = in_map (λ (group : List Value × List Part). group.0) (map shown_group groups) cells (All-contains Grouped keyed (cells, part) are.all has) in
+      let found = in_map shown_group groups shown.0 shown.1 in
+      (found.0, found.1, ap (λ (group : List Value × List Part). group.0) found.2 ∙ shown.2)
+
+  -- in which all parts of the key stand
+  among_own : (group : KeyGroup Part) → Contains groups group → (cells : List Value) → shown_cells group.key ≡ cells → (part : Part) → Contains keyed (cells, part)
+      → Contains group.items.items part
+  among_own group has cells same part stands =
+      let P : List Value → Type 0 = λ key. Contains keyed (key, part) in
+      let Q : List Part → Type 0 = λ parts. Contains parts part in
+      subst Q (sym (own_items group has)) (key_has keyed (shown_cells group.key) part (subst P (sym same) stands))
+
   -- and each such arrow stands in them
   pub pair_listed : (arrow : Arrow) → IsPair keyed arrow → Contains (arrows_in_groups groups) arrow
   pair_listed arrow pair =
-      let Key : List Value × List Part → List Value = λ one. one.0 in
-      let Grouped : List Value × Part → Type 0 = λ one. Contains (map (λ (group : List Value × List Part). group.0) (map shown_group groups)) one.0 in
-      let has_key = in_map (λ (group : List Value × List Part). group.0) (map shown_group groups) pair.cells
-      (All-contains Grouped keyed (pair.cells, pair.target) are.all pair.has_target) in
-      let found = in_map shown_group groups has_key.0 has_key.1 in
+      let found = group_of pair.cells pair.target pair.has_target in
       let group : KeyGroup Part = found.0 in
       let parts : List Part = group.items.items in
-      let same : shown_cells group.key ≡ pair.cells = ap (λ (one : List Value × List Part). one.0) found.2 ∙ has_key.2 in
-      let are_own : with_key keyed pair.cells ≡ parts = ap (with_key keyed) (sym same) ∙ sym (own_items group found.1) in
-      let target_among : Contains parts pair.target = let P : List Part → Type 0 = λ list. Contains list pair.target in
-      subst P are_own (key_has keyed pair.cells pair.target pair.has_target) in
-      let other_among : Contains parts pair.other = let P : List Part → Type 0 = λ list. Contains list pair.other in
-      subst P are_own (key_has keyed pair.cells pair.other pair.has_other) in
       let is_from : flat_map (arrows_between pair.target) parts ≡ arrows_from parts pair.target =
       ap (λ (b : Bool). if b then flat_map (arrows_between pair.target) parts else []) (sym pair.target_role) in
       let P : List Arrow → Type 0 = λ list. Contains list arrow in
       contains_flat_map (λ (one : KeyGroup Part). arrows_in one.items.items) groups group arrow found.1
-      (contains_flat_map (arrows_from parts) parts pair.target arrow target_among
-      (subst P is_from (contains_flat_map (arrows_between pair.target) parts pair.other arrow other_among pair.between)))
+      (contains_flat_map (arrows_from parts) parts pair.target arrow (among_own group found.1 pair.cells found.2 pair.target pair.has_target)
+      (subst P is_from (contains_flat_map (arrows_between pair.target) parts pair.other arrow
+      (among_own group found.1 pair.cells found.2 pair.other pair.has_other) pair.between)))
 
 module _ (key : ForeignKey) (alterations : List Alteration) where
   -- of a row that comes and one that refers to it
@@ -199,9 +205,21 @@ module _ (key : ForeignKey) (alterations : List Alteration) where
       let shows : Part = record { place = i; role = Refers } in
       let whole = are_values cells waits.refers.0 in
       let of_target : IsPart key alterations cells target = record {
-        one = other; at = at_other; row = waits.target; plays = (waits.to, waits.missing, waits.comes); whole = whole; are = sym waits.refers.1 } in
+        one = other;
+        at = at_other;
+        row = waits.target;
+        plays = (waits.to, waits.missing, waits.comes);
+        whole = whole;
+        are = sym waits.refers.1;
+      } in
       let of_other : IsPart key alterations cells shows = record {
-        one = one; at = at_one; row = waits.row; plays = (waits.from, waits.shows); whole = whole; are = refl } in
+        one = one;
+        at = at_one;
+        row = waits.row;
+        plays = (waits.from, waits.shows);
+        whole = whole;
+        are = refl;
+      } in
       let P : Bool → Type 0 = λ b. Contains (if b then [] else arrow_of i j ∷ []) (arrow_of i j) in
       record {
         cells = cells;
@@ -220,9 +238,21 @@ module _ (key : ForeignKey) (alterations : List Alteration) where
       let showed : Part = record { place = j; role = Referred } in
       let whole = are_values cells waits.refers.0 in
       let of_target : IsPart key alterations cells target = record {
-        one = one; at = at_one; row = waits.target; plays = (waits.to, waits.gone, waits.stood); whole = whole; are = sym waits.refers.1 } in
+        one = one;
+        at = at_one;
+        row = waits.target;
+        plays = (waits.to, waits.gone, waits.stood);
+        whole = whole;
+        are = sym waits.refers.1;
+      } in
       let of_other : IsPart key alterations cells showed = record {
-        one = other; at = at_other; row = waits.row; plays = (waits.from, waits.showed); whole = whole; are = refl } in
+        one = other;
+        at = at_other;
+        row = waits.row;
+        plays = (waits.from, waits.showed);
+        whole = whole;
+        are = refl;
+      } in
       let P : Bool → Type 0 = λ b. Contains (if b then [] else arrow_of i j ∷ []) (arrow_of i j) in
       record {
         cells = cells;

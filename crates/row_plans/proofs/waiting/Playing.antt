@@ -1,18 +1,18 @@
 -- Which row plays a role for a foreign key, and which parts stand in the list of all.
-use Rattle.std.proofs.Common.{◌≡◌, ◌≢◌, ⊎_elim, ℕ, List, [], ◌∷◌, map, All, Bool, true, false, Contains, Option, Some, None, get_or, refl, sym, ap, subst, ◌∙◌, nat_eq, eqb-true, eq-eqb}
+use Rattle.std.proofs.Common.{◌≡◌, ◌≢◌, ⊎_elim, ℕ, List, [], ◌∷◌, All, Bool, true, false, Contains, Option, Some, None, get_or, refl, sym, ap, subst, ◌∙◌, nat_eq, eqb-true, eq-eqb}
 use Rattle.std.specs.Prelude.{if◌then◌else◌}
-use Rattle.std.specs.List.{enumerate_from, flat_map, list_all}
+use Rattle.std.specs.List.{enumerate_from, list_all}
 use Rattle.std.proofs.lemmas.List.Sums.{AllPass-from_list_all, list_all-from_AllPass}
 use Rattle.emc_base.specs.Lists.{At}
 use Rattle.emc_base.proofs.FoundItems.{contains_flat_map}
 use Rattle.emc_base.proofs.Joined.{in_flat_map}
 use Rattle.emc_base.proofs.Mapped.{contains_at, contains_enumerated}
-use Rattle.emc_base.proofs.Members.{contains_cons_cases, contains_head, contains_nil, contains_tail}
+use Rattle.emc_base.proofs.Members.{contains_cons_cases, contains_head, contains_nil}
 use Rattle.emc_base.proofs.Numbered.{enumerated_at}
 use Rattle.round_trip.specs.Words.{ForeignKey, Row, TableId, Value, Null, Whole, Flag, Text, Bytes, cells_of}
 use Rattle.row_orders.specs.declared.alteration.Alteration.{Alteration}
 use Rattle.row_orders.specs.Alterations.{new_row, old_row}
-use Rattle.row_plans.specs.Roles.{all_parts, all_roles, cols_in, is_value, part_by, part_with, parts_at, parts_in, row_by, row_in, table_in}
+use Rattle.row_plans.specs.Roles.{all_parts, all_roles, cols_in, is_value, part_by, part_with, parts_at, parts_in, row_by, row_in}
 use Rattle.row_plans.specs.declared.waiting.parts.Part.{Part}
 use Rattle.row_plans.specs.declared.waiting.parts.Role.{Role}
 use Rattle.row_plans.specs.declared.waiting.parts.Role.TheVariants.{Comes, Refers, Goes, Referred}

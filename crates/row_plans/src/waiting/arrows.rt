@@ -79,8 +79,14 @@ fn add_between(arrows: &mut Vec<Arrow>, target: Part, other: Part) -> Result<(),
         return Ok(());
     }
     match (target.role, other.role) {
-        (Role::Comes, Role::Refers) => arrows.push(Arrow { from: other.place, to: target.place })?,
-        (Role::Goes, Role::Referred) => arrows.push(Arrow { from: target.place, to: other.place })?,
+        (Role::Comes, Role::Refers) => arrows.push(Arrow {
+            from: other.place,
+            to: target.place,
+        })?,
+        (Role::Goes, Role::Referred) => arrows.push(Arrow {
+            from: target.place,
+            to: other.place,
+        })?,
         _ => (),
     }
     Ok(())

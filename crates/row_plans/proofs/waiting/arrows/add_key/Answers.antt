@@ -1,4 +1,4 @@
-use Rattle.std.proofs.Common.{◌≡◌, ◌++◌, List, ap, map, sym, subst, ◌∙◌}
+use Rattle.std.proofs.Common.{◌≡◌, ◌++◌, List, ap, map, subst, ◌∙◌}
 use Rattle.std.proofs.lemmas.Result.{IfOk-weaker}
 use Rattle.keyed_rows.specs.row_groups.KeyGroups.{AreKeyGroups}
 use Rattle.keyed_rows.specs.row_groups.Shown.{shown_group}
@@ -21,5 +21,5 @@ returns c =
     let are : AreKeyGroups (all_parts key alterations) (map shown_group groups) = subst P c.in_ok-parts.ensures c.in_ok-groups.ensures in
     IfOk-weaker c.add_groups.result (λ _. after ≡ before ++ arrows_in_groups c.deref.result.now) (λ _. AddsArrows key alterations before after)
     (λ _ is. adds_arrows alterations key before (arrows_in_groups groups) after (arrows_are_waits key alterations groups are)
-      (is ∙ ap (λ list. before ++ arrows_in_groups list) c.deref.ensures.value))
+    (is ∙ ap (λ list. before ++ arrows_in_groups list) c.deref.ensures.value))
     c.add_groups.ensures

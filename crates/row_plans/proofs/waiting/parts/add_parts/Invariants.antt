@@ -1,7 +1,7 @@
 use Rattle.std.proofs.Common.{◌≡◌, ◌++◌, map, take}
 use Rattle.std.specs.List.{flat_map}
 use Rattle.keyed_rows.specs.row_groups.Shown.{shown_keyed}
-use Rattle.row_plans.specs.Roles.{all_roles, parts_in}
+use Rattle.row_plans.specs.Roles.{parts_in}
 use Rattle.row_plans.proofs.waiting.parts.add_parts.Given as goal
 
 -- the parts in the roles so far are added

@@ -1,4 +1,4 @@
-use Rattle.std.proofs.Common.{ap, map, refl, sym, ◌∙◌, ◌+◌, ℕ}
+use Rattle.std.proofs.Common.{ap, map, ◌∙◌, ℕ}
 use Rattle.std.specs.List.{enumerate_from, flat_map}
 use Rattle.emc_base.proofs.Loops.{at_enumerated, take-enumerated}
 use Rattle.keyed_rows.specs.row_groups.Shown.{shown_keyed}
