@@ -41,7 +41,10 @@ apart_test m n apart = by_value (nat_eq m n) refl
     by_value false is = is
 
 only_one : (arrow other : Arrow) → Contains (arrow ∷ []) other → other ≡ arrow
-only_one arrow other has = ⊎_elim (λ (is : other ≡ arrow). is) (λ (no_more : Contains [] other). absurd (contains_nil other no_more)) (contains_cons_cases arrow [] other has)
+only_one arrow other has = ⊎_elim
+    (λ (is : other ≡ arrow). is)
+    (λ (no_more : Contains [] other). absurd (contains_nil other no_more))
+    (contains_cons_cases arrow [] other has)
 
 -- which roles an arrow stands between, and where it leads
 pub data IsBetween (target other : Role) (m n : ℕ) (arrow : Arrow) : Type 0 where
@@ -271,6 +274,7 @@ module _ (key : ForeignKey) (alterations : List Alteration) where
       waits.by_key
 
   -- the arrows in groups of all parts
-  pub arrows_are_waits : (groups : List (KeyGroup Part)) → AreKeyGroups parts (map shown_group groups) → (i j : ℕ) → HasArrow (arrows_in_groups groups) i j ↔ WaitsBy key alterations i j
+  pub arrows_are_waits : (groups : List (KeyGroup Part)) → AreKeyGroups parts (map shown_group groups) → (i j : ℕ)
+      → HasArrow (arrows_in_groups groups) i j ↔ WaitsBy key alterations i j
   arrows_are_waits groups are i j =
       (λ has. waits_by (arrow_of i j) (is_pair parts groups are (arrow_of i j) has), λ waits. pair_listed parts groups are (arrow_of i j) (pair_of i j waits))

@@ -104,7 +104,8 @@ module _ (key : ForeignKey) where
 
     -- what stands among the parts of one row
     in_part_by : (found : Option Row) (given part : Part) (cells : List Value) → Contains (part_by key found given) (cells, part)
-        → (row : Row) × (found ≡ Some row) × (list_all is_value (cells_of row (cols_in key given.role)) ≡ true) × (cells ≡ cells_of row (cols_in key given.role)) × (part ≡ given)
+        → (row : Row) × (found ≡ Some row) × (list_all is_value (cells_of row (cols_in key given.role)) ≡ true)
+        × (cells ≡ cells_of row (cols_in key given.role)) × (part ≡ given)
     in_part_by None given part cells has = absurd (contains_nil (cells, part) has)
     in_part_by (Some row) given part cells has =
         let own : List Value = cells_of row (cols_in key given.role) in

@@ -14,16 +14,20 @@ ends_by_place-requires c =
 
 pub returns-clause-tells : goal.returns-clause-tells
 returns-clause-tells c =
+    let keys = c.args.store.now.keys in
+    let alterations = c.args.alterations.now in
     let arrows : List Arrow = c.deref.result.now in
-    let P : List Arrow → Type 0 = λ list. AreArrowsBy c.args.store.now.keys c.args.alterations.now list in
-    IfOk-weaker c.ends_by_place.result (λ ends. AreEnds (length c.args.alterations.now) arrows ends.items) (λ ends. TellWaits c.args.store.now.keys c.args.alterations.now ends.items)
-    (λ ends listed. tell_waits c.args.alterations.now c.args.store.now.keys arrows (subst P (sym c.deref.ensures.value) c.in_ok-arrows.ensures) ends.items listed)
-    c.ends_by_place.ensures
+    let P : List Arrow → Type 0 = λ list. AreArrowsBy keys alterations list in
+    let are = subst P (sym c.deref.ensures.value) c.in_ok-arrows.ensures in
+    IfOk-weaker c.ends_by_place.result (λ ends. AreEnds (length alterations) arrows ends.items) (λ ends. TellWaits keys alterations ends.items)
+    (λ ends listed. tell_waits alterations keys arrows are ends.items listed) c.ends_by_place.ensures
 
 pub returns-clause-within : goal.returns-clause-within
 returns-clause-within c =
+    let keys = c.args.store.now.keys in
+    let alterations = c.args.alterations.now in
     let arrows : List Arrow = c.deref.result.now in
-    let P : List Arrow → Type 0 = λ list. AreArrowsBy c.args.store.now.keys c.args.alterations.now list in
-    IfOk-weaker c.ends_by_place.result (λ ends. AreEnds (length c.args.alterations.now) arrows ends.items) (λ ends. EndWithin ends.items)
-    (λ ends listed. end_within c.args.alterations.now c.args.store.now.keys arrows (subst P (sym c.deref.ensures.value) c.in_ok-arrows.ensures) ends.items listed)
-    c.ends_by_place.ensures
+    let P : List Arrow → Type 0 = λ list. AreArrowsBy keys alterations list in
+    let are = subst P (sym c.deref.ensures.value) c.in_ok-arrows.ensures in
+    IfOk-weaker c.ends_by_place.result (λ ends. AreEnds (length alterations) arrows ends.items) (λ ends. EndWithin ends.items)
+    (λ ends listed. end_within alterations keys arrows are ends.items listed) c.ends_by_place.ensures
