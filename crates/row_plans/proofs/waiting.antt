@@ -1,0 +1,7 @@
+mod Collected
+mod Fitting
+mod Given
+mod Listed
+mod OfKey
+mod Paired
+mod Playing
