@@ -1,15 +1,13 @@
 -- Arrows from alterations to those that they wait for.
 -- Source: SSDL version 3, ReferentialConstraint; foreign keys that are checked at each statement.
-use Rattle.std.specs.Prelude.{◌≡◌, ◌≢◌, ◌⊎◌, ◌↔◌, ◌++◌, ℕ, List, [], ◌∷◌, length, All, Bool, true, false, Contains, Some, get_or, set, if◌then◌else◌}
+use Rattle.std.specs.Prelude.{◌≡◌, ◌≢◌, ◌⊎◌, ◌↔◌, ◌++◌, ℕ, List, [], ◌∷◌, length, Bool, true, false, Contains, get_or, set, if◌then◌else◌}
 use Rattle.std.specs.List.{flat_map}
 use Rattle.std.specs.Prelude.{nat_eq}
 use Rattle.emc_base.specs.Lists.{At}
-use Rattle.round_trip.specs.Words.{ForeignKey, Row, StoreModel, TableId}
-use Rattle.round_trip.specs.soundness.Lookups.{columns_of}
+use Rattle.round_trip.specs.Words.{ForeignKey}
 use Rattle.arrow_orders.specs.Orders.{Waits}
 use Rattle.keyed_rows.specs.declared.row_groups.groups.KeyGroup.{KeyGroup}
 use Rattle.row_orders.specs.declared.alteration.Alteration.{Alteration}
-use Rattle.row_orders.specs.Alterations.{new_row, old_row}
 use Rattle.row_orders.specs.Waiting.{WaitsFor, WaitsToGo, WaitsToRefer}
 pub use Rattle.row_plans.specs.Lengths.{AreAsLong, HasLongRows, IsAsLong}
 use Rattle.row_plans.specs.declared.waiting.arrows.Arrow.{Arrow}
