@@ -103,7 +103,7 @@ module _ (is_free : ColId → Bool) (table : Table) (old fresh : List Row) (grou
     has : Contains fresh one
     kept : IsKeptRow (Free is_free table old fresh) table old one row
     own : row_key table one ≡ key_of group
-    long : length row.cells ≡ length table.cols
+    cells : length row.cells ≡ length table.cols
 
   module _ (group : KeyGroup SidedRow) (there : Contains groups group) where
     given : (one two : Option (Bor Row)) → first_of Before group.items.items ≡ one → first_of Afterwards group.items.items ≡ two → (row : Row) → Contains (kept_by is_free one two) row
@@ -118,7 +118,7 @@ module _ (is_free : ColId → Bool) (table : Table) (old fresh : List Row) (grou
             kept = subst (IsKeptRow (Free is_free table old fresh) table old new.now) (sym is)
                 (with_held is_free table old fresh long fresh_long apart held.now new.now was.0 now.0 (was.1 ∙ sym now.1));
             own = now.1;
-            long = ap (λ (it : Row). length it.cells) is ∙ kept_long is_free held.now new.now (is_long old long held.now was.0 ∙ sym (is_long fresh fresh_long new.now now.0))
+            cells = ap (λ (it : Row). length it.cells) is ∙ kept_long is_free held.now new.now (is_long old long held.now was.0 ∙ sym (is_long fresh fresh_long new.now now.0))
                 ∙ is_long fresh fresh_long new.now now.0;
           }))
         (λ (never : Contains [] row). absurd (contains_nil row never))
@@ -132,7 +132,7 @@ module _ (is_free : ColId → Bool) (table : Table) (old fresh : List Row) (grou
             kept = subst (IsKeptRow (Free is_free table old fresh) table old new.now) (sym is)
                 (without_held is_free table old fresh new.now (λ before stands same. none_before table.key old fresh groups are group there first before stands (same ∙ now.1)));
             own = now.1;
-            long = ap (λ (it : Row). length it.cells) is ∙ is_long fresh fresh_long new.now now.0;
+            cells = ap (λ (it : Row). length it.cells) is ∙ is_long fresh fresh_long new.now now.0;
           }))
         (λ (never : Contains [] row). absurd (contains_nil row never))
         (contains_cons_cases new.now [] row has)
@@ -174,7 +174,7 @@ module _ (is_free : ColId → Bool) (table : Table) (old fresh : List Row) (grou
         (given.0, contains_flat_map (kept_of is_free) groups found.0 given.0 found.1 given.1,
           subst (λ (one : Row). IsKeptRow (Free is_free table old fresh) table old one given.0) same is.kept));
     long = all_from_members (λ (row : Row). length row.cells ≡ length table.cols) (flat_map (kept_of is_free) groups) (λ row has.
-        (let from = in_flat_map (kept_of is_free) groups row has in let is = is_given from.0 from.1 row from.2 in is.long));
+        (let from = in_flat_map (kept_of is_free) groups row has in let is = is_given from.0 from.1 row from.2 in is.cells));
     rising = pairs_of_flat_map (λ (one later : KeyGroup SidedRow). slice_cmp value_cmp (key_of one) (key_of later) ≡ Less)
         (λ (one later : Row). slice_cmp value_cmp (row_key table one) (row_key table later) ≡ Less) (kept_of is_free) groups are.rising
         (λ group. one_kept (first_of Before group.items.items) (first_of Afterwards group.items.items))

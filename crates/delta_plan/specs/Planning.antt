@@ -21,8 +21,10 @@ use Rattle.delta_plan.specs.Units.{count_at}
 use Rattle.delta_plan.specs.declared.planning.PlanFault.{PlanFault}
 use Rattle.delta_plan.specs.declared.planning.PlanFault.TheVariants as fault
 
--- tables that hold the rows of a state, before, and the rows of another, afterwards: the states differ only at what is touched
-pub record MayBePlanned (gives : Giving) (model : EntityModel) (store : StoreModel) (cells : Cells) (tables : Tables) (touched : Touched) (before after : State) : Type 0 where
+-- the tables hold the rows of a state, before, but for free cells; another state follows, which differs from it only at what is touched; and the kept
+-- tables hold the rows of this, with free columns kept
+pub record MayBePlanned (gives : Giving) (model : EntityModel) (store : StoreModel) (cells : Cells) (tables : Tables) (touched : Touched) (before after : State)
+    (old_rows new_rows kept : Tables) : Type 0 where
   pub sound : IsSoundStore store
   pub cover : CoverModel model cells
   pub old_legal : IsLegal model before
@@ -30,20 +32,20 @@ pub record MayBePlanned (gives : Giving) (model : EntityModel) (store : StoreMod
   pub differ : DifferOnlyAt model cells touched before after
   pub keys_once : AreApart touched.entities
   pub links_once : AreApart touched.links
-  -- no two rows that the views give have one key
-  pub old_rows : Tables
+  -- no two rows that the views give for a state have one key
   pub are_old : AreTablesOf store (rows_of gives model cells before) old_rows
   pub old_apart : HaveRowsApart store old_rows
-  pub new_rows : Tables
   pub are_new : AreTablesOf store (rows_of gives model cells after) new_rows
   pub new_apart : HaveRowsApart store new_rows
-  -- the tables are legal, and those of the state before but for what free cells hold
   pub legal : AreLegalTables store tables
   pub same : AreSameButFree store (is_free_in cells) tables old_rows
-  -- those of the state afterwards, with free columns kept
-  pub kept : Tables
   pub keeps : KeepsFree store (Free cells) tables new_rows kept
   pub kept_legal : AreLegalTables store kept
+
+-- there are such rows and such tables
+abbrev pub CanBePlanned : Giving → EntityModel → StoreModel → Cells → Tables → Touched → State → State → Type 0
+CanBePlanned gives model store cells tables touched before after =
+    (old_rows new_rows kept : Tables) × MayBePlanned gives model store cells tables touched before after old_rows new_rows kept
 
 -- what is told of a plan: of its steps or its cycle; want of memory is free
 abbrev pub TellsSteps : (RowPlan → Type 0) → Result (List RowChange) PlanFault → Type 0
@@ -51,9 +53,10 @@ TellsSteps P (Ok changes) = P (Steps changes)
 TellsSteps P (Err (fault.Circular ring)) = P (Circular ring)
 TellsSteps P (Err fault.Memory) = ⊤
 
--- a plan that leads from the tables to the kept ones of the state afterwards
-abbrev pub LeadsToKept : StoreModel → Cells → Tables → Tables → RowPlan → Type 0
-LeadsToKept store cells tables new_rows plan = (kept : Tables) → KeepsFree store (Free cells) tables new_rows kept → IsPlan store tables kept plan
+-- a plan that leads from the tables to the kept ones
+abbrev pub LeadsToKept : Giving → EntityModel → StoreModel → Cells → Tables → Touched → State → State → RowPlan → Type 0
+LeadsToKept gives model store cells tables touched before after plan = (old_rows new_rows kept : Tables)
+    → MayBePlanned gives model store cells tables touched before after old_rows new_rows kept → IsPlan store tables kept plan
 
 -- the views were asked once for each entity at a touched key, before and afterwards; and no more often at any answer
 abbrev pub AsksOnce : EntityModel → Touched → State → State → ℕ → ℕ → RowPlan → Type 0

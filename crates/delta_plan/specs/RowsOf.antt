@@ -9,7 +9,8 @@ use Rattle.table_owners.specs.declared.places.LinkPlace.{LinkPlace}
 use Rattle.table_owners.specs.declared.places.LinkPlace.TheVariants as place
 use Rattle.cells.specs.declared.cells.Cells.{Cells}
 use Rattle.cells.specs.HostedLinks.{hosted_links}
-use Rattle.delta_plan.specs.Units.{Unit, of_entity, of_link, units_of}
+use Rattle.entity_changes.specs.declared.touched.Touched.{Touched}
+use Rattle.delta_plan.specs.Units.{Unit, is_touched, of_entity, of_link, units_of}
 
 -- what views give: the rows of an entity with the links that it hosts, and the row of each link of an association set that has rows of its own
 pub record Giving : Type 0 where
@@ -27,9 +28,12 @@ module _ (gives : Giving) (model : EntityModel) (cells : Cells) (state : State) 
   unit_rows (of_entity s entity) = gives.local s entity (hosted_links model cells state s (key_of model entity))
   unit_rows (of_link a link) = link_rows (unwrap_or (slice_get cells.places a.index) place.Unmapped) (gives.joined a) link
 
-  -- the rows of the state
+  -- the rows of the state, and those of what is touched in it
   abbrev pub rows_of : List TableRow
   rows_of = flat_map unit_rows (units_of state)
+
+  abbrev pub touched_rows : Touched → List TableRow
+  touched_rows touched = flat_map unit_rows (filter (is_touched model touched) (units_of state))
 
 -- the rows that name a table
 abbrev pub named : TableId → List TableRow → List Row
