@@ -1,6 +1,6 @@
 -- Rows at the keys of others, and rows in whose free cells stands what tables hold.
 -- Source: this project's.
-use Rattle.std.specs.Prelude.{◌≡◌, ℕ, List, [], ◌∷◌, All, AllPairs, Contains, length, Bool, IsTrue, Option, Some, None, map, unwrap_or, slice_get, if◌then◌else◌}
+use Rattle.std.specs.Prelude.{◌≡◌, ◌<◌, ℕ, List, [], ◌∷◌, All, AllPairs, Contains, length, Bool, IsTrue, Option, Some, None, map, unwrap_or, slice_get, if◌then◌else◌}
 use Rattle.std.specs.Borrow.{Bor}
 use Rattle.std.specs.Cmp.Lexicographic.{slice_cmp}
 use Rattle.std.specs.List.{enumerate_from}
@@ -8,6 +8,7 @@ use Rattle.std.specs.declared.cmp.Ordering.TheVariants.{Less}
 use Rattle.emc_base.specs.Lists.{At}
 use Rattle.emc_base.specs.Order.{value_cmp}
 use Rattle.round_trip.specs.Words.{AreTables, ColId, IsKeptRow, Row, StoreModel, Table, TableId, Tables, Value, cells_of, row_key, rows_in}
+use Rattle.table_files.specs.InOrder.{AreToldApartBy}
 use Rattle.cells.specs.Cells.{is_free_in}
 use Rattle.cells.specs.declared.cells.Cells.{Cells}
 use Rattle.keyed_rows.specs.declared.row_groups.groups.KeyGroup.{KeyGroup}
@@ -22,6 +23,14 @@ Free cells t col = IsTrue (is_free_in cells t col)
 -- the keys rise
 abbrev pub HaveRisingKeys : List ColId → List Row → Type 0
 HaveRisingKeys key rows = AllPairs (λ one later. slice_cmp value_cmp (cells_of one key) (cells_of later key) ≡ Less) rows
+
+-- rows of one table, old and new ones: each has a cell for each column, and none has the key of another of its list
+pub record AreRowsOf (table : Table) (old new : List Row) : Type 0 where
+  pub within : All (λ col. col.index < length table.cols) table.key
+  pub old_long : All (λ row. length row.cells ≡ length table.cols) old
+  pub new_long : All (λ row. length row.cells ≡ length table.cols) new
+  pub old_apart : AreToldApartBy table.key old
+  pub new_apart : AreToldApartBy table.key new
 
 -- of the rows of a table those that have the key of a wanted one
 pub record AreHeldRows (key : List ColId) (old wanted held : List Row) : Type 0 where

@@ -1,10 +1,9 @@
-ghost use Rattle.std.specs.Prelude.{◌≡◌, ◌<◌, ◌++◌, All, IfOk, length};
+ghost use Rattle.std.specs.Prelude.{◌≡◌, ◌++◌, IfOk};
 ghost use Rattle.std.specs.List.{flat_map};
-ghost use Rattle.table_files.specs.InOrder.{AreToldApartBy};
 ghost use Rattle.delta_plan.specs.Keeping.{Free};
 ghost use Rattle.cells.specs.Cells.{is_free_in};
 ghost use Rattle.row_plans.specs.Plans.{AreKeyed};
-ghost use Rattle.delta_plan.specs.Keeping.{AreHeldRows, AreKeptRows, HoldsHeld, HoldsKept, held_of, kept_cell, kept_cells, kept_of};
+ghost use Rattle.delta_plan.specs.Keeping.{AreHeldRows, AreKeptRows, AreRowsOf, HoldsHeld, HoldsKept, held_of, kept_cell, kept_cells, kept_of};
 
 use cells::Cells;
 use edm_types::{Row, StoreModel, Table};
@@ -46,10 +45,7 @@ fn held_in(
     old: &[Row],
     wanted: &[Row],
 ) -> Result<Seq<Row>, Memory>
-    requires within { All (λ col. col.index < length table.now.cols) table.now.key }
-    requires old { All (λ row. length row.cells ≡ length table.now.cols) old.now }
-    requires wanted { All (λ row. length row.cells ≡ length table.now.cols) wanted.now }
-    requires apart { AreToldApartBy table.now.key old.now }
+    requires { AreRowsOf table.now old.now wanted.now }
     ensures { IfOk result (AreHeldRows table.now.key old.now wanted.now) }
 {
     if wanted.is_empty() {
@@ -129,11 +125,7 @@ fn kept_in(
     old: &[Row],
     fresh: &[Row],
 ) -> Result<Seq<Row>, Memory>
-    requires within { All (λ col. col.index < length table.now.cols) table.now.key }
-    requires old { All (λ row. length row.cells ≡ length table.now.cols) old.now }
-    requires fresh { All (λ row. length row.cells ≡ length table.now.cols) fresh.now }
-    requires apart { AreToldApartBy table.now.key old.now }
-    requires fresh_apart { AreToldApartBy table.now.key fresh.now }
+    requires { AreRowsOf table.now old.now fresh.now }
     ensures { IfOk result (AreKeptRows (Free cells.now id) table.now old.now fresh.now) }
 {
     if fresh.is_empty() {

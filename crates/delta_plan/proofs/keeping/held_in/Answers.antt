@@ -12,4 +12,4 @@ returns c =
     let wanted = c.args.wanted.now in
     let Held : List Row → Type 0 = AreHeldRows key old wanted in
     let Groups : List ColId → Type 0 = λ cols. AreRowGroups cols old wanted c.in_ok-groups.groups.items in
-    subst Held (sym (c.in_ok-rows.ensures ∙ ap (flat_map held_of) c.as_slice-2.ensures.value)) (are_held key old wanted c.in_ok-groups.groups.items (subst Groups c.as_slice.ensures.items c.in_ok-groups.ensures) c.requires.apart)
+    subst Held (sym (c.in_ok-rows.ensures ∙ ap (flat_map held_of) c.as_slice-2.ensures.value)) (are_held key old wanted c.in_ok-groups.groups.items (subst Groups c.as_slice.ensures.items c.in_ok-groups.ensures) c.requires.old_apart)
