@@ -4,3 +4,4 @@ pub mod Groups
 pub mod KeptCells
 pub mod Kept
 pub mod Tabled
+pub mod Gathered

@@ -2,6 +2,7 @@
 #![tactic(auto)]
 
 mod asking;
+mod gathering;
 mod keeping;
 mod marked;
 mod marks;
