@@ -5,3 +5,4 @@ pub mod KeptCells
 pub mod Kept
 pub mod Tabled
 pub mod Gathered
+pub mod Asked

@@ -17,6 +17,9 @@ pub record Giving : Type 0 where
   pub local : SetId → Entity → List Hosted → List TableRow
   pub joined : AssocId → Option (Link → TableRow)
 
+abbrev pub giving : (SetId → Entity → List Hosted → List TableRow) → (AssocId → Option (Link → TableRow)) → Giving
+giving local joined = record { local = local; joined = joined }
+
 -- the row of a link by where the links of its association set stand: only a joined one has a row of its own
 abbrev pub link_rows : LinkPlace → Option (Link → TableRow) → Link → List TableRow
 link_rows (place.Joined number) joined link = option_map_or (λ of. of link ∷ []) joined []
