@@ -6,3 +6,4 @@ pub mod Kept
 pub mod Tabled
 pub mod Gathered
 pub mod Asked
+pub mod Keyed

@@ -13,8 +13,8 @@ use Rattle.entity_changes.specs.Touching.{DifferOnlyAt}
 use Rattle.row_changes.specs.declared.change.RowChange.{RowChange}
 use Rattle.row_plans.specs.declared.plan.RowPlan.{RowPlan}
 use Rattle.row_plans.specs.declared.plan.RowPlan.TheVariants.{Steps, Circular}
-use Rattle.row_plans.specs.Plans.{IsPlan}
-use Rattle.delta_plan.specs.Keeping.{Free}
+use Rattle.row_plans.specs.Plans.{IsPlan, TellsPlan}
+use Rattle.delta_plan.specs.Keeping.{Free, HoldsHeld, HoldsKept}
 use Rattle.delta_plan.specs.RowsOf.{AreTablesOf, Giving, rows_of}
 use Rattle.delta_plan.specs.Steps.{RoseAtMost, raised}
 use Rattle.delta_plan.specs.Units.{count_at}
@@ -61,3 +61,11 @@ LeadsToKept gives model store cells tables touched before after plan = (old_rows
 -- the views were asked once for each entity at a touched key, before and afterwards; and no more often at any answer
 abbrev pub AsksOnce : EntityModel → Touched → State → State → ℕ → ℕ → RowPlan → Type 0
 AsksOnce model touched before after old now plan = now ≡ raised (count_at model touched before + count_at model touched after) old
+
+-- a plan from the rows that stand where some are asked for to wanted ones with what those hold in free cells
+pub record IsPlanOfAsked (store : StoreModel) (cells : Cells) (tables asked wanted : Tables) (plan : RowPlan) : Type 0 where
+  pub held : Tables
+  pub is_held : HoldsHeld store tables asked held
+  pub kept : Tables
+  pub is_kept : HoldsKept store cells held wanted kept
+  pub tells : TellsPlan store held kept plan

@@ -8,4 +8,4 @@ mod marked;
 mod marks;
 mod planning;
 
-pub use planning::PlanFault;
+pub use planning::{PlanFault, plan};

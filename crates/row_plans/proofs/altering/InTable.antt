@@ -40,7 +40,7 @@ pub record AreAlterationsIn (store : StoreModel) (old new : Tables) (t : TableId
   pub once : AllPairs (λ one later. whose store one ≢ whose store later) alterations
 
 -- a key isn't below itself
-not_below : (x y : List Value) → slice_cmp value_cmp x y ≡ Less → x ≢ y
+pub not_below : (x y : List Value) → slice_cmp value_cmp x y ≡ Less → x ≢ y
 not_below x y less same = equal_is_not (sym (ap (slice_cmp value_cmp x) (sym same) ∙ tied_itself key_cmp_total x) ∙ less)
   where
     equal_is_not : ¬ (Equal ≡ Less)
