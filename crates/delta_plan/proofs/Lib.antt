@@ -3,3 +3,4 @@ pub mod Stepped
 pub mod Groups
 pub mod KeptCells
 pub mod Kept
+pub mod resting
