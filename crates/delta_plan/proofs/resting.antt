@@ -1,2 +1,4 @@
 pub mod Shares
 pub mod Asked
+pub mod Members
+pub mod Staying
