@@ -2,3 +2,5 @@ pub mod Shares
 pub mod Asked
 pub mod Members
 pub mod Staying
+pub mod Splits
+pub mod Alike
