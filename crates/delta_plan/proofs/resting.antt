@@ -4,3 +4,5 @@ pub mod Members
 pub mod Staying
 pub mod Splits
 pub mod Alike
+pub mod Left
+pub mod OneRest

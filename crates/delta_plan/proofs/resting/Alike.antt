@@ -2,6 +2,10 @@
 use Rattle.std.proofs.Common.{◌≡◌, ◌≢◌, ◌⊎◌, ◌<◌, ◌∙◌, ⊎_elim, ℕ, zero, suc, List, [], ◌∷◌, map, length, All, Bool, IsTrue, true, false, true≢false, Contains, Option, Some, slice_get, unwrap_or, refl, sym, ap, subst, arith}
 use Rattle.std.specs.List.{AllZip}
 use Rattle.std.proofs.lemmas.List.Elements.{All-contains}
+use Rattle.std.proofs.lemmas.Option.{slice_get-get_or}
+use Rattle.emc_base.specs.Lists.{At}
+use Rattle.emc_base.proofs.Mapped.{contains_at}
+use Rattle.emc_base.proofs.facts.Zipped.{zipped_left, zipped_right}
 use Rattle.round_trip.specs.Words.{ColId, IsErasedRow, IsKeptRow, Null, Row, Table, Value, cell_of, cells_of, row_key}
 
 -- lists of one length that hold the same at each place
@@ -48,3 +52,14 @@ module _ (is_free : ColId → Bool) where
   -- an erased row has the same key, where no column of it is free
   pub erased_key : (key : List ColId) → All (λ col. is_free col ≡ false) key → (row erased : Row) → IsErasedRow Free row erased → cells_of erased key ≡ cells_of row key
   erased_key key kept row erased is = same_key_cells key erased row (λ k d within. is.rest _ (not_free _ (kept k d within)))
+
+module _ {X Y : Type 0} (R : X → Y → Type 0) where
+  at_member : {Z : Type 0} (zs : List Z) (z : Z) → (has : Contains zs z) → At zs has.0 z
+  at_member zs z has = slice_get-get_or zs has.0 z has.1 ∙ ap Some has.2
+
+  -- beside a member of the one list stands one of the other
+  pub beside_left : (xs : List X) (ys : List Y) → AllZip R xs ys → (x : X) → Contains xs x → (y : Y) × Contains ys y × R x y
+  beside_left xs ys zipped x has = let found = zipped_left R xs ys zipped has.0 x (at_member xs x has) in (found.0, contains_at ys has.0 found.0 found.1, found.2)
+
+  pub beside_right : (xs : List X) (ys : List Y) → AllZip R xs ys → (y : Y) → Contains ys y → (x : X) × Contains xs x × R x y
+  beside_right xs ys zipped y has = let found = zipped_right R xs ys zipped has.0 y (at_member ys y has) in (found.0, contains_at xs has.0 found.0 found.1, found.2)
