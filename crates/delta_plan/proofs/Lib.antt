@@ -7,3 +7,4 @@ pub mod Tabled
 pub mod Gathered
 pub mod Asked
 pub mod Keyed
+pub mod resting

@@ -7,7 +7,7 @@ use Rattle.round_trip.specs.soundness.Stores.{IsSoundStore}
 use Rattle.cells.specs.declared.cells.Cells.{Cells}
 use Rattle.cells.specs.Cells.{is_free_in}
 use Rattle.cells.specs.Parts.{CoverModel}
-use Rattle.keyed_rows.specs.row_differences.SameButFree.{AreSameButFree, HaveRowsApart}
+use Rattle.keyed_rows.specs.row_differences.SameButFree.{AreSameButFree, HasKeptKeys, HaveRowsApart}
 use Rattle.entity_changes.specs.declared.touched.Touched.{Touched}
 use Rattle.entity_changes.specs.Touching.{DifferOnlyAt}
 use Rattle.row_changes.specs.declared.change.RowChange.{RowChange}
@@ -27,6 +27,8 @@ pub record MayBePlanned (gives : Giving) (model : EntityModel) (store : StoreMod
     (old_rows new_rows kept : Tables) : Type 0 where
   pub sound : IsSoundStore store
   pub cover : CoverModel model cells
+  -- no column of a primary key is free
+  pub keys_kept : HasKeptKeys store (is_free_in cells)
   pub old_legal : IsLegal model before
   pub new_legal : IsLegal model after
   pub differ : DifferOnlyAt model cells touched before after
