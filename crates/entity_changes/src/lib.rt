@@ -1,8 +1,11 @@
 //! Changes of entities and links, one after the other: the state that they lead to, the first that is refused, and what they touch.
 #![tactic(auto)]
 
+mod making;
 mod change;
+mod spots;
 mod touched;
 
+pub use making::{ApplyFault, apply};
 pub use change::{Change, Reason};
 pub use touched::Touched;

@@ -1,0 +1,3 @@
+pub mod Afterwards
+mod Kept
+pub mod SpotOrder

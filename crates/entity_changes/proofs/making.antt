@@ -1,0 +1,6 @@
+mod Become
+mod Known
+mod Put
+mod Taken
+mod Told
+mod TypesOf

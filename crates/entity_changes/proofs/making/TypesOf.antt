@@ -1,0 +1,149 @@
+-- What is known of types, as entities come, go and are replaced.
+use Rattle.std.proofs.Common.{◌≡◌, ◌≢◌, ◌↔◌, ◌==◌, ◌⊎◌, ⊎_elim, inl, inr, List, [], ◌∷◌, ◌++◌, map, filter, Contains, Option, None, Some, Bool, true, false, not, if◌then◌else◌, refl, sym, ap, subst, ◌∙◌}
+use Rattle.std.proofs.lemmas.Bool.Decides.{Decides-eqb}
+use Rattle.std.proofs.lemmas.List.Elements.{Contains-append_cases, Contains-append_left, Contains-append_right}
+use Rattle.emc_base.proofs.Mapped.{contains_filter, contains_map}
+use Rattle.emc_base.proofs.Members.{contains_head, contains_nil}
+use Rattle.emc_base.proofs.Lists.{only_member}
+use Rattle.emc_base.proofs.Numbered.{filter_contains, map_contains}
+use Rattle.round_trip.specs.Words.{TypeId, Value, EntityModel, Entity, key_of}
+use Rattle.schema_laws.specs.state_demand.Selecting.{same_key}
+use Rattle.schema_laws.proofs.state_demand.writings.Selecting.{Decides-key}
+use Rattle.entity_changes.specs.declared.making.types.Types.{Types}
+use Rattle.entity_changes.specs.declared.making.types.Types.TheVariants.{One, Several}
+use Rattle.entity_changes.specs.making.Types.{AreTypes, joined}
+
+module _ {X : Type 0} where
+  -- one item more is the last
+  pub push_cases : (xs : List X) (x y : X) → Contains (xs ++ x ∷ []) y → Contains xs y ⊎ (y ≡ x)
+  push_cases xs x y has = ⊎_elim (λ (old : Contains xs y). inl old) (λ (last : Contains (x ∷ []) y). inr (only_member (x ∷ []) x y refl last)) (Contains-append_cases xs (x ∷ []) y has)
+
+  pub push_old : (xs : List X) (x y : X) → Contains xs y → Contains (xs ++ x ∷ []) y
+  push_old xs x y has = Contains-append_left xs (x ∷ []) y has
+
+  pub push_last : (xs : List X) (x : X) → Contains (xs ++ x ∷ []) x
+  push_last xs x = Contains-append_right xs (x ∷ []) x (contains_head x [])
+
+-- a test isn't both
+pub clash : (b : Bool) → b ≡ true → b ≡ false → ⊥
+clash true holds fails = cc
+clash false holds fails = cc
+
+pub false_from : (b : Bool) → (b ≡ true → ⊥) → b ≡ false
+false_from true never = absurd (never refl)
+false_from false never = refl
+
+module _ (model : EntityModel) where
+  -- what is known goes by the entities of the key
+  pub same_types : (xs ys : List Entity) (key : List Value) (found : Option Types)
+      → ((entity : Entity) → key_of model entity ≡ key → Contains xs entity ↔ Contains ys entity) → AreTypes model xs key found → AreTypes model ys key found
+  same_types xs ys key None same are = λ entity has is. are entity ((same entity is).1 has) is
+  same_types xs ys key (Some (One ty)) same are = ((are.0.0, (same are.0.0 are.0.2).0 are.0.1, are.0.2), λ entity has is. are.1 entity ((same entity is).1 has) is)
+  same_types xs ys key (Some Several) same (one, other, one_has, other_has, one_is, other_is, apart) =
+      (one, other, (same one one_is).0 one_has, (same other other_is).0 other_has, one_is, other_is, apart)
+
+  -- something known tells of an entity
+  pub has_one : (xs : List Entity) (key : List Value) (types : Types) → AreTypes model xs key (Some types) → (entity : Entity) × Contains xs entity × (key_of model entity ≡ key)
+  has_one xs key (One ty) are = are.0
+  has_one xs key Several (one, other, one_has, other_has, one_is, other_is, apart) = (one, one_has, one_is)
+
+  module _ (xs : List Entity) (entity : Entity) (key : List Value) where
+    -- an entity of another key makes no difference
+    pub another : (found : Option Types) → key_of model entity ≢ key → AreTypes model xs key found → AreTypes model (xs ++ entity ∷ []) key found
+    another found apart are = same_types xs (xs ++ entity ∷ []) key found
+        (λ other is. (push_old xs entity other,
+          λ has. ⊎_elim (λ (old : Contains xs other). old) (λ (last : other ≡ entity). absurd (apart (ap (key_of model) (sym last) ∙ is))) (push_cases xs entity other has))) are
+
+    -- one of the key makes its type known
+    pub one_more : (found : Option Types) → key_of model entity ≡ key → AreTypes model xs key found → AreTypes model (xs ++ entity ∷ []) key (Some (joined found entity.ty))
+    one_more None is are = (
+      (entity, push_last xs entity, is),
+      (λ other has its. ⊎_elim (λ (old : Contains xs other). absurd (are other old its)) (λ (last : other ≡ entity). ap (λ (e : Entity). e.ty) last) (push_cases xs entity other has)),
+    )
+    one_more (Some (One old)) is ((first, first_has, first_is), all) = by (old.index == entity.ty.index) refl
+      where
+        by : (b : Bool) → (old.index == entity.ty.index) ≡ b → AreTypes model (xs ++ entity ∷ []) key (Some (if b then One entity.ty else Several))
+        by true told =
+            let same : old ≡ entity.ty = λ i. record { index = (Decides-eqb old.index entity.ty.index).0 told i } in (
+              (entity, push_last xs entity, is),
+              (λ other has its. ⊎_elim (λ (before : Contains xs other). all other before its ∙ same) (λ (last : other ≡ entity). ap (λ (e : Entity). e.ty) last) (push_cases xs entity other has)),
+            )
+        by false told = (first, entity, push_old xs entity first first_has, push_last xs entity, first_is, is,
+          λ same. clash (old.index == entity.ty.index) ((Decides-eqb old.index entity.ty.index).1 (ap (λ (t : TypeId). t.index) (sym (all first first_has first_is) ∙ same))) told)
+    one_more (Some Several) is (one, other, one_has, other_has, one_is, other_is, apart) =
+        (one, other, push_old xs entity one one_has, push_old xs entity other other_has, one_is, other_is, apart)
+
+  module _ (xs : List Entity) (key gone : List Value) where
+    test : Entity → Bool
+    test old = not (same_key (key_of model old) gone)
+
+    passing : (old : Entity) → key_of model old ≢ gone → test old ≡ true
+    unfolding test
+    passing old apart = ap not (false_from (same_key (key_of model old) gone) (λ told. apart ((Decides-key (key_of model old) gone).0 told)))
+
+    not_same : (b : Bool) → not b ≡ true → b ≡ true → ⊥
+    not_same true one two = cc
+    not_same false one two = cc
+
+    -- where the entities of a key go, nothing is known of it
+    pub none_left : key ≡ gone → AreTypes model (filter (λ old. not (same_key (key_of model old) gone)) xs) key None
+    unfolding test
+    none_left same entity has is =
+        not_same (same_key (key_of model entity) gone) (filter_contains test xs entity has).1 ((Decides-key (key_of model entity) gone).1 (is ∙ same))
+
+    -- and of others what was known
+    pub others_left : (found : Option Types) → key ≢ gone → AreTypes model xs key found → AreTypes model (filter (λ old. not (same_key (key_of model old) gone)) xs) key found
+    unfolding test
+    others_left found apart are = same_types xs (filter test xs) key found
+        (λ entity is. ((λ has. contains_filter test xs entity has (passing entity (λ same. apart (sym is ∙ same)))), (λ has. (filter_contains test xs entity has).0))) are
+
+  module _ (xs : List Entity) (entity : Entity) (key : List Value) where
+    put : Entity → Entity
+    put old = if same_key (key_of model old) (key_of model entity) then entity else old
+
+    put_there : (old : Entity) → key_of model old ≡ key_of model entity → put old ≡ entity
+    unfolding put
+    put_there old same = ap (λ b. if b then entity else old) ((Decides-key (key_of model old) (key_of model entity)).1 same)
+
+    put_not : (old : Entity) → key_of model old ≢ key_of model entity → put old ≡ old
+    unfolding put
+    put_not old apart = ap (λ b. if b then entity else old)
+        (false_from (same_key (key_of model old) (key_of model entity)) (λ told. apart ((Decides-key (key_of model old) (key_of model entity)).0 told)))
+
+    put_cases : (old : Entity) → (put old ≡ entity) ⊎ ((put old ≡ old) × (key_of model old ≢ key_of model entity))
+    put_cases old = by (same_key (key_of model old) (key_of model entity)) refl
+      where
+        by : (b : Bool) → same_key (key_of model old) (key_of model entity) ≡ b → (put old ≡ entity) ⊎ ((put old ≡ old) × (key_of model old ≢ key_of model entity))
+        by true told = inl (put_there old ((Decides-key (key_of model old) (key_of model entity)).0 told))
+        by false told =
+            let apart : key_of model old ≢ key_of model entity = λ same. clash (same_key (key_of model old) (key_of model entity)) ((Decides-key (key_of model old) (key_of model entity)).1 same) told in
+            inr (put_not old apart, apart)
+
+    -- where an entity takes the place of those of its key and type, what is known stays
+    pub replaced_types : (found : Option Types) → (key ≡ key_of model entity → found ≡ Some (One entity.ty))
+        → AreTypes model xs key found → AreTypes model (map (λ old. if same_key (key_of model old) (key_of model entity) then entity else old) xs) key found
+    unfolding put
+    replaced_types found known are = by (same_key key (key_of model entity)) refl
+      where
+        by : (b : Bool) → same_key key (key_of model entity) ≡ b → AreTypes model (map put xs) key found
+        by true told =
+            let same : key ≡ key_of model entity = (Decides-key key (key_of model entity)).0 told in
+            let first = has_one xs key (One entity.ty) (subst (AreTypes model xs key) (known same) are) in
+            subst (AreTypes model (map put xs) key) (sym (known same)) (
+              (entity, subst (Contains (map put xs)) (put_there first.0 (first.2 ∙ same)) (contains_map put xs first.0 first.1), sym same),
+              (λ other has is.
+                  let from = map_contains put xs other has in
+                  ⊎_elim (λ (one : put from.0 ≡ entity). ap (λ (e : Entity). e.ty) (sym from.2 ∙ one))
+                  (λ (kept : (put from.0 ≡ from.0) × (key_of model from.0 ≢ key_of model entity)).
+                  absurd (kept.1 (ap (key_of model) (sym kept.0 ∙ from.2) ∙ is ∙ same)))
+                  (put_cases from.0)),
+            )
+        by false told = same_types xs (map put xs) key found
+            (λ other is.
+                let apart : key_of model other ≢ key_of model entity = λ same. clash (same_key key (key_of model entity)) ((Decides-key key (key_of model entity)).1 (sym is ∙ same)) told in
+                ((λ has. subst (Contains (map put xs)) (put_not other apart) (contains_map put xs other has)),
+                  (λ has.
+                      let from = map_contains put xs other has in
+                      ⊎_elim (λ (one : put from.0 ≡ entity). absurd (apart (ap (key_of model) (sym from.2 ∙ one))))
+                      (λ (kept : (put from.0 ≡ from.0) × (key_of model from.0 ≢ key_of model entity)). subst (Contains xs) (sym kept.0 ∙ from.2) from.1)
+                      (put_cases from.0)))) are
