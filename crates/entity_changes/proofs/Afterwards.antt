@@ -1,13 +1,11 @@
 -- States after changes: what stands in each list.
-use Rattle.std.proofs.Common.{◌≡◌, ◌≢◌, ◌<◌, ◌≤◌, ⊎_elim, ℕ, List, [], ◌∷◌, ◌++◌, length, refl, sym, ap, subst, ◌∙◌}
-use Rattle.std.proofs.lemmas.Bool.{cases_eq, cases_lt}
+use Rattle.std.proofs.Common.{◌≡◌, ◌≢◌, ◌<◌, List, [], ◌∷◌, ◌++◌, length, refl, ◌∙◌}
 use Rattle.std.proofs.lemmas.List.{length-set}
 use Rattle.round_trip.specs.Words.{SetId, AssocId, EntityModel, Entity, Link, State, entities_in, links_in}
 use Rattle.entity_changes.specs.declared.change.Change.{Change}
 use Rattle.entity_changes.specs.declared.change.Change.TheVariants as change
 use Rattle.entity_changes.specs.Changes.{after, after_one, with_entities, with_links}
-use Rattle.entity_changes.specs.making.Places.{HasPlace}
-use Rattle.entity_changes.proofs.Kept.{nothing_past, put_elsewhere, put_here}
+use Rattle.entity_changes.proofs.Kept.{put_elsewhere, put_here}
 
 -- sets of one number are one, and so are association sets
 pub same_set : (s t : SetId) → s.index ≡ t.index → s ≡ t

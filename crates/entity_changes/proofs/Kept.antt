@@ -1,5 +1,5 @@
 -- Lists of which an item is put elsewhere, and states with other lists.
-use Rattle.std.proofs.Common.{◌≡◌, ◌≢◌, ◌<◌, ◌≤◌, ◌+◌, ⊎_elim, ℕ, zero, suc, take, zero-add, arith, List, [], ◌∷◌, ◌++◌, map, reverse, length, slice_get, get_or, Option, None, Some, unwrap_or, refl, sym, ap, subst, ◌∙◌}
+use Rattle.std.proofs.Common.{◌≡◌, ◌≢◌, ◌<◌, ◌≤◌, ◌+◌, ℕ, zero, suc, take, zero-add, arith, List, [], ◌∷◌, ◌++◌, map, reverse, length, slice_get, get_or, Option, None, Some, unwrap_or, refl, sym, ap, subst, ◌∙◌}
 use Rattle.std.proofs.Math.ListN.{set}
 use Rattle.emc_base.specs.Lists.{At}
 use Rattle.emc_base.proofs.Loops.{at_enumerated, take_item}
@@ -9,7 +9,7 @@ use Rattle.std.proofs.lemmas.List.FromFn.{get_or-enumerate_from, length-enumerat
 use Rattle.std.specs.Borrow.{Bor}
 use Rattle.std.specs.Global.{Vec}
 use Rattle.std.specs.List.{cons_option, enumerate_from, filter_map}
-use Rattle.std.proofs.lemmas.List.{length-take-le, append_assoc, append-nil, ext_get_or, get_or-map, length-map, map-set, set-get_or, map-append, reverse-append, get_or-set_other, get_or-set_same, length-set}
+use Rattle.std.proofs.lemmas.List.{length-take-le, append_assoc, append-nil, ext_get_or, get_or-map, length-map, map-set, set-get_or, map-append, reverse-append, get_or-set_other, get_or-set_same}
 use Rattle.std.proofs.lemmas.Option.{slice_get-get_or, slice_get_past, slice_get_within, unwrap_or-slice_get}
 
 module _ {X : Type 0} (lists : List (List X)) (place : ℕ) (now : List X) where

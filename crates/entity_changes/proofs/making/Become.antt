@@ -1,15 +1,15 @@
 -- What becomes of lists, as one more change is foretold.
-use Rattle.std.proofs.Common.{◌≡◌, ◌≢◌, ◌==◌, ◌<◌, ℕ, List, [], ◌∷◌, ◌++◌, append-nil, map, filter, length, slice_get, reverse, Option, None, Some, unwrap_or, Bool, true, false, not, cond, if◌then◌else◌, refl, sym, ap, ◌∙◌}
+use Rattle.std.proofs.Common.{◌≡◌, ◌≢◌, ◌<◌, ℕ, List, [], ◌∷◌, ◌++◌, append-nil, map, filter, length, slice_get, reverse, Option, None, Some, unwrap_or, Bool, true, false, not, cond, if◌then◌else◌, refl, sym, ap, ◌∙◌}
 use Rattle.std.specs.BTreeMap.{get}
 use Rattle.std.specs.List.{filter_map, cons_option}
 use Rattle.std.proofs.lemmas.List.{append_assoc, reverse-append}
 use Rattle.std.proofs.lemmas.List.Elements.{filter_map-append}
 use Rattle.entity_changes.specs.Spots.{Spot, same_spot, spot_cmp}
 use Rattle.entity_changes.specs.declared.making.fates.Fate.{Fate}
-use Rattle.entity_changes.specs.declared.making.fates.Fate.TheVariants.{Replaced, Gone}
+use Rattle.entity_changes.specs.declared.making.fates.Fate.TheVariants.{Gone}
 use Rattle.entity_changes.specs.declared.making.fates.Fates.{Fates}
 use Rattle.entity_changes.specs.making.Fates.{AddsItem, RemovesItems, ReplacesItems, becomes, behind_at, behind_lists, survivor, survivors}
-use Rattle.entity_changes.proofs.SpotOrder.{Decides-spot, at_itself}
+use Rattle.entity_changes.proofs.SpotOrder.{Decides-spot}
 use Rattle.entity_changes.proofs.Kept.{put_elsewhere, put_here}
 
 module _ {X : Type 0} where

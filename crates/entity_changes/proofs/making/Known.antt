@@ -1,5 +1,5 @@
 -- What stands in a state, as its lists are passed.
-use Rattle.std.proofs.Common.{◌≡◌, ◌≢◌, ◌↔◌, ◌<◌, ◌≤◌, ◌+◌, ◌||◌, ◌⊎◌, ⊎_elim, inl, inr, arith, get_or, ℕ, List, [], ◌∷◌, ◌++◌, take, length, slice_get, unwrap_or, Contains, Any, Option, None, Some, IsTrue, Bool, true, false, cond, refl, sym, ap, subst, ◌∙◌}
+use Rattle.std.proofs.Common.{◌≡◌, ◌≢◌, ◌↔◌, ◌<◌, ◌≤◌, ◌+◌, ◌||◌, ◌⊎◌, ⊎_elim, inl, inr, arith, get_or, ℕ, List, [], ◌∷◌, ◌++◌, take, length, slice_get, unwrap_or, Contains, Some, IsTrue, Bool, true, false, cond, refl, sym, ap, subst, ◌∙◌}
 use Rattle.std.specs.BTreeMap.{BTreeMap, get}
 use Rattle.std.specs.BTreeSet.{BTreeSet, contains}
 use Rattle.std.specs.List.{list_any}
@@ -17,9 +17,9 @@ use Rattle.entity_changes.specs.making.Standing.{AddsLinks, AddsTypes}
 use Rattle.entity_changes.specs.making.Types.{AreTypes, joined}
 use Rattle.entity_changes.proofs.Afterwards.{same_assoc, same_set}
 use Rattle.entity_changes.proofs.Kept.{list_not_yet, list_now, list_then}
-use Rattle.entity_changes.proofs.SpotOrder.{Decides-link_spot, Decides-spot, apart_spots}
+use Rattle.entity_changes.proofs.SpotOrder.{Decides-link_spot, apart_spots}
 use Rattle.entity_changes.proofs.making.Taken.{at_spot, beside_spot, same_or_not}
-use Rattle.entity_changes.proofs.making.TypesOf.{another, clash, one_more}
+use Rattle.entity_changes.proofs.making.TypesOf.{another, one_more}
 
 -- a type more is known at a spot
 abbrev pub AddsType : Spot → TypeId → BTreeMap Spot Types → BTreeMap Spot Types → Type 0

@@ -1,5 +1,5 @@
 -- The fate of the items of a spot, where they are replaced.
-use Rattle.std.proofs.Common.{◌≡◌, Option, None, Some, IsSome, is_some, Bool, true, false, not, cond, refl, sym, ap, ◌∙◌}
+use Rattle.std.proofs.Common.{◌≡◌, Option, None, Some, is_some, Bool, true, false, cond, refl, sym, ap, ◌∙◌}
 use Rattle.std.specs.Borrow.{Bor}
 use Rattle.std.specs.BTreeMap.{BTreeMap, get}
 use Rattle.entity_changes.specs.Spots.{Spot, same_spot, spot_cmp}

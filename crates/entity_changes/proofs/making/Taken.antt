@@ -1,5 +1,5 @@
 -- Changes that are made, or refused, by what is known to stand in a state.
-use Rattle.std.proofs.Common.{◌≡◌, ◌≢◌, ◌↔◌, ◌==◌, ◌<◌, ◌⊎◌, ⊎_elim, inl, inr, ℕ, List, [], ◌∷◌, ◌++◌, map, filter, length, Contains, Option, None, Some, IsSome, is_some, IsTrue, Bool, true, false, not, cond, if◌then◌else◌, refl, sym, ap, subst, ◌∙◌}
+use Rattle.std.proofs.Common.{◌≡◌, ◌≢◌, ◌↔◌, ◌==◌, ◌<◌, ◌⊎◌, ⊎_elim, inl, inr, ℕ, List, [], ◌∷◌, ◌++◌, map, filter, length, Contains, Option, None, Some, IsSome, IsTrue, Bool, true, false, not, cond, if◌then◌else◌, refl, sym, ap, subst, ◌∙◌}
 use Rattle.std.specs.BTreeMap.{BTreeMap, get}
 use Rattle.std.specs.BTreeSet.{BTreeSet, contains}
 use Rattle.std.proofs.lemmas.Bool.{cases_eq}
@@ -8,20 +8,19 @@ use Rattle.emc_base.proofs.Mapped.{contains_filter}
 use Rattle.emc_base.proofs.Numbered.{filter_contains}
 use Rattle.round_trip.specs.Words.{SetId, AssocId, TypeId, Value, EntityModel, Entity, Link, State, entities_in, links_in, key_of}
 use Rattle.schema_laws.specs.state_demand.Selecting.{same_key}
-use Rattle.entity_changes.specs.declared.change.Change.{Change}
 use Rattle.entity_changes.specs.declared.change.Change.TheVariants as change
 use Rattle.entity_changes.specs.declared.change.Reason.{Reason}
 use Rattle.entity_changes.specs.declared.change.Reason.TheVariants as reason
 use Rattle.entity_changes.specs.declared.making.standing.Standing.{Standing}
 use Rattle.entity_changes.specs.declared.making.types.Types.{Types}
 use Rattle.entity_changes.specs.declared.making.types.Types.TheVariants.{One, Several}
-use Rattle.entity_changes.specs.Changes.{after_one, same_link, with_entities, with_links}
+use Rattle.entity_changes.specs.Changes.{same_link, with_entities, with_links}
 use Rattle.entity_changes.specs.Refusals.{IsRefused}
 use Rattle.entity_changes.specs.Spots.{Spot, key_spot, link_spot, same_spot, spot_cmp}
-use Rattle.entity_changes.specs.making.Standing.{AddsLink, HasList, IsTaken, Takes, TakesLink, TellsStanding}
-use Rattle.entity_changes.specs.making.Types.{AreTypes, DeletesTypes, InsertsTypes, joined, update_reason}
+use Rattle.entity_changes.specs.making.Standing.{AddsLink, IsTaken, Takes, TakesLink, TellsStanding}
+use Rattle.entity_changes.specs.making.Types.{AreTypes, DeletesTypes, InsertsTypes, update_reason}
 use Rattle.entity_changes.proofs.Afterwards.{entities_elsewhere, entities_here, links_elsewhere, links_here, same_assoc, same_set}
-use Rattle.entity_changes.proofs.SpotOrder.{Decides-link, Decides-spot, apart_spots, at_itself}
+use Rattle.entity_changes.proofs.SpotOrder.{Decides-link, Decides-spot}
 use Rattle.entity_changes.proofs.making.TypesOf.{another, clash, false_from, has_one, none_left, one_more, others_left, push_cases, push_last, push_old, replaced_types}
 
 module _ (model : EntityModel) (state : State) (old : Standing) (known : TellsStanding model state old) where

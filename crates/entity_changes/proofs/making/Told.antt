@@ -1,6 +1,5 @@
 -- What one change more does, before those whose doings are told.
-use Rattle.std.proofs.Common.{◌≡◌, ◌≢◌, ◌<◌, ⊎_elim, ℕ, List, [], ◌∷◌, ◌++◌, map, filter, length, Option, None, Some, Bool, true, false, not, cond, if◌then◌else◌, refl, sym, ap, subst, ◌∙◌}
-use Rattle.std.specs.BTreeMap.{BTreeMap, get}
+use Rattle.std.proofs.Common.{◌≡◌, ◌≢◌, ◌<◌, ⊎_elim, ℕ, List, [], ◌∷◌, ◌++◌, map, filter, length, not, if◌then◌else◌, refl, sym, ap, subst, ◌∙◌}
 use Rattle.std.proofs.lemmas.Bool.{cases_eq}
 use Rattle.std.proofs.lemmas.List.{length-map, length-set}
 use Rattle.round_trip.specs.Words.{SetId, AssocId, Value, EntityModel, Entity, Link, State, entities_in, links_in, key_of}
@@ -8,10 +7,9 @@ use Rattle.schema_laws.specs.state_demand.Selecting.{same_key}
 use Rattle.entity_changes.specs.declared.change.Change.{Change}
 use Rattle.entity_changes.specs.declared.change.Change.TheVariants as change
 use Rattle.entity_changes.specs.declared.making.fates.Fates.{Fates}
-use Rattle.entity_changes.specs.declared.making.foretold.Foretold.{Foretold}
 use Rattle.entity_changes.specs.Changes.{after, after_one, same_link, with_entities, with_links}
-use Rattle.entity_changes.specs.Spots.{Spot, key_spot, link_spot, same_spot, spot_cmp}
-use Rattle.entity_changes.specs.making.Fates.{AddsItem, Foretells, ForetellsOneMore, HasSize, RemovesItems, ReplacesItems, becomes, behind_lists}
+use Rattle.entity_changes.specs.Spots.{Spot, key_spot, link_spot}
+use Rattle.entity_changes.specs.making.Fates.{AddsItem, Foretells, ForetellsOneMore, RemovesItems, ReplacesItems, becomes, behind_lists}
 use Rattle.entity_changes.proofs.Afterwards.{entities_elsewhere, entities_here, length-entities, length-links, links_elsewhere, links_here, same_assoc, same_set}
 use Rattle.entity_changes.proofs.SpotOrder.{apart_spots, key_spot_same, link_spot_same}
 use Rattle.entity_changes.proofs.making.Become.{added, added_elsewhere, removed, removed_elsewhere, replaced, replaced_elsewhere}

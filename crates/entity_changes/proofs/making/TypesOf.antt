@@ -3,7 +3,7 @@ use Rattle.std.proofs.Common.{◌≡◌, ◌≢◌, ◌↔◌, ◌==◌, ◌⊎�
 use Rattle.std.proofs.lemmas.Bool.Decides.{Decides-eqb}
 use Rattle.std.proofs.lemmas.List.Elements.{Contains-append_cases, Contains-append_left, Contains-append_right}
 use Rattle.emc_base.proofs.Mapped.{contains_filter, contains_map}
-use Rattle.emc_base.proofs.Members.{contains_head, contains_nil}
+use Rattle.emc_base.proofs.Members.{contains_head}
 use Rattle.emc_base.proofs.Lists.{only_member}
 use Rattle.emc_base.proofs.Numbered.{filter_contains, map_contains}
 use Rattle.round_trip.specs.Words.{TypeId, Value, EntityModel, Entity, key_of}

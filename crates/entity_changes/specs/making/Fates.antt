@@ -1,9 +1,9 @@
 -- What the last of some changes do to the items that stand before them.
 -- Source: this project's.
-use Rattle.std.specs.Prelude.{◌≡◌, ◌++◌, ◌∷◌, [], ℕ, List, Option, None, Some, cond, map, length, slice_get, unwrap_or, is_some, reverse, set, All}
+use Rattle.std.specs.Prelude.{◌≡◌, ◌++◌, ◌∷◌, [], ℕ, List, Option, None, Some, cond, map, length, slice_get, unwrap_or, reverse, set, All}
 use Rattle.std.specs.List.{cons_option, filter_map}
 use Rattle.std.specs.BTreeMap.{get, IsEmpty}
-use Rattle.round_trip.specs.Words.{EntityModel, Entity, Link, SetId, AssocId, State, entities_in, links_in, key_of}
+use Rattle.round_trip.specs.Words.{EntityModel, SetId, AssocId, State, entities_in, links_in, key_of}
 use Rattle.entity_changes.specs.Changes.{after}
 use Rattle.entity_changes.specs.Spots.{Spot, key_spot, link_spot, same_spot, spot_cmp}
 use Rattle.entity_changes.specs.declared.change.Change.{Change}

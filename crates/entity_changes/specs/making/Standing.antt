@@ -1,12 +1,11 @@
 -- What stands in a state, as changes ask for it.
 -- Source: this project's.
-use Rattle.std.specs.Prelude.{◌≡◌, ◌≢◌, ◌↔◌, ◌<◌, ◌++◌, ◌||◌, ℕ, List, length, Contains, Option, None, Some, IsTrue, true, false, cond, if◌then◌else◌}
+use Rattle.std.specs.Prelude.{◌≡◌, ◌≢◌, ◌↔◌, ◌++◌, ◌||◌, ℕ, List, length, Contains, Option, None, Some, IsTrue, true, false, cond, if◌then◌else◌}
 use Rattle.std.specs.BTreeMap.{BTreeMap, get}
 use Rattle.std.specs.BTreeSet.{BTreeSet, contains}
 use Rattle.round_trip.specs.Words.{SetId, AssocId, Value, EntityModel, Entity, Link, State, entities_in, links_in}
 use Rattle.entity_changes.specs.declared.making.standing.Standing.{Standing}
 use Rattle.entity_changes.specs.declared.change.Change.{Change}
-use Rattle.entity_changes.specs.declared.change.Change.TheVariants as change
 use Rattle.entity_changes.specs.declared.change.Reason.{Reason}
 use Rattle.entity_changes.specs.declared.change.Reason.TheVariants as reason
 use Rattle.entity_changes.specs.Changes.{after_one}

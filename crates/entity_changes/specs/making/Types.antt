@@ -1,6 +1,6 @@
 -- The types of the entities of a key, as changes alter them.
 -- Source: this project's.
-use Rattle.std.specs.Prelude.{◌≡◌, ◌≢◌, ◌==◌, List, Contains, Option, None, Some, IsSome, is_some, cond, if◌then◌else◌}
+use Rattle.std.specs.Prelude.{◌≡◌, ◌≢◌, ◌==◌, List, Contains, Option, None, Some, IsSome, cond, if◌then◌else◌}
 use Rattle.std.specs.BTreeMap.{BTreeMap, get}
 use Rattle.round_trip.specs.Words.{TypeId, Value, EntityModel, Entity, key_of}
 use Rattle.entity_changes.specs.declared.making.types.Types.{Types}
