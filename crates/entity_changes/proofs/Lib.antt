@@ -1,3 +1,4 @@
 pub mod Afterwards
 mod Kept
+mod Pushes
 pub mod SpotOrder

@@ -4,3 +4,4 @@ pub mod Refusals
 pub mod Spots
 pub mod Touching
 pub mod making
+pub mod touched

@@ -1,8 +1,9 @@
 //! Changes of entities and links, one after the other: the state that they lead to, the first that is refused, and what they touch.
 #![tactic(auto)]
 
-mod making;
 mod change;
+mod copies;
+mod making;
 mod spots;
 mod touched;
 

@@ -19,6 +19,7 @@ use Rattle.entity_changes.proofs.Afterwards.{same_assoc, same_set}
 use Rattle.entity_changes.proofs.Kept.{list_not_yet, list_now, list_then}
 use Rattle.entity_changes.proofs.SpotOrder.{Decides-link_spot, apart_spots}
 use Rattle.entity_changes.proofs.making.Taken.{at_spot, beside_spot, same_or_not}
+use Rattle.entity_changes.proofs.Pushes.{}
 use Rattle.entity_changes.proofs.making.TypesOf.{another, one_more}
 
 -- a type more is known at a spot

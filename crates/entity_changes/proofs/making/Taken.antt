@@ -21,7 +21,8 @@ use Rattle.entity_changes.specs.making.Standing.{AddsLink, IsTaken, Takes, Takes
 use Rattle.entity_changes.specs.making.Types.{AreTypes, DeletesTypes, InsertsTypes, update_reason}
 use Rattle.entity_changes.proofs.Afterwards.{entities_elsewhere, entities_here, links_elsewhere, links_here, same_assoc, same_set}
 use Rattle.entity_changes.proofs.SpotOrder.{Decides-link, Decides-spot}
-use Rattle.entity_changes.proofs.making.TypesOf.{another, clash, false_from, has_one, none_left, one_more, others_left, push_cases, push_last, push_old, replaced_types}
+use Rattle.entity_changes.proofs.Pushes.{clash, false_from, push_cases, push_last, push_old}
+use Rattle.entity_changes.proofs.making.TypesOf.{another, has_one, none_left, one_more, others_left, replaced_types}
 
 module _ (model : EntityModel) (state : State) (old : Standing) (known : TellsStanding model state old) where
   module _ (s : SetId) (within : s.index < length state.entities) (entities : List Entity) (types : BTreeMap Spot Types)

@@ -1,10 +1,8 @@
 -- What is known of types, as entities come, go and are replaced.
 use Rattle.std.proofs.Common.{◌≡◌, ◌≢◌, ◌↔◌, ◌==◌, ◌⊎◌, ⊎_elim, inl, inr, List, [], ◌∷◌, ◌++◌, map, filter, Contains, Option, None, Some, Bool, true, false, not, if◌then◌else◌, refl, sym, ap, subst, ◌∙◌}
 use Rattle.std.proofs.lemmas.Bool.Decides.{Decides-eqb}
-use Rattle.std.proofs.lemmas.List.Elements.{Contains-append_cases, Contains-append_left, Contains-append_right}
+use Rattle.entity_changes.proofs.Pushes.{clash, false_from, push_cases, push_last, push_old}
 use Rattle.emc_base.proofs.Mapped.{contains_filter, contains_map}
-use Rattle.emc_base.proofs.Members.{contains_head}
-use Rattle.emc_base.proofs.Lists.{only_member}
 use Rattle.emc_base.proofs.Numbered.{filter_contains, map_contains}
 use Rattle.round_trip.specs.Words.{TypeId, Value, EntityModel, Entity, key_of}
 use Rattle.schema_laws.specs.state_demand.Selecting.{same_key}
@@ -12,26 +10,6 @@ use Rattle.schema_laws.proofs.state_demand.writings.Selecting.{Decides-key}
 use Rattle.entity_changes.specs.declared.making.types.Types.{Types}
 use Rattle.entity_changes.specs.declared.making.types.Types.TheVariants.{One, Several}
 use Rattle.entity_changes.specs.making.Types.{AreTypes, joined}
-
-module _ {X : Type 0} where
-  -- one item more is the last
-  pub push_cases : (xs : List X) (x y : X) → Contains (xs ++ x ∷ []) y → Contains xs y ⊎ (y ≡ x)
-  push_cases xs x y has = ⊎_elim (λ (old : Contains xs y). inl old) (λ (last : Contains (x ∷ []) y). inr (only_member (x ∷ []) x y refl last)) (Contains-append_cases xs (x ∷ []) y has)
-
-  pub push_old : (xs : List X) (x y : X) → Contains xs y → Contains (xs ++ x ∷ []) y
-  push_old xs x y has = Contains-append_left xs (x ∷ []) y has
-
-  pub push_last : (xs : List X) (x : X) → Contains (xs ++ x ∷ []) x
-  push_last xs x = Contains-append_right xs (x ∷ []) x (contains_head x [])
-
--- a test isn't both
-pub clash : (b : Bool) → b ≡ true → b ≡ false → ⊥
-clash true holds fails = cc
-clash false holds fails = cc
-
-pub false_from : (b : Bool) → (b ≡ true → ⊥) → b ≡ false
-false_from true never = absurd (never refl)
-false_from false never = refl
 
 module _ (model : EntityModel) where
   -- what is known goes by the entities of the key

@@ -9,6 +9,7 @@ ghost use Rattle.entity_changes.specs.making.Fates.{becomes, behind_at, survivor
 use crate::making::fates::Fates;
 use crate::making::foretold::Foretold;
 use crate::change::Change;
+use crate::copies::{copied_entity, copied_link};
 use crate::spots::{entity_spot, link_spot};
 use edm_types::{Entity, EntityModel, Link};
 use emc_base::{AssocId, Memory, Seq, SetId, narrow};
@@ -92,17 +93,6 @@ fn add_new_entities<'t>(
     Ok(())
 }
 
-// An equal entity.
-fn copied_entity(alloc: Global, entity: &Entity) -> Result<Entity, Memory>
-    ensures { IfOk result (λ copy. copy ≡ entity.now) }
-{
-    let values = entity.values.copy(alloc)?;
-    Ok(Entity {
-        ty: entity.ty,
-        values,
-    })
-}
-
 // What becomes of the links of each association set.
 fn link_lists<'t>(
     alloc: Global,
@@ -158,13 +148,4 @@ fn add_new_links<'t>(
         items.push(copied_link(alloc, *link)?)?;
     }
     Ok(())
-}
-
-// An equal link.
-fn copied_link(alloc: Global, link: &Link) -> Result<Link, Memory>
-    ensures { IfOk result (λ copy. copy ≡ link.now) }
-{
-    let first = link.first.copy(alloc)?;
-    let second = link.second.copy(alloc)?;
-    Ok(Link { first, second })
 }

@@ -5,7 +5,7 @@ use Rattle.entity_changes.specs.declared.change.Change.{Change}
 use Rattle.entity_changes.specs.making.Fates.{Foretells, HasSize}
 use Rattle.entity_changes.specs.making.Places.{HasPlace}
 use Rattle.entity_changes.proofs.making.Made.{foretells_none}
-use Rattle.entity_changes.proofs.making.TypesOf.{push_last}
+use Rattle.entity_changes.proofs.Pushes.{push_last}
 use Rattle.entity_changes.proofs.making.foretold.Foretold.of.Goals as goal
 
 pub loop-change-init : goal.loop-change-init
