@@ -1,11 +1,13 @@
 -- States after changes: what stands in each list.
-use Rattle.std.proofs.Common.{◌≡◌, ◌≢◌, ◌<◌, List, [], ◌∷◌, ◌++◌, length, refl, ◌∙◌}
+use Rattle.std.proofs.Common.{◌≡◌, ◌≢◌, ◌<◌, ◌≤◌, ◌⊎◌, ⊎_elim, inl, inr, List, [], ◌∷◌, ◌++◌, length, refl, sym, subst, ◌∙◌}
+use Rattle.std.proofs.Math.ListN.{set}
+use Rattle.std.proofs.lemmas.Bool.{cases_eq, cases_lt}
 use Rattle.std.proofs.lemmas.List.{length-set}
 use Rattle.round_trip.specs.Words.{SetId, AssocId, EntityModel, Entity, Link, State, entities_in, links_in}
 use Rattle.entity_changes.specs.declared.change.Change.{Change}
 use Rattle.entity_changes.specs.declared.change.Change.TheVariants as change
 use Rattle.entity_changes.specs.Changes.{after, after_one, with_entities, with_links}
-use Rattle.entity_changes.proofs.Kept.{put_elsewhere, put_here}
+use Rattle.entity_changes.proofs.Kept.{nothing_past, put_elsewhere, put_here}
 
 -- sets of one number are one, and so are association sets
 pub same_set : (s t : SetId) → s.index ≡ t.index → s ≡ t
@@ -21,12 +23,37 @@ module _ (state : State) (s : SetId) (entities : List Entity) where
   pub entities_elsewhere : (other : SetId) → other.index ≢ s.index → entities_in (with_entities state s entities) other ≡ entities_in state other
   entities_elsewhere other apart = put_elsewhere state.entities s.index entities other.index apart
 
+  -- either way, they are the old ones or the new
+  pub entities_cases : (t : SetId) → (entities_in (with_entities state s entities) t ≡ entities_in state t) ⊎ ((s ≡ t) × (entities_in (with_entities state s entities) t ≡ entities))
+  entities_cases t = ⊎_elim
+      (λ (same : s.index ≡ t.index). ⊎_elim
+      (λ (within : s.index < length state.entities).
+      inr (same_set s t same, subst (λ (u : SetId). entities_in (with_entities state s entities) u ≡ entities) (same_set s t same) (entities_here within)))
+      (λ (past : length state.entities ≤ s.index). inl (subst (λ (u : SetId). entities_in (with_entities state s entities) u ≡ entities_in state u) (same_set s t same)
+      (nothing_past (set state.entities s.index entities) s.index (subst (λ n. n ≤ s.index) (sym (length-set state.entities s.index entities)) past)
+      ∙ sym (nothing_past state.entities s.index past))))
+      (cases_lt s.index (length state.entities)))
+      (λ (apart : s.index ≢ t.index). inl (entities_elsewhere t (λ same. apart (sym same))))
+      (cases_eq s.index t.index)
+
 module _ (state : State) (a : AssocId) (links : List Link) where
   pub links_here : a.index < length state.links → links_in (with_links state a links) a ≡ links
   links_here within = put_here state.links a.index links within
 
   pub links_elsewhere : (other : AssocId) → other.index ≢ a.index → links_in (with_links state a links) other ≡ links_in state other
   links_elsewhere other apart = put_elsewhere state.links a.index links other.index apart
+
+  pub links_cases : (b : AssocId) → (links_in (with_links state a links) b ≡ links_in state b) ⊎ ((a ≡ b) × (links_in (with_links state a links) b ≡ links))
+  links_cases b = ⊎_elim
+      (λ (same : a.index ≡ b.index). ⊎_elim
+      (λ (within : a.index < length state.links).
+      inr (same_assoc a b same, subst (λ (d : AssocId). links_in (with_links state a links) d ≡ links) (same_assoc a b same) (links_here within)))
+      (λ (past : length state.links ≤ a.index). inl (subst (λ (d : AssocId). links_in (with_links state a links) d ≡ links_in state d) (same_assoc a b same)
+      (nothing_past (set state.links a.index links) a.index (subst (λ n. n ≤ a.index) (sym (length-set state.links a.index links)) past)
+      ∙ sym (nothing_past state.links a.index past))))
+      (cases_lt a.index (length state.links)))
+      (λ (apart : a.index ≢ b.index). inl (links_elsewhere b (λ same. apart (sym same))))
+      (cases_eq a.index b.index)
 
 module _ (model : EntityModel) where
   -- a change leaves as many lists

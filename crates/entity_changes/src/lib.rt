@@ -3,10 +3,12 @@
 
 mod change;
 mod copies;
+mod laws;
 mod making;
 mod spots;
 mod touched;
 
 pub use making::{ApplyFault, apply};
+pub use laws::only_touched_units_change;
 pub use change::{Change, Reason};
 pub use touched::Touched;

@@ -1,9 +1,8 @@
 -- What is known of types, as entities come, go and are replaced.
-use Rattle.std.proofs.Common.{◌≡◌, ◌≢◌, ◌↔◌, ◌==◌, ◌⊎◌, ⊎_elim, inl, inr, List, [], ◌∷◌, ◌++◌, map, filter, Contains, Option, None, Some, Bool, true, false, not, if◌then◌else◌, refl, sym, ap, subst, ◌∙◌}
+use Rattle.std.proofs.Common.{◌≡◌, ◌≢◌, ◌↔◌, ◌==◌, ⊎_elim, List, [], ◌∷◌, ◌++◌, map, filter, Contains, Option, None, Some, Bool, true, false, not, if◌then◌else◌, refl, sym, ap, subst, ◌∙◌}
 use Rattle.std.proofs.lemmas.Bool.Decides.{Decides-eqb}
-use Rattle.entity_changes.proofs.Pushes.{clash, false_from, push_cases, push_last, push_old}
-use Rattle.emc_base.proofs.Mapped.{contains_filter, contains_map}
-use Rattle.emc_base.proofs.Numbered.{filter_contains, map_contains}
+use Rattle.entity_changes.proofs.Replaced.{gone_left, put_in, put_only, same_left, same_replaced}
+use Rattle.entity_changes.proofs.Pushes.{clash, push_cases, push_last, push_old}
 use Rattle.round_trip.specs.Words.{TypeId, Value, EntityModel, Entity, key_of}
 use Rattle.schema_laws.specs.state_demand.Selecting.{same_key}
 use Rattle.schema_laws.proofs.state_demand.writings.Selecting.{Decides-key}
@@ -52,76 +51,30 @@ module _ (model : EntityModel) where
         (one, other, push_old xs entity one one_has, push_old xs entity other other_has, one_is, other_is, apart)
 
   module _ (xs : List Entity) (key gone : List Value) where
-    test : Entity → Bool
-    test old = not (same_key (key_of model old) gone)
-
-    passing : (old : Entity) → key_of model old ≢ gone → test old ≡ true
-    unfolding test
-    passing old apart = ap not (false_from (same_key (key_of model old) gone) (λ told. apart ((Decides-key (key_of model old) gone).0 told)))
-
-    not_same : (b : Bool) → not b ≡ true → b ≡ true → ⊥
-    not_same true one two = cc
-    not_same false one two = cc
-
     -- where the entities of a key go, nothing is known of it
     pub none_left : key ≡ gone → AreTypes model (filter (λ old. not (same_key (key_of model old) gone)) xs) key None
-    unfolding test
-    none_left same entity has is =
-        not_same (same_key (key_of model entity) gone) (filter_contains test xs entity has).1 ((Decides-key (key_of model entity) gone).1 (is ∙ same))
+    none_left same entity has is = gone_left model xs gone entity (is ∙ same) has
 
     -- and of others what was known
     pub others_left : (found : Option Types) → key ≢ gone → AreTypes model xs key found → AreTypes model (filter (λ old. not (same_key (key_of model old) gone)) xs) key found
-    unfolding test
-    others_left found apart are = same_types xs (filter test xs) key found
-        (λ entity is. ((λ has. contains_filter test xs entity has (passing entity (λ same. apart (sym is ∙ same)))), (λ has. (filter_contains test xs entity has).0))) are
+    others_left found apart are = same_types xs (filter (λ old. not (same_key (key_of model old) gone)) xs) key found
+        (λ entity is. same_left model xs gone entity (λ same. apart (sym is ∙ same))) are
 
   module _ (xs : List Entity) (entity : Entity) (key : List Value) where
-    put : Entity → Entity
-    put old = if same_key (key_of model old) (key_of model entity) then entity else old
-
-    put_there : (old : Entity) → key_of model old ≡ key_of model entity → put old ≡ entity
-    unfolding put
-    put_there old same = ap (λ b. if b then entity else old) ((Decides-key (key_of model old) (key_of model entity)).1 same)
-
-    put_not : (old : Entity) → key_of model old ≢ key_of model entity → put old ≡ old
-    unfolding put
-    put_not old apart = ap (λ b. if b then entity else old)
-        (false_from (same_key (key_of model old) (key_of model entity)) (λ told. apart ((Decides-key (key_of model old) (key_of model entity)).0 told)))
-
-    put_cases : (old : Entity) → (put old ≡ entity) ⊎ ((put old ≡ old) × (key_of model old ≢ key_of model entity))
-    put_cases old = by (same_key (key_of model old) (key_of model entity)) refl
-      where
-        by : (b : Bool) → same_key (key_of model old) (key_of model entity) ≡ b → (put old ≡ entity) ⊎ ((put old ≡ old) × (key_of model old ≢ key_of model entity))
-        by true told = inl (put_there old ((Decides-key (key_of model old) (key_of model entity)).0 told))
-        by false told =
-            let apart : key_of model old ≢ key_of model entity = λ same. clash (same_key (key_of model old) (key_of model entity)) ((Decides-key (key_of model old) (key_of model entity)).1 same) told in
-            inr (put_not old apart, apart)
-
     -- where an entity takes the place of those of its key and type, what is known stays
     pub replaced_types : (found : Option Types) → (key ≡ key_of model entity → found ≡ Some (One entity.ty))
         → AreTypes model xs key found → AreTypes model (map (λ old. if same_key (key_of model old) (key_of model entity) then entity else old) xs) key found
-    unfolding put
     replaced_types found known are = by (same_key key (key_of model entity)) refl
       where
-        by : (b : Bool) → same_key key (key_of model entity) ≡ b → AreTypes model (map put xs) key found
+        by : (b : Bool) → same_key key (key_of model entity) ≡ b
+            → AreTypes model (map (λ old. if same_key (key_of model old) (key_of model entity) then entity else old) xs) key found
         by true told =
             let same : key ≡ key_of model entity = (Decides-key key (key_of model entity)).0 told in
             let first = has_one xs key (One entity.ty) (subst (AreTypes model xs key) (known same) are) in
-            subst (AreTypes model (map put xs) key) (sym (known same)) (
-              (entity, subst (Contains (map put xs)) (put_there first.0 (first.2 ∙ same)) (contains_map put xs first.0 first.1), sym same),
-              (λ other has is.
-                  let from = map_contains put xs other has in
-                  ⊎_elim (λ (one : put from.0 ≡ entity). ap (λ (e : Entity). e.ty) (sym from.2 ∙ one))
-                  (λ (kept : (put from.0 ≡ from.0) × (key_of model from.0 ≢ key_of model entity)).
-                  absurd (kept.1 (ap (key_of model) (sym kept.0 ∙ from.2) ∙ is ∙ same)))
-                  (put_cases from.0)),
+            subst (AreTypes model (map (λ old. if same_key (key_of model old) (key_of model entity) then entity else old) xs) key) (sym (known same)) (
+              (entity, put_in model xs entity first.0 first.1 (first.2 ∙ same), sym same),
+              (λ other has is. ap (λ (e : Entity). e.ty) (put_only model xs entity other has (is ∙ same))),
             )
-        by false told = same_types xs (map put xs) key found
-            (λ other is.
-                let apart : key_of model other ≢ key_of model entity = λ same. clash (same_key key (key_of model entity)) ((Decides-key key (key_of model entity)).1 (sym is ∙ same)) told in
-                ((λ has. subst (Contains (map put xs)) (put_not other apart) (contains_map put xs other has)),
-                  (λ has.
-                      let from = map_contains put xs other has in
-                      ⊎_elim (λ (one : put from.0 ≡ entity). absurd (apart (ap (key_of model) (sym from.2 ∙ one))))
-                      (λ (kept : (put from.0 ≡ from.0) × (key_of model from.0 ≢ key_of model entity)). subst (Contains xs) (sym kept.0 ∙ from.2) from.1)
-                      (put_cases from.0)))) are
+        by false told = same_types xs (map (λ old. if same_key (key_of model old) (key_of model entity) then entity else old) xs) key found
+            (λ other is. same_replaced model xs entity other
+            (λ same. clash (same_key key (key_of model entity)) ((Decides-key key (key_of model entity)).1 (sym is ∙ same)) told)) are
