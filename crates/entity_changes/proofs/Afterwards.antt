@@ -24,7 +24,8 @@ module _ (state : State) (s : SetId) (entities : List Entity) where
   entities_elsewhere other apart = put_elsewhere state.entities s.index entities other.index apart
 
   -- either way, they are the old ones or the new
-  pub entities_cases : (t : SetId) → (entities_in (with_entities state s entities) t ≡ entities_in state t) ⊎ ((s ≡ t) × (entities_in (with_entities state s entities) t ≡ entities))
+  pub entities_cases : (t : SetId) → (entities_in (with_entities state s entities) t ≡ entities_in state t) ⊎
+      ((s ≡ t) × (entities_in (with_entities state s entities) t ≡ entities))
   entities_cases t = ⊎_elim
       (λ (same : s.index ≡ t.index). ⊎_elim
       (λ (within : s.index < length state.entities).

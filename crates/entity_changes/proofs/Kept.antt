@@ -18,7 +18,8 @@ module _ {X : Type 0} (lists : List (List X)) (place : ℕ) (now : List X) where
   put_here within = unwrap_or-slice_get (set lists place now) place [] ∙ get_or-set_same lists place now [] within
 
   pub put_elsewhere : (other : ℕ) → other ≢ place → unwrap_or (slice_get (set lists place now) other) [] ≡ unwrap_or (slice_get lists other) []
-  put_elsewhere other apart = unwrap_or-slice_get (set lists place now) other [] ∙ get_or-set_other lists place other now [] apart ∙ sym (unwrap_or-slice_get lists other [])
+  put_elsewhere other apart = unwrap_or-slice_get (set lists place now) other [] ∙ get_or-set_other lists place other now [] apart
+      ∙ sym (unwrap_or-slice_get lists other [])
 
 -- past the lists is nothing
 pub nothing_past : {X : Type 0} (lists : List (List X)) (place : ℕ) → length lists ≤ place → unwrap_or (slice_get lists place) [] ≡ []
@@ -48,7 +49,8 @@ module _ {X : Type 0} (lists : List (Vec (Bor X))) (place : ℕ) where
       → shown_lists lists ≡ set (shown_lists lists) place (unwrap_or (slice_get (shown_lists lists) place) [] ++ cons_option found [])
   lent_kept found none within =
       sym (set-get_or (shown_lists lists) place [])
-      ∙ ap (set (shown_lists lists) place) (sym (unwrap_or-slice_get (shown_lists lists) place []) ∙ sym (append-nil (unwrap_or (slice_get (shown_lists lists) place) [])))
+      ∙ ap (set (shown_lists lists) place) (sym (unwrap_or-slice_get (shown_lists lists) place [])
+      ∙ sym (append-nil (unwrap_or (slice_get (shown_lists lists) place) [])))
       ∙ ap (λ (one : Option X). set (shown_lists lists) place (unwrap_or (slice_get (shown_lists lists) place) [] ++ cons_option one [])) none
 
   -- one item more
@@ -62,7 +64,8 @@ module _ {X : Type 0} (lists : List (Vec (Bor X))) (place : ℕ) where
       ∙ ap (λ list. list ++ item.now ∷ [])
       (ap (λ (list : Vec (Bor X)). map (λ x. x.now) list.items) here
       ∙ sym (get_or-map (λ (list : Vec (Bor X)). map (λ x. x.now) list.items) lists place was (map (λ x. x.now) was.items) within)
-      ∙ same_default (shown_lists lists) place (map (λ x. x.now) was.items) (subst (λ n. place < n) (sym (length-map lists (λ list. map (λ x. x.now) list.items))) within)))
+      ∙ same_default (shown_lists lists) place (map (λ x. x.now) was.items) (subst (λ n. place < n)
+      (sym (length-map lists (λ list. map (λ x. x.now) list.items))) within)))
       ∙ ap (λ (some : Option X). set (shown_lists lists) place (unwrap_or (slice_get (shown_lists lists) place) [] ++ cons_option some [])) one
     where
       same_default : (all : List (List X)) (i : ℕ) (d : List X) → i < length all → get_or all i d ≡ unwrap_or (slice_get all i) []
@@ -103,7 +106,8 @@ module _ {X : Type 0} where
   pub last_list : (lists : List (List X)) (list : List X) (i : ℕ) → i ≡ length lists → unwrap_or (slice_get (lists ++ list ∷ []) i) [] ≡ list
   last_list lists list i is = ap (λ k. unwrap_or (slice_get (lists ++ list ∷ []) k) []) is ∙ ap (λ found. unwrap_or found []) (at_push_last lists list)
 
-  pub list_before : (lists : List (List X)) (list : List X) (i : ℕ) → i ≢ length lists → unwrap_or (slice_get (lists ++ list ∷ []) i) [] ≡ unwrap_or (slice_get lists i) []
+  pub list_before : (lists : List (List X)) (list : List X) (i : ℕ) → i ≢ length lists
+      → unwrap_or (slice_get (lists ++ list ∷ []) i) [] ≡ unwrap_or (slice_get lists i) []
   list_before [] list zero apart = absurd (apart refl)
   list_before [] list (suc i) apart = refl
   list_before (first ∷ lists) list zero apart = refl

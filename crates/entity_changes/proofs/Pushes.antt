@@ -8,7 +8,8 @@ use Rattle.emc_base.proofs.Members.{contains_head}
 module _ {X : Type 0} where
   -- one item more is the last
   pub push_cases : (xs : List X) (x y : X) → Contains (xs ++ x ∷ []) y → Contains xs y ⊎ (y ≡ x)
-  push_cases xs x y has = ⊎_elim (λ (old : Contains xs y). inl old) (λ (last : Contains (x ∷ []) y). inr (only_member (x ∷ []) x y refl last)) (Contains-append_cases xs (x ∷ []) y has)
+  push_cases xs x y has = ⊎_elim (λ (old : Contains xs y). inl old) (λ (last : Contains (x ∷ []) y). inr (only_member (x ∷ []) x y refl last))
+      (Contains-append_cases xs (x ∷ []) y has)
 
   pub push_old : (xs : List X) (x y : X) → Contains xs y → Contains (xs ++ x ∷ []) y
   push_old xs x y has = Contains-append_left xs (x ∷ []) y has
@@ -29,13 +30,14 @@ false_from false never = refl
 pub any_push : {X : Type 0} (P : X → Type 0) (xs : List X) (x : X) → Any P (xs ++ x ∷ []) ↔ (Any P xs ⊎ P x)
 any_push {X} P xs x = (
   (λ some. ⊎_elim
-    (λ (before : Contains xs some.1). inl (before.0, some.1, before.1, before.2, some.4))
-    (λ (last : some.1 ≡ x). inr (subst P last some.4))
-    (push_cases xs x some.1 (some.0, some.2, some.3))),
+      (λ (before : Contains xs some.1). inl (before.0, some.1, before.1, before.2, some.4))
+      (λ (last : some.1 ≡ x). inr (subst P last some.4))
+      (push_cases xs x some.1 (some.0, some.2, some.3))),
   (λ either. ⊎_elim
-    (λ (before : Any P xs). let has : Contains (xs ++ x ∷ []) before.1 = push_old xs x before.1 (before.0, before.2, before.3) in (has.0, before.1, has.1, has.2, before.4))
-    (λ (last : P x). Any-push P xs x last)
-    either),
+      (λ (before : Any P xs). let has : Contains (xs ++ x ∷ []) before.1 = push_old xs x before.1 (before.0, before.2, before.3) in
+      (has.0, before.1, has.1, has.2, before.4))
+      (λ (last : P x). Any-push P xs x last)
+      either),
 )
 
 -- so what is listed goes on being listed

@@ -21,7 +21,8 @@ module _ (model : EntityModel) (xs : List Entity) where
     pub same_left : (entity : Entity) → key_of model entity ≢ gone → Contains xs entity ↔ Contains (filter (λ old. not (same_key (key_of model old) gone)) xs) entity
     unfolding test
     same_left entity apart = (
-      (λ has. contains_filter test xs entity has (ap not (false_from (same_key (key_of model entity) gone) (λ told. apart ((Decides-key (key_of model entity) gone).0 told))))),
+      (λ has. contains_filter test xs entity has (ap not (false_from (same_key (key_of model entity) gone)
+          (λ told. apart ((Decides-key (key_of model entity) gone).0 told))))),
       (λ has. (filter_contains test xs entity has).0),
     )
 
@@ -44,7 +45,8 @@ module _ (model : EntityModel) (xs : List Entity) where
         by : (b : Bool) → same_key (key_of model old) (key_of model entity) ≡ b → (put old ≡ entity) ⊎ ((put old ≡ old) × (key_of model old ≢ key_of model entity))
         by true told = inl (put_there old ((Decides-key (key_of model old) (key_of model entity)).0 told))
         by false told =
-            let apart : key_of model old ≢ key_of model entity = λ same. clash (same_key (key_of model old) (key_of model entity)) ((Decides-key (key_of model old) (key_of model entity)).1 same) told in
+            let apart : key_of model old ≢ key_of model entity = λ same. clash (same_key (key_of model old) (key_of model entity))
+            ((Decides-key (key_of model old) (key_of model entity)).1 same) told in
             inr (put_not old apart, apart)
 
     -- an entity stands where one of its key stood
@@ -70,8 +72,8 @@ module _ (model : EntityModel) (xs : List Entity) where
     same_replaced other apart = (
       (λ has. subst (Contains (map put xs)) (put_not other apart) (contains_map put xs other has)),
       (λ has.
-        let from = map_contains put xs other has in
-        ⊎_elim (λ (one : put from.0 ≡ entity). absurd (apart (ap (key_of model) (sym from.2 ∙ one))))
-        (λ (kept : (put from.0 ≡ from.0) × (key_of model from.0 ≢ key_of model entity)). subst (Contains xs) (sym kept.0 ∙ from.2) from.1)
-        (put_cases from.0)),
+          let from = map_contains put xs other has in
+          ⊎_elim (λ (one : put from.0 ≡ entity). absurd (apart (ap (key_of model) (sym from.2 ∙ one))))
+          (λ (kept : (put from.0 ≡ from.0) × (key_of model from.0 ≢ key_of model entity)). subst (Contains xs) (sym kept.0 ∙ from.2) from.1)
+          (put_cases from.0)),
     )

@@ -53,9 +53,10 @@ Decides-spot p q = (
 
 -- keys of one set stand at one spot just where they are one
 pub key_spot_same : (s : SetId) (key other : List Value) → same_spot (key_spot s key) (key_spot s other) ≡ same_key other key
-key_spot_same s key other = same_from_decides (same_spot (key_spot s key) (key_spot s other)) (same_key other key)
-    ((λ told. sym (ap (λ (p : Spot). p.1) ((Decides-spot (key_spot s key) (key_spot s other)).0 told))),
-      (λ same. (Decides-spot (key_spot s key) (key_spot s other)).1 (ap (key_spot s) (sym same))))
+key_spot_same s key other = same_from_decides (same_spot (key_spot s key) (key_spot s other)) (same_key other key) (
+  (λ told. sym (ap (λ (p : Spot). p.1) ((Decides-spot (key_spot s key) (key_spot s other)).0 told))),
+  (λ same. (Decides-spot (key_spot s key) (key_spot s other)).1 (ap (key_spot s) (sym same))),
+)
     (Decides-key other key)
 
 -- those of different numbers don't
@@ -96,4 +97,5 @@ Decides-link_spot a link other = (
 )
 
 pub link_spot_same : (a : AssocId) (link other : Link) → same_spot (link_spot a link) (link_spot a other) ≡ same_link other link
-link_spot_same a link other = same_from_decides (same_spot (link_spot a link) (link_spot a other)) (same_link other link) (Decides-link_spot a link other) (Decides-link other link)
+link_spot_same a link other = same_from_decides (same_spot (link_spot a link) (link_spot a other)) (same_link other link) (Decides-link_spot a link other)
+    (Decides-link other link)

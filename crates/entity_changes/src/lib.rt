@@ -8,7 +8,7 @@ mod making;
 mod spots;
 mod touched;
 
-pub use making::{ApplyFault, apply};
-pub use laws::only_touched_units_change;
 pub use change::{Change, Reason};
+pub use laws::only_touched_units_change;
+pub use making::{ApplyFault, apply};
 pub use touched::Touched;

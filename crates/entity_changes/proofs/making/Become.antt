@@ -22,7 +22,8 @@ module _ {X : Type 0} where
   filter_map-map g f [] = refl
   filter_map-map g f (x ∷ xs) = ap (cons_option (g (f x))) (filter_map-map g f xs)
 
-  dropped : (b : Bool) (g : Option X) (x : X) (kept : List X) (h : X → Option X) → h x ≡ g → filter_map h (cond b (x ∷ kept) kept) ≡ cons_option (cond b g None) (filter_map h kept)
+  dropped : (b : Bool) (g : Option X) (x : X) (kept : List X) (h : X → Option X) → h x ≡ g
+      → filter_map h (cond b (x ∷ kept) kept) ≡ cons_option (cond b g None) (filter_map h kept)
   dropped true g x kept h is = ap (λ found. cons_option found (filter_map h kept)) is
   dropped false g x kept h is = refl
 
@@ -69,7 +70,8 @@ module _ {X : Type 0} (spot : Spot) (old new : Fates X) (spot_of : X → Spot) (
           by false is = one.fates (spot_of x) x ∙ ap (λ b. survivor (get spot_cmp old.by_spot (spot_of x)) (cond b item x)) is
 
   -- other lists become what they became
-  pub removed_elsewhere : RemovesItems spot old new → ((x : X) → same_spot spot (spot_of x) ≡ false) → (xs : List X) → becomes new spot_of place xs ≡ becomes old spot_of place xs
+  pub removed_elsewhere : RemovesItems spot old new → ((x : X) → same_spot spot (spot_of x) ≡ false) → (xs : List X)
+      → becomes new spot_of place xs ≡ becomes old spot_of place xs
   removed_elsewhere one apart xs =
       λ i. filter_map_same (λ x. survivor (get spot_cmp new.by_spot (spot_of x)) x) (λ x. survivor (get spot_cmp old.by_spot (spot_of x)) x)
       (λ x. ap (λ found. survivor found x) (one.fates (spot_of x) ∙ ap (λ b. cond b (Some Gone) (get spot_cmp old.by_spot (spot_of x))) (apart x))) xs i
@@ -94,7 +96,8 @@ module _ {X : Type 0} (spot : Spot) (old new : Fates X) (spot_of : X → Spot) (
   pub added : place < length (behind_lists old) → spot_of item ≡ spot → (xs : List X) → becomes new spot_of place xs ≡ becomes old spot_of place (xs ++ item ∷ [])
   added within its xs =
       let kept : Option X = survivor (get spot_cmp old.by_spot spot) item in
-      (λ i. same_survivors xs i ++ reverse ((ap (λ lists. unwrap_or (slice_get lists place) []) one.lists ∙ put_here (behind_lists old) place (behind_at old place ++ cons_option kept []) within) i))
+      (λ i. same_survivors xs i ++ reverse ((ap (λ lists. unwrap_or (slice_get lists place) []) one.lists
+      ∙ put_here (behind_lists old) place (behind_at old place ++ cons_option kept []) within) i))
       ∙ ap (λ list. survivors old spot_of xs ++ list) (behind_turned kept (behind_at old place))
       ∙ sym (append_assoc (survivors old spot_of xs) (cons_option kept []) (reverse (behind_at old place)))
       ∙ ap (λ list. list ++ reverse (behind_at old place))

@@ -1,5 +1,5 @@
 -- What stands in a state, as its lists are passed.
-use Rattle.std.proofs.Common.{◌≡◌, ◌≢◌, ◌↔◌, ◌<◌, ◌≤◌, ◌+◌, ◌||◌, ◌⊎◌, ⊎_elim, inl, inr, arith, get_or, ℕ, List, [], ◌∷◌, ◌++◌, take, length, slice_get, unwrap_or, Contains, Some, IsTrue, Bool, true, false, cond, refl, sym, ap, subst, ◌∙◌}
+use Rattle.std.proofs.Common.{◌≡◌, ◌≢◌, ◌↔◌, ◌<◌, ◌≤◌, ◌+◌, ◌||◌, ◌⊎◌, ⊎_elim, inl, inr, arith, get_or, ℕ, List, [], ◌∷◌, ◌++◌, take, length, slice_get, unwrap_or, Contains, Some, IsTrue, Bool, true, false, refl, sym, ap, subst, ◌∙◌}
 use Rattle.std.specs.BTreeMap.{BTreeMap, get}
 use Rattle.std.specs.BTreeSet.{BTreeSet, contains}
 use Rattle.std.specs.List.{list_any}
@@ -10,21 +10,17 @@ use Rattle.std.proofs.lemmas.Option.{slice_get_within}
 use Rattle.emc_base.specs.Lists.{At}
 use Rattle.emc_base.proofs.Loops.{take_item}
 use Rattle.emc_base.proofs.Members.{contains_nil, contains_cons_cases, contains_tail, contains_head}
-use Rattle.round_trip.specs.Words.{SetId, AssocId, TypeId, Value, EntityModel, Entity, Link, key_of}
+use Rattle.round_trip.specs.Words.{SetId, AssocId, Value, EntityModel, Entity, Link, key_of}
 use Rattle.entity_changes.specs.declared.making.types.Types.{Types}
 use Rattle.entity_changes.specs.Spots.{Spot, key_spot, link_spot, same_spot, spot_cmp}
 use Rattle.entity_changes.specs.making.Standing.{AddsLinks, AddsTypes}
-use Rattle.entity_changes.specs.making.Types.{AreTypes, joined}
+use Rattle.entity_changes.specs.making.Types.{AddsType, AreTypes, joined}
 use Rattle.entity_changes.proofs.Afterwards.{same_assoc, same_set}
 use Rattle.entity_changes.proofs.Kept.{list_not_yet, list_now, list_then}
 use Rattle.entity_changes.proofs.SpotOrder.{Decides-link_spot, apart_spots}
 use Rattle.entity_changes.proofs.making.Taken.{at_spot, beside_spot, same_or_not}
 use Rattle.entity_changes.proofs.Pushes.{}
 use Rattle.entity_changes.proofs.making.TypesOf.{another, one_more}
-
--- a type more is known at a spot
-abbrev pub AddsType : Spot → TypeId → BTreeMap Spot Types → BTreeMap Spot Types → Type 0
-AddsType spot ty was now = (q : Spot) → get spot_cmp now q ≡ cond (same_spot spot q) (Some (joined (get spot_cmp was spot) ty)) (get spot_cmp was q)
 
 module _ (model : EntityModel) where
   module _ (s : SetId) (entity : Entity) (was now : BTreeMap Spot Types) (adds : AddsType (key_spot s (key_of model entity)) entity.ty was now) where
@@ -37,22 +33,26 @@ module _ (model : EntityModel) where
     type_more xs known key = ⊎_elim
         (λ (same : k ≡ key).
         subst (AreTypes model (xs ++ entity ∷ []) key)
-        (sym (adds (key_spot s key) ∙ at_spot (key_spot s k) (key_spot s key) (Some (joined (get spot_cmp was (key_spot s k)) entity.ty)) (get spot_cmp was (key_spot s key)) (ap (key_spot s) same)
+        (sym (adds (key_spot s key) ∙ at_spot (key_spot s k) (key_spot s key) (Some (joined (get spot_cmp was (key_spot s k)) entity.ty))
+        (get spot_cmp was (key_spot s key)) (ap (key_spot s) same)
         ∙ ap (λ q. Some (joined (get spot_cmp was (key_spot s q)) entity.ty)) same))
         (one_more model xs entity key (get spot_cmp was (key_spot s key)) same (known key)))
         (λ (apart : k ≢ key).
         subst (AreTypes model (xs ++ entity ∷ []) key)
-        (sym (adds (key_spot s key) ∙ beside_spot (key_spot s k) (key_spot s key) (Some (joined (get spot_cmp was (key_spot s k)) entity.ty)) (get spot_cmp was (key_spot s key))
+        (sym (adds (key_spot s key) ∙ beside_spot (key_spot s k) (key_spot s key) (Some (joined (get spot_cmp was (key_spot s k)) entity.ty))
+        (get spot_cmp was (key_spot s key))
         (λ same. apart (ap (λ (p : Spot). p.1) same))))
         (another model xs entity key (get spot_cmp was (key_spot s key)) apart (known key)))
         (same_or_not k key)
 
     type_elsewhere : (q : Spot) → s.index ≢ q.0 → get spot_cmp now q ≡ get spot_cmp was q
-    type_elsewhere q apart = adds q ∙ beside_spot (key_spot s k) q (Some (joined (get spot_cmp was (key_spot s k)) entity.ty)) (get spot_cmp was q) (λ same. apart (ap (λ (p : Spot). p.0) same))
+    type_elsewhere q apart = adds q ∙ beside_spot (key_spot s k) q (Some (joined (get spot_cmp was (key_spot s k)) entity.ty)) (get spot_cmp was q)
+        (λ same. apart (ap (λ (p : Spot). p.0) same))
 
   -- one entity of the list more
   pub types_more : (s : SetId) (entities : List Entity) (i : ℕ) (entity : Entity) → At entities i entity → (first was now : BTreeMap Spot Types)
-      → AddsType (key_spot s (key_of model entity)) entity.ty was now → AddsTypes model s (take i entities) first was → AddsTypes model s (take (i + 1) entities) first now
+      → AddsType (key_spot s (key_of model entity)) entity.ty was now → AddsTypes model s (take i entities) first was
+      → AddsTypes model s (take (i + 1) entities) first now
   types_more s entities i entity here first was now adds before = record {
     own = λ front known key.
         subst (λ list. AreTypes model list key (get spot_cmp now (key_spot s key)))
@@ -99,15 +99,17 @@ module _ (a : AssocId) (link : Link) where
   in_list [] = ((λ told. cc), (λ has. absurd (contains_nil link has)))
   in_list (one ∷ list) = (
     (λ told. ⊎_elim
-      (λ (here : same_spot (link_spot a one) (link_spot a link) ≡ true). subst (Contains (one ∷ list)) (sym ((Decides-link_spot a one link).0 here)) (contains_head one list))
-      (λ (later : list_any (λ one. same_spot (link_spot a one) (link_spot a link)) list ≡ true). contains_tail one list link ((in_list list).0 later))
-      (either_true (same_spot (link_spot a one) (link_spot a link)) (list_any (λ one. same_spot (link_spot a one) (link_spot a link)) list) told)),
+        (λ (here : same_spot (link_spot a one) (link_spot a link) ≡ true). subst (Contains (one ∷ list)) (sym ((Decides-link_spot a one link).0 here))
+        (contains_head one list))
+        (λ (later : list_any (λ one. same_spot (link_spot a one) (link_spot a link)) list ≡ true). contains_tail one list link ((in_list list).0 later))
+        (either_true (same_spot (link_spot a one) (link_spot a link)) (list_any (λ one. same_spot (link_spot a one) (link_spot a link)) list) told)),
     (λ has. ⊎_elim
-      (λ (here : link ≡ one). first_true (same_spot (link_spot a one) (link_spot a link)) (list_any (λ one. same_spot (link_spot a one) (link_spot a link)) list)
-      ((Decides-link_spot a one link).1 here))
-      (λ (later : Contains list link). second_true (same_spot (link_spot a one) (link_spot a link)) (list_any (λ one. same_spot (link_spot a one) (link_spot a link)) list)
-      ((in_list list).1 later))
-      (contains_cons_cases one list link has)),
+        (λ (here : link ≡ one). first_true (same_spot (link_spot a one) (link_spot a link)) (list_any (λ one. same_spot (link_spot a one) (link_spot a link)) list)
+        ((Decides-link_spot a one link).1 here))
+        (λ (later : Contains list link). second_true (same_spot (link_spot a one) (link_spot a link))
+        (list_any (λ one. same_spot (link_spot a one) (link_spot a link)) list)
+        ((in_list list).1 later))
+        (contains_cons_cases one list link has)),
   )
 
 -- the links of one association set more
@@ -116,14 +118,17 @@ pub links_more : (lists : List (List Link)) (i : ℕ) (list : List Link) → At 
     → (a : AssocId) (link : Link) → IsTrue (contains spot_cmp now (link_spot a link)) ↔ Contains (unwrap_or (slice_get (take (i + 1) lists) a.index) []) link
 links_more lists i list here was now adds known a link = ⊎_elim
     (λ (same : a.index ≡ i).
-    subst (λ (b : AssocId). IsTrue (contains spot_cmp now (link_spot b link)) ↔ Contains (unwrap_or (slice_get (take (i + 1) lists) b.index) []) link) (same_assoc own a (sym same))
+    subst (λ (b : AssocId). IsTrue (contains spot_cmp now (link_spot b link)) ↔ Contains (unwrap_or (slice_get (take (i + 1) lists) b.index) []) link)
+    (same_assoc own a (sym same))
     (subst (λ links. IsTrue (contains spot_cmp now (link_spot own link)) ↔ Contains links link) (sym (list_now lists list i here)) (
       (λ told. ⊎_elim
-        (λ (old : contains spot_cmp was (link_spot own link) ≡ true). absurd (contains_nil link (subst (λ links. Contains links link) none ((known own link).0 old))))
-        (λ (new : list_any (λ one. same_spot (link_spot own one) (link_spot own link)) list ≡ true). (in_list own link list).0 new)
-        (either_true (contains spot_cmp was (link_spot own link)) (list_any (λ one. same_spot (link_spot own one) (link_spot own link)) list) (sym (adds (link_spot own link)) ∙ told))),
-      (λ has. adds (link_spot own link) ∙ second_true (contains spot_cmp was (link_spot own link)) (list_any (λ one. same_spot (link_spot own one) (link_spot own link)) list)
-        ((in_list own link list).1 has)),
+          (λ (old : contains spot_cmp was (link_spot own link) ≡ true). absurd (contains_nil link (subst (λ links. Contains links link) none ((known own link).0 old))))
+          (λ (new : list_any (λ one. same_spot (link_spot own one) (link_spot own link)) list ≡ true). (in_list own link list).0 new)
+          (either_true (contains spot_cmp was (link_spot own link)) (list_any (λ one. same_spot (link_spot own one) (link_spot own link)) list)
+          (sym (adds (link_spot own link)) ∙ told))),
+      (λ has. adds (link_spot own link) ∙ second_true (contains spot_cmp was (link_spot own link))
+          (list_any (λ one. same_spot (link_spot own one) (link_spot own link)) list)
+          ((in_list own link list).1 has)),
     )))
     (λ (apart : a.index ≢ i).
     subst (λ links. IsTrue (contains spot_cmp now (link_spot a link)) ↔ Contains links link) (sym (list_then lists list i a.index here apart))

@@ -15,7 +15,7 @@ use Rattle.entity_changes.specs.declared.making.fates.Fates.{Fates}
 use Rattle.entity_changes.specs.declared.making.foretold.Foretold.{Foretold}
 use Rattle.entity_changes.specs.Changes.{after}
 use Rattle.entity_changes.specs.Spots.{Spot, key_spot, link_spot, spot_cmp}
-use Rattle.entity_changes.specs.making.Fates.{Foretells, HasSize, IsFresh, becomes, survivor, survivors}
+use Rattle.entity_changes.specs.making.Fates.{entities_at, links_at, Foretells, HasSize, IsFresh, becomes, survivor, survivors}
 use Rattle.entity_changes.proofs.Afterwards.{lengths_entities, lengths_links}
 use Rattle.entity_changes.proofs.Kept.{numbered_at, same_lists, shown_lists}
 
@@ -29,7 +29,8 @@ module _ {X : Type 0} (fates : Fates X) (count : ℕ) (fresh : IsFresh count fat
 
   none_behind : (lists : List (Vec (Bor X))) → All (λ list. list.items ≡ []) lists → (i : ℕ) → unwrap_or (slice_get (shown_lists lists) i) [] ≡ []
   none_behind [] all i = refl
-  none_behind (list ∷ lists) all zero = let empty : list.items ≡ [] = All-head (λ (one : Vec (Bor X)). one.items ≡ []) list lists all in ap (map (λ item. item.now)) empty
+  none_behind (list ∷ lists) all zero = let empty : list.items ≡ [] = All-head (λ (one : Vec (Bor X)). one.items ≡ []) list lists all in ap
+      (map (λ item. item.now)) empty
   none_behind (list ∷ lists) all (suc i) = none_behind lists (All-tail (λ (one : Vec (Bor X)). one.items ≡ []) list lists all) i
 
   -- and nothing comes
@@ -37,12 +38,6 @@ module _ {X : Type 0} (fates : Fates X) (count : ℕ) (fresh : IsFresh count fat
   stays xs = (λ i. each_stays xs i ++ reverse (none_behind fates.behind.items fresh.none place i)) ∙ append-nil xs
 
 module _ (model : EntityModel) (told : Foretold) where
-  abbrev entities_at : ℕ × List Entity → List Entity
-  entities_at entry = becomes told.entities (λ entity. key_spot (record { index = entry.0 }) (key_of model entity)) entry.0 entry.1
-
-  abbrev links_at : ℕ × List Link → List Link
-  links_at entry = becomes told.links (link_spot (record { index = entry.0 })) entry.0 entry.1
-
   pub foretells_none : (sets assocs : ℕ) → IsFresh sets told.entities → IsFresh assocs told.links → Foretells model [] told
   foretells_none sets assocs entities links = record {
     entities = λ state size s. sym (stays told.entities sets entities (λ entity. key_spot s (key_of model entity)) s.index (entities_in state s));
@@ -51,26 +46,26 @@ module _ (model : EntityModel) (told : Foretold) where
 
   module _ (state : State) (changes : List Change) (foretells : Foretells model changes told) (size : HasSize (length state.entities) (length state.links) told) where
     -- what becomes of each list is what stands there afterwards
-    pub entities_made : map (λ (entry : ℕ × List Entity). becomes told.entities (λ entity. key_spot (record { index = entry.0 }) (key_of model entity)) entry.0 entry.1) (enumerate_from 0 state.entities)
-        ≡ (after model state changes).entities
-    entities_made = same_lists (map entities_at (enumerate_from 0 state.entities)) (after model state changes).entities
-        (length-map (enumerate_from 0 state.entities) entities_at ∙ length-enumerate_from 0 state.entities ∙ sym (lengths_entities model changes state))
-        (λ i within. numbered_at entities_at state.entities i [] []
-        (subst (λ n. i < n) (length-map (enumerate_from 0 state.entities) entities_at ∙ length-enumerate_from 0 state.entities) within)
+    pub entities_made : map (entities_at model told.entities) (enumerate_from 0 state.entities) ≡ (after model state changes).entities
+    entities_made = same_lists (map (entities_at model told.entities) (enumerate_from 0 state.entities)) (after model state changes).entities
+        (length-map (enumerate_from 0 state.entities) (entities_at model told.entities) ∙ length-enumerate_from 0 state.entities ∙ sym (lengths_entities model changes state))
+        (λ i within. numbered_at (entities_at model told.entities) state.entities i [] []
+        (subst (λ n. i < n) (length-map (enumerate_from 0 state.entities) (entities_at model told.entities) ∙ length-enumerate_from 0 state.entities) within)
         ∙ sym (foretells.entities state (sym size.entities) (record { index = i })))
 
-    pub links_made : map (λ (entry : ℕ × List Link). becomes told.links (link_spot (record { index = entry.0 })) entry.0 entry.1) (enumerate_from 0 state.links) ≡ (after model state changes).links
-    links_made = same_lists (map links_at (enumerate_from 0 state.links)) (after model state changes).links
-        (length-map (enumerate_from 0 state.links) links_at ∙ length-enumerate_from 0 state.links ∙ sym (lengths_links model changes state))
-        (λ i within. numbered_at links_at state.links i [] []
-        (subst (λ n. i < n) (length-map (enumerate_from 0 state.links) links_at ∙ length-enumerate_from 0 state.links) within)
+    pub links_made : map (links_at told.links) (enumerate_from 0 state.links) ≡ (after model state changes).links
+    links_made = same_lists (map (links_at told.links) (enumerate_from 0 state.links)) (after model state changes).links
+        (length-map (enumerate_from 0 state.links) (links_at told.links) ∙ length-enumerate_from 0 state.links ∙ sym (lengths_links model changes state))
+        (λ i within. numbered_at (links_at told.links) state.links i [] []
+        (subst (λ n. i < n) (length-map (enumerate_from 0 state.links) (links_at told.links) ∙ length-enumerate_from 0 state.links) within)
         ∙ sym (foretells.links state (sym size.links) (record { index = i })))
 
     -- so the lists that are made are the state's afterwards
     pub made_state : (entities : List (List Entity)) (links : List (List Link)) (new_entities : List (List Entity)) (new_links : List (List Link))
-        → entities ≡ state.entities → links ≡ state.links → new_entities ≡ map entities_at (enumerate_from 0 entities) → new_links ≡ map links_at (enumerate_from 0 links)
+        → entities ≡ state.entities → links ≡ state.links → new_entities ≡ map (entities_at model told.entities) (enumerate_from 0 entities)
+        → new_links ≡ map (links_at told.links) (enumerate_from 0 links)
         → record { entities = new_entities; links = new_links } ≡ after model state changes
     made_state entities links new_entities new_links same same_links is links_is = λ i. record {
-      entities = (is ∙ ap (λ lists. map entities_at (enumerate_from 0 lists)) same ∙ entities_made) i;
-      links = (links_is ∙ ap (λ lists. map links_at (enumerate_from 0 lists)) same_links ∙ links_made) i;
+      entities = (is ∙ ap (λ lists. map (entities_at model told.entities) (enumerate_from 0 lists)) same ∙ entities_made) i;
+      links = (links_is ∙ ap (λ lists. map (links_at told.links) (enumerate_from 0 lists)) same_links ∙ links_made) i;
     }

@@ -20,7 +20,8 @@ module _ {X : Type 0} (spot : Spot) where
   put_first item old new absent updates q one = ap (λ found. survivor found one) (updates q) ∙ by (same_spot spot q) refl
     where
       by : (b : Bool) → same_spot spot q ≡ b → survivor (cond b (Some (Replaced item)) (get spot_cmp old q)) one ≡ survivor (get spot_cmp old q) (cond b item.now one)
-      by true same = sym (ap (λ found. survivor found item.now) (ap (get spot_cmp old) (sym ((Decides-spot spot q).0 same)) ∙ none_known (get spot_cmp old spot) absent))
+      by true same = sym (ap (λ found. survivor found item.now) (ap (get spot_cmp old) (sym ((Decides-spot spot q).0 same))
+          ∙ none_known (get spot_cmp old spot) absent))
       by false same = refl
 
   known_anyway : (found : Option (Fate X)) (item one : X) → is_some found ≡ true → survivor found one ≡ survivor found item

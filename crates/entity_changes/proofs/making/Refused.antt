@@ -74,9 +74,10 @@ module _ (model : EntityModel) (state : State) where
     taken takes =
         let told = takes (after model state (take i changes)) (list_of_each model state changes good (take i changes) one (contains_at changes i one here)) before.1 in
         let P : List Change → Type 0 = λ list. AreAccepted model state list × TellsStanding model (after model state list) new in
-        subst P (sym (take_item changes i one here))
-        (accepted_more (take i changes) one before.0 told.0,
-          subst (λ (state : State). TellsStanding model state new) (sym (after_more model (take i changes) state one)) told.1)
+        subst P (sym (take_item changes i one here)) (
+          accepted_more (take i changes) one before.0 told.0,
+          subst (λ (state : State). TellsStanding model state new) (sym (after_more model (take i changes) state one)) told.1,
+        )
 
     -- and one that is refused
     pub refused : (why : Reason) → Takes model one old new (Some why) → IsRefusal model state changes i why

@@ -20,7 +20,8 @@ module _ (model : EntityModel) where
       (one, other, (same one one_is).0 one_has, (same other other_is).0 other_has, one_is, other_is, apart)
 
   -- something known tells of an entity
-  pub has_one : (xs : List Entity) (key : List Value) (types : Types) → AreTypes model xs key (Some types) → (entity : Entity) × Contains xs entity × (key_of model entity ≡ key)
+  pub has_one : (xs : List Entity) (key : List Value) (types : Types) → AreTypes model xs key (Some types) → (entity : Entity) × Contains xs entity
+      × (key_of model entity ≡ key)
   has_one xs key (One ty) are = are.0
   has_one xs key Several (one, other, one_has, other_has, one_is, other_is, apart) = (one, one_has, one_is)
 
@@ -28,14 +29,19 @@ module _ (model : EntityModel) where
     -- an entity of another key makes no difference
     pub another : (found : Option Types) → key_of model entity ≢ key → AreTypes model xs key found → AreTypes model (xs ++ entity ∷ []) key found
     another found apart are = same_types xs (xs ++ entity ∷ []) key found
-        (λ other is. (push_old xs entity other,
-          λ has. ⊎_elim (λ (old : Contains xs other). old) (λ (last : other ≡ entity). absurd (apart (ap (key_of model) (sym last) ∙ is))) (push_cases xs entity other has))) are
+        (λ other is. (
+          push_old xs entity other,
+          λ has. ⊎_elim (λ (old : Contains xs other). old) (λ (last : other ≡ entity). absurd (apart (ap (key_of model) (sym last) ∙ is)))
+              (push_cases xs entity other has),
+        )) are
 
     -- one of the key makes its type known
-    pub one_more : (found : Option Types) → key_of model entity ≡ key → AreTypes model xs key found → AreTypes model (xs ++ entity ∷ []) key (Some (joined found entity.ty))
+    pub one_more : (found : Option Types) → key_of model entity ≡ key → AreTypes model xs key found
+        → AreTypes model (xs ++ entity ∷ []) key (Some (joined found entity.ty))
     one_more None is are = (
       (entity, push_last xs entity, is),
-      (λ other has its. ⊎_elim (λ (old : Contains xs other). absurd (are other old its)) (λ (last : other ≡ entity). ap (λ (e : Entity). e.ty) last) (push_cases xs entity other has)),
+      (λ other has its. ⊎_elim (λ (old : Contains xs other). absurd (are other old its)) (λ (last : other ≡ entity). ap (λ (e : Entity). e.ty) last)
+          (push_cases xs entity other has)),
     )
     one_more (Some (One old)) is ((first, first_has, first_is), all) = by (old.index == entity.ty.index) refl
       where
@@ -43,10 +49,19 @@ module _ (model : EntityModel) where
         by true told =
             let same : old ≡ entity.ty = λ i. record { index = (Decides-eqb old.index entity.ty.index).0 told i } in (
               (entity, push_last xs entity, is),
-              (λ other has its. ⊎_elim (λ (before : Contains xs other). all other before its ∙ same) (λ (last : other ≡ entity). ap (λ (e : Entity). e.ty) last) (push_cases xs entity other has)),
+              (λ other has its. ⊎_elim (λ (before : Contains xs other). all other before its ∙ same) (λ (last : other ≡ entity). ap (λ (e : Entity). e.ty) last)
+                  (push_cases xs entity other has)),
             )
-        by false told = (first, entity, push_old xs entity first first_has, push_last xs entity, first_is, is,
-          λ same. clash (old.index == entity.ty.index) ((Decides-eqb old.index entity.ty.index).1 (ap (λ (t : TypeId). t.index) (sym (all first first_has first_is) ∙ same))) told)
+        by false told = (
+          first,
+          entity,
+          push_old xs entity first first_has,
+          push_last xs entity,
+          first_is,
+          is,
+          λ same. clash (old.index == entity.ty.index) ((Decides-eqb old.index entity.ty.index).1
+              (ap (λ (t : TypeId). t.index) (sym (all first first_has first_is) ∙ same))) told,
+        )
     one_more (Some Several) is (one, other, one_has, other_has, one_is, other_is, apart) =
         (one, other, push_old xs entity one one_has, push_old xs entity other other_has, one_is, other_is, apart)
 
@@ -56,7 +71,8 @@ module _ (model : EntityModel) where
     none_left same entity has is = gone_left model xs gone entity (is ∙ same) has
 
     -- and of others what was known
-    pub others_left : (found : Option Types) → key ≢ gone → AreTypes model xs key found → AreTypes model (filter (λ old. not (same_key (key_of model old) gone)) xs) key found
+    pub others_left : (found : Option Types) → key ≢ gone → AreTypes model xs key found
+        → AreTypes model (filter (λ old. not (same_key (key_of model old) gone)) xs) key found
     others_left found apart are = same_types xs (filter (λ old. not (same_key (key_of model old) gone)) xs) key found
         (λ entity is. same_left model xs gone entity (λ same. apart (sym is ∙ same))) are
 

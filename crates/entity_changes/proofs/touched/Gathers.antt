@@ -17,7 +17,8 @@ use Rattle.entity_changes.specs.touched.Seen.{AddsOnce, AreGathered, AreSeen, Ga
 use Rattle.entity_changes.proofs.SpotOrder.{Decides-spot}
 use Rattle.entity_changes.proofs.Pushes.{clash, push_cases, push_last, push_old}
 
-module _ {X : Type 0} (spot_of : X → Spot) (tells : (x y : X) → spot_of x ≡ spot_of y → x ≡ y) (item : X) (old new : Seen X) (adds : AddsOnce (spot_of item) item old new)
+module _ {X : Type 0} (spot_of : X → Spot) (tells : (x y : X) → spot_of x ≡ spot_of y → x ≡ y) (item : X) (old new : Seen X)
+    (adds : AddsOnce (spot_of item) item old new)
     (seen : AreSeen spot_of old) where
   there : Bool
   there = contains spot_cmp old.spots (spot_of item)
@@ -29,16 +30,19 @@ module _ {X : Type 0} (spot_of : X → Spot) (tells : (x y : X) → spot_of x �
     where
       by : (b : Bool) → there ≡ b → Contains new.items one ↔ (Contains old.items one ⊎ (item ≡ one))
       by true is =
-          let same : new.items ≡ old.items = adds.added ∙ ap (λ b. if b then old.items else old.items ++ item ∷ []) is in
-          ((λ has. inl (subst (λ list. Contains list one) same has)),
+          let same : new.items ≡ old.items = adds.added ∙ ap (λ b. if b then old.items else old.items ++ item ∷ []) is in (
+            (λ has. inl (subst (λ list. Contains list one) same has)),
             (λ either. subst (λ list. Contains list one) (sym same)
-              (⊎_elim (λ (has : Contains old.items one). has) (λ (its : item ≡ one). subst (Contains old.items) its ((seen.noted item).0 is)) either)))
+                (⊎_elim (λ (has : Contains old.items one). has) (λ (its : item ≡ one). subst (Contains old.items) its ((seen.noted item).0 is)) either)),
+          )
       by false is =
-          let more : new.items ≡ old.items ++ item ∷ [] = adds.added ∙ ap (λ b. if b then old.items else old.items ++ item ∷ []) is in
-          ((λ has. ⊎_elim (λ (before : Contains old.items one). inl before) (λ (last : one ≡ item). inr (sym last)) (push_cases old.items item one (subst (λ list. Contains list one) more has))),
+          let more : new.items ≡ old.items ++ item ∷ [] = adds.added ∙ ap (λ b. if b then old.items else old.items ++ item ∷ []) is in (
+            (λ has. ⊎_elim (λ (before : Contains old.items one). inl before) (λ (last : one ≡ item). inr (sym last))
+                (push_cases old.items item one (subst (λ list. Contains list one) more has))),
             (λ either. subst (λ list. Contains list one) (sym more)
-              (⊎_elim (λ (has : Contains old.items one). push_old old.items item one has)
-              (λ (its : item ≡ one). subst (Contains (old.items ++ item ∷ [])) its (push_last old.items item)) either)))
+                (⊎_elim (λ (has : Contains old.items one). push_old old.items item one has)
+                (λ (its : item ≡ one). subst (Contains (old.items ++ item ∷ [])) its (push_last old.items item)) either)),
+          )
 
   -- they are still apart, and noted
   pub seen_more : AreSeen spot_of new
@@ -54,11 +58,13 @@ module _ {X : Type 0} (spot_of : X → Spot) (tells : (x y : X) → spot_of x �
               ((λ _. (items_more one).1 (inr its)), (λ _. adds.noted (spot_of one) ∙ ap (λ b. cond b true (contains spot_cmp old.spots (spot_of one))) same))
           by false same =
               let kept : contains spot_cmp new.spots (spot_of one) ≡ contains spot_cmp old.spots (spot_of one) =
-              adds.noted (spot_of one) ∙ ap (λ b. cond b true (contains spot_cmp old.spots (spot_of one))) same in
-              ((λ told. (items_more one).1 (inl ((seen.noted one).0 (sym kept ∙ told)))),
+              adds.noted (spot_of one) ∙ ap (λ b. cond b true (contains spot_cmp old.spots (spot_of one))) same in (
+                (λ told. (items_more one).1 (inl ((seen.noted one).0 (sym kept ∙ told)))),
                 (λ has. kept ∙ (seen.noted one).1 (⊎_elim (λ (before : Contains old.items one). before)
-                (λ (its : item ≡ one). absurd (clash (same_spot (spot_of item) (spot_of one)) ((Decides-spot (spot_of item) (spot_of one)).1 (ap spot_of its)) same))
-                ((items_more one).0 has))))
+                    (λ (its : item ≡ one). absurd (clash (same_spot (spot_of item) (spot_of one))
+                    ((Decides-spot (spot_of item) (spot_of one)).1 (ap spot_of its)) same))
+                    ((items_more one).0 has))),
+              )
 
       once : (b : Bool) → there ≡ b → AreApart new.items
       once true is = subst AreApart (sym (adds.added ∙ ap (λ b. if b then old.items else old.items ++ item ∷ []) is)) seen.once
@@ -78,28 +84,38 @@ module _ (entities : SetId × List Value → Type 0) (links : AssocId × Link �
   pub gathers_entity : (item : SetId × List Value) → AddsOnce (entity_at item) item old.entities new.entities → new.links ≡ old.links
       → ((one : SetId × List Value) → (item ≡ one) ↔ entities one) → ((one : AssocId × Link) → ¬ links one) → GathersThese entities links old new
   gathers_entity item adds same is none = record {
-    seen = record { entities = seen_more entity_at entity_told item old.entities new.entities adds gathered.entities;
-      links = subst (AreSeen link_at) (sym same) gathered.links };
-    more_entities = λ one. let more = items_more entity_at entity_told item old.entities new.entities adds gathered.entities one in
-        ((λ has. ⊎_elim (λ (before : Contains old.entities.items one). inl before) (λ (its : item ≡ one). inr ((is one).0 its)) (more.0 has)),
-          (λ either. more.1 (⊎_elim (λ (before : Contains old.entities.items one). inl before) (λ (its : entities one). inr ((is one).1 its)) either)));
-    more_links = λ one. ((λ has. inl (subst (λ (seen : Seen (AssocId × Link)). Contains seen.items one) same has)),
+    seen = record {
+      entities = seen_more entity_at entity_told item old.entities new.entities adds gathered.entities;
+      links = subst (AreSeen link_at) (sym same) gathered.links;
+    };
+    more_entities = λ one. let more = items_more entity_at entity_told item old.entities new.entities adds gathered.entities one in (
+      (λ has. ⊎_elim (λ (before : Contains old.entities.items one). inl before) (λ (its : item ≡ one). inr ((is one).0 its)) (more.0 has)),
+      (λ either. more.1 (⊎_elim (λ (before : Contains old.entities.items one). inl before) (λ (its : entities one). inr ((is one).1 its)) either)),
+    );
+    more_links = λ one. (
+      (λ has. inl (subst (λ (seen : Seen (AssocId × Link)). Contains seen.items one) same has)),
       (λ either. subst (λ (seen : Seen (AssocId × Link)). Contains seen.items one) (sym same)
-        (⊎_elim (λ (before : Contains old.links.items one). before) (λ (its : links one). absurd (none one its)) either)));
+          (⊎_elim (λ (before : Contains old.links.items one). before) (λ (its : links one). absurd (none one its)) either)),
+    );
   }
 
   -- one link more
   pub gathers_link : (item : AssocId × Link) → AddsOnce (link_at item) item old.links new.links → new.entities ≡ old.entities
       → ((one : AssocId × Link) → (item ≡ one) ↔ links one) → ((one : SetId × List Value) → ¬ entities one) → GathersThese entities links old new
   gathers_link item adds same is none = record {
-    seen = record { links = seen_more link_at link_told item old.links new.links adds gathered.links;
-      entities = subst (AreSeen entity_at) (sym same) gathered.entities };
-    more_links = λ one. let more = items_more link_at link_told item old.links new.links adds gathered.links one in
-        ((λ has. ⊎_elim (λ (before : Contains old.links.items one). inl before) (λ (its : item ≡ one). inr ((is one).0 its)) (more.0 has)),
-          (λ either. more.1 (⊎_elim (λ (before : Contains old.links.items one). inl before) (λ (its : links one). inr ((is one).1 its)) either)));
-    more_entities = λ one. ((λ has. inl (subst (λ (seen : Seen (SetId × List Value)). Contains seen.items one) same has)),
+    seen = record {
+      links = seen_more link_at link_told item old.links new.links adds gathered.links;
+      entities = subst (AreSeen entity_at) (sym same) gathered.entities;
+    };
+    more_links = λ one. let more = items_more link_at link_told item old.links new.links adds gathered.links one in (
+      (λ has. ⊎_elim (λ (before : Contains old.links.items one). inl before) (λ (its : item ≡ one). inr ((is one).0 its)) (more.0 has)),
+      (λ either. more.1 (⊎_elim (λ (before : Contains old.links.items one). inl before) (λ (its : links one). inr ((is one).1 its)) either)),
+    );
+    more_entities = λ one. (
+      (λ has. inl (subst (λ (seen : Seen (SetId × List Value)). Contains seen.items one) same has)),
       (λ either. subst (λ (seen : Seen (SetId × List Value)). Contains seen.items one) (sym same)
-        (⊎_elim (λ (before : Contains old.entities.items one). before) (λ (its : entities one). absurd (none one its)) either)));
+          (⊎_elim (λ (before : Contains old.entities.items one). before) (λ (its : entities one). absurd (none one its)) either)),
+    );
   }
 
 -- where nothing is touched, what was gathered stays
@@ -107,19 +123,36 @@ pub gathers_none : (entities : SetId × List Value → Type 0) (links : AssocId 
     → ((one : SetId × List Value) → ¬ entities one) → ((one : AssocId × Link) → ¬ links one) → GathersThese entities links old old
 gathers_none entities links old gathered no_entity no_link = record {
   seen = gathered;
-  more_entities = λ one. ((λ has. inl has), (λ either. ⊎_elim (λ (before : Contains old.entities.items one). before) (λ (its : entities one). absurd (no_entity one its)) either));
+  more_entities = λ one. (
+    (λ has. inl has),
+    (λ either. ⊎_elim (λ (before : Contains old.entities.items one). before)
+        (λ (its : entities one). absurd (no_entity one its)) either),
+  );
   more_links = λ one. ((λ has. inl has), (λ either. ⊎_elim (λ (before : Contains old.links.items one). before) (λ (its : links one). absurd (no_link one its)) either));
 }
 
 module _ (model : EntityModel) (cells : Cells) (a : AssocId) (link : Link) (old new : Gathered) (gathered : AreGathered old) where
   -- a link that an entity hosts
-  pub gathers_hosted : (declared : Assoc) (first_hosts : Bool) (number : LinkFragId) → At model.assocs a.index declared → slice_get cells.places a.index ≡ Some (place.Hosted first_hosts number)
-      → AddsOnce (entity_at (host_set first_hosts declared, host_key first_hosts link)) (host_set first_hosts declared, host_key first_hosts link) old.entities new.entities
+  pub gathers_hosted : (declared : Assoc) (first_hosts : Bool) (number : LinkFragId) → At model.assocs a.index declared
+      → slice_get cells.places a.index ≡ Some (place.Hosted first_hosts number)
+      → AddsOnce (entity_at (host_set first_hosts declared, host_key first_hosts link))
+      (host_set first_hosts declared, host_key first_hosts link) old.entities new.entities
       → new.links ≡ old.links → GathersLink model cells a link old new
   gathers_hosted declared first_hosts number is_assoc place_is adds same =
-      gathers_entity (λ one. Hosts model cells a link one.0 one.1) (λ one. ((a, link) ≡ one) × IsJoined cells a) old new gathered (host_set first_hosts declared, host_key first_hosts link) adds same
-      (λ one. ((λ is. record { assoc = declared; is_assoc = is_assoc; first_hosts = first_hosts; number = number; place_is = place_is;
-        set_is = ap (λ (item : SetId × List Value). item.0) is; key_is = ap (λ (item : SetId × List Value). item.1) is }), hosts one))
+      gathers_entity (λ one. Hosts model cells a link one.0 one.1) (λ one. ((a, link) ≡ one) × IsJoined cells a) old new gathered
+      (host_set first_hosts declared, host_key first_hosts link) adds same
+      (λ one. (
+        (λ is. record {
+          assoc = declared;
+          is_assoc = is_assoc;
+          first_hosts = first_hosts;
+          number = number;
+          place_is = place_is;
+          set_is = ap (λ (item : SetId × List Value). item.0) is;
+          key_is = ap (λ (item : SetId × List Value). item.1) is;
+        }),
+        hosts one,
+      ))
       (λ one touches. no_join touches.1.0 touches.1.1)
     where
       no_join : (other : LinkFragId) → slice_get cells.places a.index ≡ Some (place.Joined other) → ⊥

@@ -62,7 +62,8 @@ module _ (first_hosts : Bool) (b : AssocId) (key : List Value) (xs : List Link) 
       (λ other told. ap not (false_from (same_link other link)
       (λ same. not_host (ap (host_key first_hosts) (sym ((Decides-link other link).0 same)) ∙ (Decides-key (host_key first_hosts other) key).0 told)))) xs)
 
-module _ (model : EntityModel) (cells : Cells) (old new : State) (a : AssocId) (s : SetId) (key : List Value) (link : Link) (untouched : ¬ Hosts model cells a link s key)
+module _ (model : EntityModel) (cells : Cells) (old new : State) (a : AssocId) (s : SetId) (key : List Value) (link : Link)
+    (untouched : ¬ Hosts model cells a link s key)
     (others : (b : AssocId) → b.index ≢ a.index → links_in new b ≡ links_in old b)
     (own : (first_hosts : Bool) → host_key first_hosts link ≢ key → of_key first_hosts a key (links_in new a) ≡ of_key first_hosts a key (links_in old a)) where
   -- a change of a link leaves what entities host that don't host it
@@ -77,8 +78,14 @@ module _ (model : EntityModel) (cells : Cells) (old new : State) (a : AssocId) (
               → (b : Bool) → ((host_set first_hosts assoc).index == s.index) ≡ b
               → (if b then of_key first_hosts a key (links_in old a) else []) ≡ (if b then of_key first_hosts a key (links_in new a) else [])
           hosted first_hosts number is true told = sym (own first_hosts (λ same. untouched (record {
-            assoc = assoc; is_assoc = at; first_hosts = first_hosts; number = number; place_is = is;
-            set_is = same_set (host_set first_hosts assoc) s ((Decides-eqb (host_set first_hosts assoc).index s.index).0 told); key_is = same })))
+            assoc = assoc;
+            is_assoc = at;
+            first_hosts = first_hosts;
+            number = number;
+            place_is = is;
+            set_is = same_set (host_set first_hosts assoc) s ((Decides-eqb (host_set first_hosts assoc).index s.index).0 told);
+            key_is = same;
+          })))
           hosted first_hosts number is false told = refl
 
           by : (found : Option LinkPlace) → slice_get cells.places a.index ≡ found

@@ -36,7 +36,8 @@ module _ (model : EntityModel) (cells : Cells) (state : State) where
     in_set : (t : SetId) (entities : List Entity) → (t ≡ s → Contains (entities_in state s) entity ↔ Contains entities entity)
         → Contains (entities_in state s) entity ↔ Contains (entities_in (with_entities state t entities) s) entity
     in_set t entities same = ⊎_elim
-        (λ (is : entities_in (with_entities state t entities) s ≡ entities_in state s). subst (λ list. Contains (entities_in state s) entity ↔ Contains list entity) (sym is) itself)
+        (λ (is : entities_in (with_entities state t entities) s ≡ entities_in state s). subst
+        (λ list. Contains (entities_in state s) entity ↔ Contains list entity) (sym is) itself)
         (λ (put : (t ≡ s) × (entities_in (with_entities state t entities) s ≡ entities)).
         subst (λ list. Contains (entities_in state s) entity ↔ Contains list entity) (sym put.1) (same put.0))
         (entities_cases state t entities s)
@@ -48,17 +49,20 @@ module _ (model : EntityModel) (cells : Cells) (state : State) where
         (λ same. subst (λ u. Contains (entities_in state s) entity ↔ Contains (entities_in state u ++ new ∷ []) entity) (sym same)
         (other_stays (entities_in state s) new entity (λ its. untouched (λ i. (same i, key_of model (its i))))))
     one_entity (change.Update t new) untouched = in_set t (map (λ old. if same_key (key_of model old) (key_of model new) then new else old) (entities_in state t))
-        (λ same. subst (λ u. Contains (entities_in state s) entity ↔ Contains (map (λ old. if same_key (key_of model old) (key_of model new) then new else old) (entities_in state u)) entity) (sym same)
+        (λ same. subst (λ u. Contains (entities_in state s) entity ↔ Contains (map (λ old. if same_key (key_of model old) (key_of model new) then new else old)
+        (entities_in state u)) entity) (sym same)
         (same_replaced model (entities_in state s) new entity (λ its. untouched (λ i. (same i, sym its i)))))
     one_entity (change.Delete t gone) untouched = in_set t (filter (λ old. not (same_key (key_of model old) gone)) (entities_in state t))
-        (λ same. subst (λ u. Contains (entities_in state s) entity ↔ Contains (filter (λ old. not (same_key (key_of model old) gone)) (entities_in state u)) entity) (sym same)
+        (λ same. subst (λ u. Contains (entities_in state s) entity ↔ Contains (filter (λ old. not (same_key (key_of model old) gone))
+        (entities_in state u)) entity) (sym same)
         (same_left model (entities_in state s) gone entity (λ its. untouched (λ i. (same i, sym its i)))))
     one_entity (change.Link a link) untouched = itself
     one_entity (change.Unlink a link) untouched = itself
 
   module _ (s : SetId) (key : List Value) where
     -- so are the links that an entity hosts
-    pub one_host : (one : Change) → ¬ TouchesEntity model cells one (s, key) → hosted_links model cells state s key ≡ hosted_links model cells (after_one model state one) s key
+    pub one_host : (one : Change) → ¬ TouchesEntity model cells one (s, key) → hosted_links model cells state s key ≡ hosted_links model cells
+        (after_one model state one) s key
     one_host (change.Insert t new) untouched = refl
     one_host (change.Update t new) untouched = refl
     one_host (change.Delete t gone) untouched = refl
@@ -69,11 +73,13 @@ module _ (model : EntityModel) (cells : Cells) (state : State) where
         (λ (put : (a ≡ a) × (links_in (with_links state a (links_in state a ++ link ∷ [])) a ≡ (links_in state a ++ link ∷ []))).
         ap (of_key first_hosts a key) put.1 ∙ key_pushed first_hosts a key (links_in state a) link not_host)
         (links_cases state a (links_in state a ++ link ∷ []) a))
-    one_host (change.Unlink a link) untouched = hosted_same model cells state (with_links state a (filter (λ old. not (same_link old link)) (links_in state a))) a s key link untouched
+    one_host (change.Unlink a link) untouched = hosted_same model cells state (with_links state a
+        (filter (λ old. not (same_link old link)) (links_in state a))) a s key link untouched
         (λ b apart. links_elsewhere state a (filter (λ old. not (same_link old link)) (links_in state a)) b apart)
         (λ first_hosts not_host. ⊎_elim
         (λ (is : links_in (with_links state a (filter (λ old. not (same_link old link)) (links_in state a))) a ≡ links_in state a). ap (of_key first_hosts a key) is)
-        (λ (put : (a ≡ a) × (links_in (with_links state a (filter (λ old. not (same_link old link)) (links_in state a))) a ≡ filter (λ old. not (same_link old link)) (links_in state a))).
+        (λ (put : (a ≡ a) × (links_in (with_links state a (filter (λ old. not (same_link old link)) (links_in state a))) a ≡ filter
+        (λ old. not (same_link old link)) (links_in state a))).
         ap (of_key first_hosts a key) put.1 ∙ key_left first_hosts a key (links_in state a) link not_host)
         (links_cases state a (filter (λ old. not (same_link old link)) (links_in state a)) a))
 
@@ -89,7 +95,7 @@ module _ (model : EntityModel) (cells : Cells) (state : State) where
     link_left : (gone : Link) → gone ≢ link → Contains (links_in state a) link ↔ Contains (filter (λ old. not (same_link old gone)) (links_in state a)) link
     link_left gone apart = (
       (λ has. contains_filter (λ old. not (same_link old gone)) (links_in state a) link has
-        (ap not (false_from (same_link link gone) (λ same. apart (sym ((Decides-link link gone).0 same)))))),
+          (ap not (false_from (same_link link gone) (λ same. apart (sym ((Decides-link link gone).0 same)))))),
       (λ has. (filter_contains (λ old. not (same_link old gone)) (links_in state a) link has).0),
     )
 
@@ -114,7 +120,8 @@ module _ {X : Type 0} (P : X → Type 0) (x : X) (xs : List X) (none : ¬ Any P 
 
 module _ (model : EntityModel) (cells : Cells) where
   -- the same of some changes, one behind the other
-  pub all_entities : (changes : List Change) (state : State) (s : SetId) (entity : Entity) → ¬ Any (λ some. TouchesEntity model cells some (s, key_of model entity)) changes
+  pub all_entities : (changes : List Change) (state : State) (s : SetId) (entity : Entity)
+      → ¬ Any (λ some. TouchesEntity model cells some (s, key_of model entity)) changes
       → Contains (entities_in state s) entity ↔ Contains (entities_in (after model state changes) s) entity
   all_entities [] state s entity none = itself
   all_entities (one ∷ changes) state s entity none =
@@ -128,7 +135,8 @@ module _ (model : EntityModel) (cells : Cells) where
       one_host model cells state s key one (none_first (λ some. TouchesEntity model cells some (s, key)) one changes none)
       ∙ all_hosts changes (after_one model state one) s key (none_later (λ some. TouchesEntity model cells some (s, key)) one changes none)
 
-  pub all_links : (changes : List Change) (state : State) (a : AssocId) (link : Link) → IsJoined cells a → ¬ Any (λ some. TouchesLink model cells some (a, link)) changes
+  pub all_links : (changes : List Change) (state : State) (a : AssocId) (link : Link) → IsJoined cells a
+      → ¬ Any (λ some. TouchesLink model cells some (a, link)) changes
       → Contains (links_in state a) link ↔ Contains (links_in (after model state changes) a) link
   all_links [] state a link joined none = itself
   all_links (one ∷ changes) state a link joined none =

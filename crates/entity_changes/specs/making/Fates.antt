@@ -3,7 +3,7 @@
 use Rattle.std.specs.Prelude.{◌≡◌, ◌++◌, ◌∷◌, [], ℕ, List, Option, None, Some, cond, map, length, slice_get, unwrap_or, reverse, set, All}
 use Rattle.std.specs.List.{cons_option, filter_map}
 use Rattle.std.specs.BTreeMap.{get, IsEmpty}
-use Rattle.round_trip.specs.Words.{EntityModel, SetId, AssocId, State, entities_in, links_in, key_of}
+use Rattle.round_trip.specs.Words.{EntityModel, SetId, AssocId, Entity, Link, State, entities_in, links_in, key_of}
 use Rattle.entity_changes.specs.Changes.{after}
 use Rattle.entity_changes.specs.Spots.{Spot, key_spot, link_spot, same_spot, spot_cmp}
 use Rattle.entity_changes.specs.declared.change.Change.{Change}
@@ -61,6 +61,13 @@ pub record Foretells (model : EntityModel) (changes : List Change) (told : Foret
       → entities_in (after model state changes) s ≡ becomes told.entities (λ entity. key_spot s (key_of model entity)) s.index (entities_in state s)
   pub links : (state : State) → length state.links ≡ length told.links.behind.items → (a : AssocId)
       → links_in (after model state changes) a ≡ becomes told.links (link_spot a) a.index (links_in state a)
+
+-- what becomes of the entities of a numbered set, and of the links of a numbered association set
+abbrev pub entities_at : EntityModel → Fates Entity → ℕ × List Entity → List Entity
+entities_at model fates entry = becomes fates (λ entity. key_spot (record { index = entry.0 }) (key_of model entity)) entry.0 entry.1
+
+abbrev pub links_at : Fates Link → ℕ × List Link → List Link
+links_at fates entry = becomes fates (link_spot (record { index = entry.0 })) entry.0 entry.1
 
 -- as many lists are known as before
 pub record HasSize (sets assocs : ℕ) (told : Foretold) : Type 0 where

@@ -1,6 +1,6 @@
 -- What stands in a state, as changes ask for it.
 -- Source: this project's.
-use Rattle.std.specs.Prelude.{◌≡◌, ◌≢◌, ◌↔◌, ◌++◌, ◌||◌, ℕ, List, length, Contains, Option, None, Some, IsTrue, true, false, cond, if◌then◌else◌}
+use Rattle.std.specs.Prelude.{◌≡◌, ◌≢◌, ◌↔◌, ◌++◌, ◌||◌, ℕ, List, [], slice_get, unwrap_or, length, Contains, Option, None, Some, IsTrue, true, false, cond, if◌then◌else◌}
 use Rattle.std.specs.BTreeMap.{BTreeMap, get}
 use Rattle.std.specs.BTreeSet.{BTreeSet, contains}
 use Rattle.round_trip.specs.Words.{SetId, AssocId, Value, EntityModel, Entity, Link, State, entities_in, links_in}
@@ -20,6 +20,13 @@ use Rattle.std.specs.List.{list_any}
 pub record TellsStanding (model : EntityModel) (state : State) (standing : Standing) : Type 0 where
   pub entities : (s : SetId) (key : List Value) → AreTypes model (entities_in state s) key (get spot_cmp standing.entities (key_spot s key))
   pub links : (a : AssocId) (link : Link) → IsTrue (contains spot_cmp standing.links (link_spot a link)) ↔ Contains (links_in state a) link
+
+-- of the entities of some sets the types are known, and of some association sets the links
+abbrev pub TellsTypes : EntityModel → List (List Entity) → BTreeMap Spot Types → Type 0
+TellsTypes model lists types = (s : SetId) (key : List Value) → AreTypes model (unwrap_or (slice_get lists s.index) []) key (get spot_cmp types (key_spot s key))
+
+abbrev pub TellsLinks : List (List Link) → BTreeSet Spot → Type 0
+TellsLinks lists links = (a : AssocId) (link : Link) → IsTrue (contains spot_cmp links (link_spot a link)) ↔ Contains (unwrap_or (slice_get lists a.index) []) link
 
 -- the change is of one of the state's lists
 abbrev pub HasList : State → Change → Type 0

@@ -15,6 +15,10 @@ joined None ty = One ty
 joined (Some (One old)) ty = if old.index == ty.index then One ty else Several
 joined (Some Several) ty = Several
 
+-- what is known at a spot is joined with a type
+abbrev pub AddsType : Spot → TypeId → BTreeMap Spot Types → BTreeMap Spot Types → Type 0
+AddsType spot ty old new = (q : Spot) → get spot_cmp new q ≡ cond (same_spot spot q) (Some (joined (get spot_cmp old spot) ty)) (get spot_cmp old q)
+
 -- an entity of a type comes, unless something is known at its spot
 abbrev pub InsertsTypes : Spot → TypeId → BTreeMap Spot Types → BTreeMap Spot Types → Option Reason → Type 0
 InsertsTypes spot ty old new None = (get spot_cmp old spot ≡ None)

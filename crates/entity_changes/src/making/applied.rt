@@ -1,8 +1,8 @@
 ghost use Rattle.entity_changes.specs.Applying.{AreGoodChanges, TellsApplied};
 
+use crate::change::{Change, Reason};
 use crate::making::lists::changed_state;
 use crate::making::refusals::first_refused;
-use crate::change::{Change, Reason};
 use edm_types::EntityModel;
 use emc_base::{Memory, Seq};
 use entity_state::EntityState;

@@ -2,8 +2,8 @@ ghost use Rattle.std.specs.Prelude.{All, IfOk, length};
 ghost use Rattle.entity_changes.specs.making.Fates.{Foretells, ForetellsOneMore, HasSize, IsFresh};
 ghost use Rattle.entity_changes.specs.making.Places.{HasPlace};
 
-use crate::making::fates::Fates;
 use crate::change::Change;
+use crate::making::fates::Fates;
 use crate::spots::{entity_spot, key_spot, link_spot};
 use edm_types::{Entity, EntityModel, Link};
 use emc_base::Memory;
@@ -46,12 +46,7 @@ impl<'t> Foretold<'t> {
     }
 
     // One change before the others.
-    fn take(
-        &mut self,
-        alloc: Global,
-        model: &EntityModel,
-        change: &'t Change,
-    ) -> Result<(), Memory>
+    fn take(&mut self, alloc: Global, model: &EntityModel, change: &'t Change) -> Result<(), Memory>
         requires { HasPlace (length self.old.entities.behind.items) (length self.old.links.behind.items) change.now }
         ensures { IfOk result (λ _. ForetellsOneMore model.now change.now self.old self.new) }
     {

@@ -4,12 +4,12 @@ ghost use Rattle.round_trip.specs.Words.{key_of};
 ghost use Rattle.entity_changes.specs.Applying.{AreGoodChanges};
 ghost use Rattle.entity_changes.specs.Changes.{after};
 ghost use Rattle.entity_changes.specs.Spots.{key_spot, link_spot};
-ghost use Rattle.entity_changes.specs.making.Fates.{becomes, behind_at, survivors};
+ghost use Rattle.entity_changes.specs.making.Fates.{behind_at, entities_at, links_at, survivors};
 
-use crate::making::fates::Fates;
-use crate::making::foretold::Foretold;
 use crate::change::Change;
 use crate::copies::{copied_entity, copied_link};
+use crate::making::fates::Fates;
+use crate::making::foretold::Foretold;
 use crate::spots::{entity_spot, link_spot};
 use edm_types::{Entity, EntityModel, Link};
 use emc_base::{AssocId, Memory, Seq, SetId, narrow};
@@ -42,7 +42,7 @@ fn entity_lists<'t>(
     lists: &'t [Seq<Entity>],
 ) -> Result<Vec<Seq<Entity>>, Memory>
     requires { length lists.now ≡ length fates.now.behind.items }
-    ensures { IfOk result (λ made. made.items ≡ map (λ entry. becomes fates.now (λ entity. key_spot (record { index = entry.0 }) (key_of model.now entity)) entry.0 entry.1) (enumerate_from 0 lists.now)) }
+    ensures { IfOk result (λ made. made.items ≡ map (entities_at model.now fates.now) (enumerate_from 0 lists.now)) }
 {
     let mut made = Vec::new(alloc);
     for (place, list) in lists.iter().enumerate() {
@@ -100,7 +100,7 @@ fn link_lists<'t>(
     lists: &'t [Seq<Link>],
 ) -> Result<Vec<Seq<Link>>, Memory>
     requires { length lists.now ≡ length fates.now.behind.items }
-    ensures { IfOk result (λ made. made.items ≡ map (λ entry. becomes fates.now (link_spot (record { index = entry.0 })) entry.0 entry.1) (enumerate_from 0 lists.now)) }
+    ensures { IfOk result (λ made. made.items ≡ map (links_at fates.now) (enumerate_from 0 lists.now)) }
 {
     let mut made = Vec::new(alloc);
     for (place, list) in lists.iter().enumerate() {

@@ -2,8 +2,8 @@ ghost use Rattle.std.specs.Prelude.{IfOk};
 ghost use Rattle.entity_changes.specs.Applying.{AreGoodChanges};
 ghost use Rattle.entity_changes.specs.making.Standing.{IsFirstRefused};
 
-use crate::making::standing::Standing;
 use crate::change::{Change, Reason};
+use crate::making::standing::Standing;
 use edm_types::EntityModel;
 use emc_base::Memory;
 use entity_state::EntityState;

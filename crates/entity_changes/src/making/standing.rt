@@ -4,10 +4,10 @@ ghost use Rattle.std.specs.BTreeSet.{contains};
 ghost use Rattle.round_trip.specs.Words.{Value};
 ghost use Rattle.entity_changes.specs.Spots.{key_spot, link_spot, spot_cmp};
 ghost use Rattle.entity_changes.specs.making.Types.{AreTypes};
-ghost use Rattle.entity_changes.specs.making.Standing.{AddsLink, AddsLinks, AddsTypes, Takes, TakesLink, TellsStanding};
+ghost use Rattle.entity_changes.specs.making.Standing.{AddsLink, AddsLinks, AddsTypes, Takes, TakesLink, TellsLinks, TellsStanding, TellsTypes};
 
-use crate::making::types::{Types, add_type, delete_types, insert_type, update_reason};
 use crate::change::{Change, Reason};
+use crate::making::types::{Types, add_type, delete_types, insert_type, update_reason};
 use crate::spots::{Spot, entity_spot, key_spot, link_spot};
 use edm_types::{Entity, EntityModel, Link};
 use emc_base::{AssocId, Memory, Seq, SetId, narrow};
@@ -99,7 +99,7 @@ fn types_in(
     model: &EntityModel,
     lists: &[Seq<Entity>],
 ) -> Result<BTreeMap<Spot, Types>, Memory>
-    ensures { IfOk result (λ types. (s : SetId) (key : List Value) → AreTypes model.now (unwrap_or (slice_get lists.now s.index) []) key (get spot_cmp types (key_spot s key))) }
+    ensures { IfOk result (TellsTypes model.now lists.now) }
 {
     let mut types = BTreeMap::new(alloc);
     for (place, list) in lists.iter().enumerate() {
@@ -130,7 +130,7 @@ fn add_types(
 
 // The links that there are.
 fn links_in(alloc: Global, lists: &[Seq<Link>]) -> Result<BTreeSet<Spot>, Memory>
-    ensures { IfOk result (λ links. (a : AssocId) (link : Link) → IsTrue (contains spot_cmp links (link_spot a link)) ↔ Contains (unwrap_or (slice_get lists.now a.index) []) link) }
+    ensures { IfOk result (TellsLinks lists.now) }
 {
     let mut links = BTreeSet::new(alloc);
     for (place, list) in lists.iter().enumerate() {

@@ -1,7 +1,5 @@
-ghost use Rattle.std.specs.Prelude.{◌≡◌, IfOk, Some, cond};
-ghost use Rattle.std.specs.BTreeMap.{get};
-ghost use Rattle.entity_changes.specs.Spots.{same_spot, spot_cmp};
-ghost use Rattle.entity_changes.specs.making.Types.{DeletesTypes, InsertsTypes, joined, update_reason};
+ghost use Rattle.std.specs.Prelude.{◌≡◌, IfOk};
+ghost use Rattle.entity_changes.specs.making.Types.{AddsType, DeletesTypes, InsertsTypes, joined, update_reason};
 
 use crate::change::Reason;
 use crate::spots::Spot;
@@ -23,7 +21,7 @@ pub(super) fn add_type(
     spot: Spot,
     ty: TypeId,
 ) -> Result<(), Memory>
-    ensures { IfOk result (λ _. (q : _) → get spot_cmp types.new q ≡ cond (same_spot spot q) (Some (joined (get spot_cmp types.old spot) ty)) (get spot_cmp types.old q)) }
+    ensures { IfOk result (λ _. AddsType spot ty types.old types.new) }
 {
     let held = joined(types.get(&spot).copied(), ty);
     types.insert(spot, held)?;

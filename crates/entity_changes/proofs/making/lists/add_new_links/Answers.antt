@@ -11,12 +11,14 @@ lent items = map (λ item. item.now) items
 pub loop-link-init : goal.loop-link-init
 loop-link-init c =
     let rest : c.into_iter-link-iterator.result.iter.rest.now ≡ c.behind.result.now =
-    ap (λ turned. turned.iter.rest.now) c.into_iter-link-iterator.ensures.into_iter_gives ∙ ap (λ iter. iter.rest.now) c.rev-link-items.ensures.source ∙ c.iter.ensures.rest in
+    ap (λ turned. turned.iter.rest.now) c.into_iter-link-iterator.ensures.into_iter_gives ∙ ap (λ iter. iter.rest.now) c.rev-link-items.ensures.source
+    ∙ c.iter.ensures.rest in
     ap (λ items. c.args.items.now ++ reverse (lent items)) rest ∙ ap (λ items. c.args.items.now ++ reverse items) c.behind.ensures
 
 pub loop-link-preserved : goal.loop-link-preserved
 loop-link-preserved c =
-    ap (λ items. items ++ reverse (lent c.next.new.self.iter.rest.now)) (c.in_ok-push.ensures.ok ∙ ap (λ item. c.loop-link.items ++ item ∷ []) c.in_ok-copied_link.ensures)
+    ap (λ items. items ++ reverse (lent c.next.new.self.iter.rest.now)) (c.in_ok-push.ensures.ok
+    ∙ ap (λ item. c.loop-link.items ++ item ∷ []) c.in_ok-copied_link.ensures)
     ∙ one_turned c.loop-link.items c.next.new.self.iter.rest.now c.in-Some.link.now
     ∙ ap (λ items. c.loop-link.items ++ reverse (lent items)) (sym c.in-Some.ensures.steps)
     ∙ c.loop-link.invariant

@@ -3,7 +3,8 @@ use Rattle.std.proofs.lemmas.Option.{slice_get_read}
 use Rattle.emc_base.specs.Lists.{At}
 use Rattle.round_trip.specs.Words.{Entity}
 use Rattle.entity_changes.specs.Spots.{Spot}
-use Rattle.entity_changes.proofs.making.Known.{AddsType, types_more}
+use Rattle.entity_changes.specs.making.Types.{AddsType}
+use Rattle.entity_changes.proofs.making.Known.{types_more}
 use Rattle.entity_changes.proofs.making.standing.add_types.Goals as goal
 
 pub loop-entity-preserved : goal.loop-entity-preserved

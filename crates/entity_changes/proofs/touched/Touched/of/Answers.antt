@@ -20,15 +20,15 @@ loop-change-preserved c =
     (slice_get_read items _ i one refl c.loop-change-test.true c.change-item.is) in
     let more = c.in_ok-add.ensures c.loop-change.invariant.0 in
     let was = c.loop-change.gathered in
-    let now = c.add.new.self in
-    (
+    let now = c.add.new.self in (
       more.seen,
-      (λ item. subst (λ (list : List Change). Contains now.entities.items item ↔ Any (λ some. TouchesEntity model cells some item) list) (sym (take_item changes i one here))
-        (listed_more (λ some. TouchesEntity model cells some item) (take i changes) one (Contains was.entities.items item) (Contains now.entities.items item)
-        (c.loop-change.invariant.1 item) (more.more_entities item))),
+      (λ item. subst (λ (list : List Change). Contains now.entities.items item ↔ Any (λ some. TouchesEntity model cells some item) list)
+          (sym (take_item changes i one here))
+          (listed_more (λ some. TouchesEntity model cells some item) (take i changes) one (Contains was.entities.items item) (Contains now.entities.items item)
+          (c.loop-change.invariant.1 item) (more.more_entities item))),
       (λ item. subst (λ (list : List Change). Contains now.links.items item ↔ Any (λ some. TouchesLink model cells some item) list) (sym (take_item changes i one here))
-        (listed_more (λ some. TouchesLink model cells some item) (take i changes) one (Contains was.links.items item) (Contains now.links.items item)
-        (c.loop-change.invariant.2 item) (more.more_links item))),
+          (listed_more (λ some. TouchesLink model cells some item) (take i changes) one (Contains was.links.items item) (Contains now.links.items item)
+          (c.loop-change.invariant.2 item) (more.more_links item))),
     )
 
 pub returns : goal.returns
@@ -38,11 +38,13 @@ returns c =
     let gathered = c.loop-change.gathered in
     let changes : List Change = c.args.changes.now in
     let all : take c.loop-change.change-index changes ≡ changes =
-    take_all c.loop-change.change-index changes (subst (λ (list : List Change). length list ≤ c.loop-change.change-index) c.as_slice-change-items.ensures.items c.loop-change-test.false) in
+    take_all c.loop-change.change-index changes
+    (subst (λ (list : List Change). length list ≤ c.loop-change.change-index) c.as_slice-change-items.ensures.items c.loop-change-test.false) in
     record {
       entities = λ item.
           subst (λ (list : List Change). Contains c.into_items.result item ↔ Any (λ some. TouchesEntity model cells some item) list) all
-          (subst (λ (items : List (SetId × List Value)). Contains items item ↔ Any (λ some. TouchesEntity model cells some item) (take c.loop-change.change-index changes))
+          (subst (λ (items : List (SetId × List Value)). Contains items item ↔ Any (λ some. TouchesEntity model cells some item)
+          (take c.loop-change.change-index changes))
           (sym c.into_items.ensures) (c.loop-change.invariant.1 item));
       links = λ item.
           subst (λ (list : List Change). Contains c.into_items-2.result item ↔ Any (λ some. TouchesLink model cells some item) list) all

@@ -15,5 +15,6 @@ returns-in_ok-push g c = record {
 pub returns-in_default : goal.returns-in_default
 returns-in_default g c = record {
   fates = refl;
-  lists = lent_kept c.args.self.now.behind.items c.args.place (survivor (get spot_cmp c.args.self.now.by_spot c.args.spot.now) c.args.item.now) c.in_default.ensures c.requires;
+  lists = lent_kept c.args.self.now.behind.items c.args.place
+      (survivor (get spot_cmp c.args.self.now.by_spot c.args.spot.now) c.args.item.now) c.in_default.ensures c.requires;
 }

@@ -11,10 +11,14 @@ use Rattle.entity_changes.proofs.making.foretold.Foretold.of.Goals as goal
 pub loop-change-init : goal.loop-change-init
 loop-change-init c =
     let rest : c.into_iter-change-iterator.result.iter.rest.now ≡ c.args.changes.now =
-    ap (λ turned. turned.iter.rest.now) c.into_iter-change-iterator.ensures.into_iter_gives ∙ ap (λ iter. iter.rest.now) c.rev-change-items.ensures.source ∙ c.iter.ensures.rest in
-    let fresh = c.in_ok-told.ensures in
-    (record { entities = fresh.0.size; links = fresh.1.size },
-      [], sym rest ∙ sym (append-nil c.into_iter-change-iterator.result.iter.rest.now), foretells_none c.args.model.now c.in_ok-told.told c.args.sets c.args.assocs fresh.0 fresh.1)
+    ap (λ turned. turned.iter.rest.now) c.into_iter-change-iterator.ensures.into_iter_gives ∙ ap (λ iter. iter.rest.now) c.rev-change-items.ensures.source
+    ∙ c.iter.ensures.rest in
+    let fresh = c.in_ok-told.ensures in (
+      record { entities = fresh.0.size; links = fresh.1.size },
+      [],
+      sym rest ∙ sym (append-nil c.into_iter-change-iterator.result.iter.rest.now),
+      foretells_none c.args.model.now c.in_ok-told.told c.args.sets c.args.assocs fresh.0 fresh.1,
+    )
 
 pub take-requires : goal.take-requires
 take-requires c =
@@ -34,11 +38,12 @@ loop-change-preserved c =
     let left = c.next.new.self.iter.rest.now in
     let later : List Change = c.loop-change.invariant.1 in
     let size : HasSize c.args.sets c.args.assocs c.loop-change.told = c.loop-change.invariant.0 in
-    let more = c.in_ok-take.ensures in
-    (record { entities = more.size.entities ∙ size.entities; links = more.size.links ∙ size.links },
+    let more = c.in_ok-take.ensures in (
+      record { entities = more.size.entities ∙ size.entities; links = more.size.links ∙ size.links },
       one ∷ later,
       c.loop-change.invariant.2 ∙ ap (λ (list : List Change). list ++ later) c.in-Some.ensures.steps ∙ append_assoc left (one ∷ []) later,
-      more.told later c.loop-change.invariant.3)
+      more.told later c.loop-change.invariant.3,
+    )
 
 pub returns-clause-size : goal.returns-clause-size
 returns-clause-size c = c.loop-change.invariant.0
@@ -47,4 +52,5 @@ pub returns-clause-told : goal.returns-clause-told
 returns-clause-told c =
     let rest = c.loop-change.change-iterator.iter.rest.now in
     subst (λ (list : List Change). Foretells c.args.model.now list c.loop-change.told)
-    (sym (c.loop-change.invariant.2 ∙ ap (λ (list : List Change). list ++ c.loop-change.invariant.1) (nil_from_length rest c.in-None.ensures.steps.0))) c.loop-change.invariant.3
+    (sym (c.loop-change.invariant.2 ∙ ap (λ (list : List Change). list ++ c.loop-change.invariant.1)
+    (nil_from_length rest c.in-None.ensures.steps.0))) c.loop-change.invariant.3

@@ -45,9 +45,11 @@ returns-in_ok-key-in-Delete c = λ gathered.
 pub returns-in-Link : goal.returns-in-Link
 returns-in-Link c = λ gathered.
     IfOk-weaker c.add_changed.result _ _ (λ _ told.
-    subst (λ (one : Change). GathersMore c.args.model.now c.args.cells.now one c.args.self.now c.add_changed.new.self) (sym c.in-Link.is) told) (c.add_changed.ensures gathered)
+    subst (λ (one : Change). GathersMore c.args.model.now c.args.cells.now one c.args.self.now c.add_changed.new.self) (sym c.in-Link.is) told)
+    (c.add_changed.ensures gathered)
 
 pub returns-in-Unlink : goal.returns-in-Unlink
 returns-in-Unlink c = λ gathered.
     IfOk-weaker c.add_changed-in-Unlink.result _ _ (λ _ told.
-    subst (λ (one : Change). GathersMore c.args.model.now c.args.cells.now one c.args.self.now c.add_changed-in-Unlink.new.self) (sym c.in-Unlink.is) told) (c.add_changed-in-Unlink.ensures gathered)
+    subst (λ (one : Change). GathersMore c.args.model.now c.args.cells.now one c.args.self.now c.add_changed-in-Unlink.new.self) (sym c.in-Unlink.is) told)
+    (c.add_changed-in-Unlink.ensures gathered)
