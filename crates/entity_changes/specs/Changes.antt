@@ -1,7 +1,7 @@
 -- Changes of entities and links: the state that they lead to, one behind the other.
 -- Source: the changes that a context of the Entity Framework tracks: added, modified and deleted entities, added and deleted links.
-use Rattle.std.specs.Prelude.{◌≡◌, ◌<◌, List, [], ◌∷◌, ◌++◌, map, filter, set, All, length, not, Bool, false, if◌then◌else◌}
-use Rattle.round_trip.specs.Words.{SetId, AssocId, Value, EntityModel, Assoc, Entity, Link, At, State, IsEntity, IsLink, entities_in, links_in, key_of}
+use Rattle.std.specs.Prelude.{◌<◌, List, [], ◌∷◌, ◌++◌, map, filter, set, length, not, Bool, false, if◌then◌else◌}
+use Rattle.round_trip.specs.Words.{SetId, AssocId, EntityModel, Assoc, Entity, Link, At, State, IsEntity, IsLink, entities_in, links_in, key_of}
 use Rattle.schema_laws.specs.state_demand.Selecting.{same_key}
 use Rattle.entity_changes.specs.declared.change.Change.{Change}
 use Rattle.entity_changes.specs.declared.change.Change.TheVariants as change

@@ -28,7 +28,8 @@ module _ (model : EntityModel) where
 
   -- no change is refused at its turn
   abbrev pub AreAccepted : State → List Change → Type 0
-  AreAccepted state changes = (before later : List Change) (one : Change) (why : Reason) → changes ≡ before ++ one ∷ later → ¬ IsRefused (after model state before) one why
+  AreAccepted state changes = (before later : List Change) (one : Change) (why : Reason) → changes ≡ before ++ one ∷ later
+      → ¬ IsRefused (after model state before) one why
 
   -- the change at this place is the first that is refused at its turn, for this reason
   pub record IsRefusal (state : State) (changes : List Change) (index : ℕ) (why : Reason) : Type 0 where

@@ -1,6 +1,6 @@
 -- What changes touch, and states that differ only there.
 -- Source: this project's.
-use Rattle.std.specs.Prelude.{◌≡◌, ◌↔◌, ◌⊎◌, ℕ, List, Contains, slice_get, Some, Bool, Any}
+use Rattle.std.specs.Prelude.{◌≡◌, ◌↔◌, List, Contains, slice_get, Some, Bool, Any}
 use Rattle.emc_base.specs.Lists.{AreApart}
 use Rattle.round_trip.specs.Words.{SetId, AssocId, LinkFragId, Value, EntityModel, Assoc, Entity, Link, At, State, entities_in, links_in, key_of}
 use Rattle.table_owners.specs.declared.places.LinkPlace.TheVariants as place

@@ -2,7 +2,13 @@
 #![tactic(auto)]
 
 mod change;
+mod copies;
+mod laws;
+mod making;
+mod spots;
 mod touched;
 
 pub use change::{Change, Reason};
+pub use laws::only_touched_units_change;
+pub use making::{ApplyFault, apply};
 pub use touched::Touched;

@@ -1,0 +1,5 @@
+pub mod Afterwards
+mod Kept
+mod Pushes
+pub mod Replaced
+pub mod SpotOrder

@@ -1,0 +1,8 @@
+mod Become
+mod Known
+mod Made
+mod Put
+mod Refused
+mod Taken
+mod Told
+mod TypesOf

@@ -1,0 +1,3 @@
+mod Gathers
+mod HostedLists
+pub mod Units

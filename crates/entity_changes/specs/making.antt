@@ -1,0 +1,4 @@
+pub mod Fates
+pub mod Places
+pub mod Standing
+pub mod Types
