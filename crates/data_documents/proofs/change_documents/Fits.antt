@@ -13,7 +13,7 @@ use Rattle.emc_base.proofs.facts.Found.{position_passes}
 use Rattle.json_form.specs.TreeParts.{items_in}
 use Rattle.json_form.specs.from_nodes.Reading.{object_at, optional_text_at}
 use Rattle.json_form.proofs.MemberByName.{member_found}
-use Rattle.round_trip.specs.Words.{EntityModel, Assoc, AssocId, Constraint, Link, IsEntity, IsLink}
+use Rattle.round_trip.specs.Words.{EntityModel, Assoc, AssocId, Constraint, IsEntity, IsLink}
 use Rattle.schema_names.specs.SchemaNames.{association_set_named, set_named}
 use Rattle.entity_changes.specs.Changes.{IsChange}
 use Rattle.data_documents.specs.declared.change_documents.operation.Operation.{Operation}
@@ -158,4 +158,4 @@ changes_fit model d none = All-map (IsChange model) (change_in model) (items_in 
         let same : item.0 ≡ get_or (items_in d) k other = sym (get_or_from_slice_get (items_in d) k item.0 other item.1) in
         subst (λ (one : Data). IsChange model (change_in model one)) same
         (change_fits model item.0 (λ place fault.
-          none (Item k ∷ place) (inr (record { i = k; item = item.0; here = item.1; holds = record { rest = place; reached = refl; holds = fault } }))))
+        none (Item k ∷ place) (inr (record { i = k; item = item.0; here = item.1; holds = record { rest = place; reached = refl; holds = fault } }))))

@@ -1,6 +1,6 @@
 -- The changes that a document without faults of shape tells.
 -- Source: this project's change documents.
-use Rattle.std.specs.Prelude.{ℕ, List, [], Option, Some, None, map, unwrap_or, codes}
+use Rattle.std.specs.Prelude.{List, [], map, unwrap_or, codes}
 use Rattle.std.specs.Option.{option_map_or}
 use Rattle.serde_json.specs.Data.{Data}
 use Rattle.json_form.specs.TreeParts.{items_in}

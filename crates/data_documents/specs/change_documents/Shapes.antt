@@ -1,6 +1,6 @@
 -- Where a change document is of another shape than the model asks for.
 -- Source: this project's change documents; RFC 8259.
-use Rattle.std.specs.Prelude.{◌≡◌, ◌⊎◌, ℕ, List, [], Option, Some, None, option_and_then, false, codes}
+use Rattle.std.specs.Prelude.{◌≡◌, ◌⊎◌, List, [], Option, Some, None, false, codes}
 use Rattle.serde_json.specs.Data.{Data}
 use Rattle.round_trip.specs.Words.{EntityModel, AssocId, SetId}
 use Rattle.data_documents.specs.declared.change_documents.operation.Operation.{Operation}

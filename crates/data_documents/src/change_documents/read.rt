@@ -85,11 +85,7 @@ fn entity_told(
 }
 
 // The set that a change is about, and the key that it tells.
-fn key_told(
-    alloc: Global,
-    names: &ModelNames<'_>,
-    node: Node<'_>,
-) -> Result<(SetId, Key), Memory>
+fn key_told(alloc: Global, names: &ModelNames<'_>, node: Node<'_>) -> Result<(SetId, Key), Memory>
     ensures { IfOk result (λ told. told ≡ key_told names.now.model.now (part_of node.entry)) }
 {
     let set = set_of(names, node)?;
@@ -132,12 +128,7 @@ fn link_set_of(names: &ModelNames<'_>, node: Node<'_>) -> Result<AssocId, Memory
 }
 
 // The link of an association set; one without keys where the set isn't independent.
-fn link_of(
-    alloc: Global,
-    model: &EntityModel,
-    set: AssocId,
-    node: Node<'_>,
-) -> Result<Link, Memory>
+fn link_of(alloc: Global, model: &EntityModel, set: AssocId, node: Node<'_>) -> Result<Link, Memory>
     ensures { IfOk result (λ link. link ≡ link_of model.now set (part_of node.entry)) }
 {
     match independent_at(model, set) {

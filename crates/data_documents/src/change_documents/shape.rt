@@ -2,7 +2,6 @@ ghost use Rattle.std.specs.Prelude.{◌≡◌, IfOk};
 ghost use Rattle.json_form.specs.Nodes.{part_of};
 ghost use Rattle.groupings.specs.least_fault.Least.{IsLeast};
 ghost use Rattle.data_documents.specs.shape_faults.Places.{place_cmp};
-ghost use Rattle.data_documents.specs.change_documents.Names.{names_set};
 ghost use Rattle.data_documents.specs.change_documents.Shapes.{IsChangeFault, IsDocFault, IsMemberFault, IsOperationFault, IsSetKeyFault, IsSetLinkFault, IsToldFault, IsUntoldFault};
 
 use crate::change_documents::operation::{
