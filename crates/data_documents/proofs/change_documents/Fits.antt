@@ -92,10 +92,12 @@ module _ (model : EntityModel) where
       by (Some constraint) bound = absurd cc
 
   -- a link of an independent association set is one
-  link_told_fits : (a : AssocId) (d : Data) → is_some (independent_at model a) ≡ true → (assoc : Assoc) × At model.assocs a.index assoc × IsLink model assoc (link_of model a d)
+  link_told_fits : (a : AssocId) (d : Data) → is_some (independent_at model a) ≡ true
+      → (assoc : Assoc) × At model.assocs a.index assoc × IsLink model assoc (link_of model a d)
   link_told_fits a d some = by (independent_at model a) refl some
     where
-      by : (found : Option Assoc) → independent_at model a ≡ found → is_some found ≡ true → (assoc : Assoc) × At model.assocs a.index assoc × IsLink model assoc (link_of model a d)
+      by : (found : Option Assoc) → independent_at model a ≡ found → is_some found ≡ true
+          → (assoc : Assoc) × At model.assocs a.index assoc × IsLink model assoc (link_of model a d)
       by None is none = absurd cc
       by (Some assoc) is one =
           let found = slice_get model.assocs a.index in

@@ -56,7 +56,8 @@ if_independent_set model id = if is_some (independent_at model id) then Some id 
 
 -- the independent association set that a change names
 abbrev pub link_set_in : EntityModel → Data → Option AssocId
-link_set_in model d = option_and_then (λ place. if_independent_set model (assoc_numbered place)) (option_and_then (association_set_named model) (optional_text_at (codes "set") d))
+link_set_in model d =
+    option_and_then (λ place. if_independent_set model (assoc_numbered place)) (option_and_then (association_set_named model) (optional_text_at (codes "set") d))
 
 -- the change names a set of the sort that its operation is about
 abbrev pub names_set : EntityModel → Operation → Data → Bool

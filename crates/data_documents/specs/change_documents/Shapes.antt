@@ -23,7 +23,7 @@ abbrev pub IsSetLinkFault : EntityModel → Option AssocId → Data → List Sha
 IsSetLinkFault model None d place = ⊥
 IsSetLinkFault model (Some a) d place = IsLinkFaultBy model (independent_at model a) d place
 
--- what comes, goes or takes another's place, by the change that tells it: an entity by the type that it tells, a key and a link by the set that the change names
+-- what comes, goes or takes another's place: an entity by the type that it tells, a key and a link by the set that the change names
 abbrev pub IsToldFault : EntityModel → Operation → Data → Data → List ShapeStep → Type 0
 IsToldFault model Insert change d place = IsEntityFault model d place
 IsToldFault model Update change d place = IsEntityFault model d place

@@ -46,7 +46,8 @@ module _ (store : StoreModel) where
   -- a change with the row that comes: the row's key, the word for the change, the row, and the table's name
   abbrev pub with_row : List ℕ → TableId → Row → Data
   with_row word t row = object_of (
-      (codes "key", key_tree (key_in store t row)) ∷ (codes "op", string word) ∷ (codes "row", cells_tree t row) ∷ (codes "table", string (table_name store t)) ∷ [])
+      (codes "key", key_tree (key_in store t row)) ∷ (codes "op", string word)
+      ∷ (codes "row", cells_tree t row) ∷ (codes "table", string (table_name store t)) ∷ [])
 
   -- a delete: the row's key, the word for it, and the table's name
   abbrev pub without_row : TableId → List Value → Data
