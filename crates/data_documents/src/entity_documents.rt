@@ -10,5 +10,9 @@ mod read;
 mod state;
 mod tables;
 
-pub use names::ModelNames;
+pub use entity_shape::first_in_entity;
+pub use link_shape::{first_in_key, first_in_link};
+pub use members::independent_at;
+pub use names::{ModelNames, text_at};
+pub use read::{entity_in, key_in, link_in};
 pub use state::{entity_of_node, key_of_node, link_of_node, state_of_doc};

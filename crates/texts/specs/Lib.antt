@@ -1,2 +1,3 @@
 pub mod case_texts
 pub mod command_texts
+pub mod change_texts

@@ -82,8 +82,8 @@ impl<'a> ModelNames<'a> {
         Ok(independent_at(self.model, AssocId { index }))
     }
 
-    // The association set of a name.
-    fn association_set_named(&self, name: &str) -> Option<usize>
+    /// The association set of a name.
+    pub fn association_set_named(&self, name: &str) -> Option<usize>
         ensures { result ≡ association_set_named self.now.model.now name.now }
     {
         self.tables.association_sets.place_of(name)
@@ -105,8 +105,8 @@ impl<'a> ModelNames<'a> {
     }
 }
 
-// The text of a member, where it is one.
-fn text_at<'a>(node: Node<'a>, name: &str) -> Option<&'a str>
+/// The text of a member, where it is one.
+pub fn text_at<'a>(node: Node<'a>, name: &str) -> Option<&'a str>
     ensures { option_map (λ text. text.now) result ≡ optional_text_at name.now (part_of node.entry) }
 {
     let member = node.member(name)?;

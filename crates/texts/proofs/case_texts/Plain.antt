@@ -33,10 +33,10 @@ module _ (a : List ℕ) (one : Data) (is_one : has_float one ≡ false) where
     of_two = members_have_float-put b two (put a one no_members) is_two of_one
 
     module _ (c : List ℕ) (three : Data) (is_three : has_float three ≡ false) where
-      of_three : has_float (object_of ((a, one) ∷ (b, two) ∷ (c, three) ∷ [])) ≡ false
+      pub of_three : has_float (object_of ((a, one) ∷ (b, two) ∷ (c, three) ∷ [])) ≡ false
       of_three = members_have_float-put c three (put b two (put a one no_members)) is_three of_two
 
-      of_four : (d : List ℕ) (four : Data) → has_float four ≡ false → has_float (object_of ((a, one) ∷ (b, two) ∷ (c, three) ∷ (d, four) ∷ [])) ≡ false
+      pub of_four : (d : List ℕ) (four : Data) → has_float four ≡ false → has_float (object_of ((a, one) ∷ (b, two) ∷ (c, three) ∷ (d, four) ∷ [])) ≡ false
       of_four d four is_four = members_have_float-put d four (put c three (put b two (put a one no_members))) is_four of_three
 
 is_tree-plain : (value : Value) → has_float (is_tree value) ≡ false
