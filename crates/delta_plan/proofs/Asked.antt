@@ -51,9 +51,9 @@ module _ (local : SetId → Entity → List Hosted → List TableRow) (joined : 
       → flat_map (local_rows local (links_in hosts)) marked ≡ flat_map rows (map unit_of marked)
   entity_rows hosts groups marked own = flat_map_image (local_rows local (links_in hosts)) rows unit_of marked
       (all_from_members (λ (one : MarkedEntity). local_rows local (links_in hosts) one ≡ rows (unit_of one)) marked
-        (λ one has. (let key = All-contains (HasOwnKey model) marked one own has in
-          ap (λ (k : List Value). local one.set one.entity.now (links_in hosts one.set k)) key
-          ∙ ap (local one.set one.entity.now) (groups one.set (key_of model one.entity.now)))))
+      (λ one has. (let key = All-contains (HasOwnKey model) marked one own has in
+      ap (λ (k : List Value). local one.set one.entity.now (links_in hosts one.set k)) key
+      ∙ ap (local one.set one.entity.now) (groups one.set (key_of model one.entity.now)))))
 
   link_rows : (marked : List MarkedLink) → flat_map (rows_by_place joined cells) marked ≡ flat_map rows (map unit_of_link marked)
   link_rows marked = flat_map_image (rows_by_place joined cells) rows unit_of_link marked (all_from_members (λ (one : MarkedLink). rows_by_place joined cells one ≡ rows (unit_of_link one)) marked (λ one has. refl))
@@ -83,7 +83,7 @@ pub links_within : (model : EntityModel) (cells : Cells) (marks : Marks) (state 
     → map unit_of_link links ≡ filter (is_marked model marks) (link_units state) → All (λ one. one.assoc.index < length cells.places) links
 links_within model cells marks state cover shape links are = all_from_members (λ (one : MarkedLink). one.assoc.index < length cells.places) links (λ one has.
     (let there : Contains (filter (is_marked model marks) (link_units state)) (unit_of_link one) =
-        subst (λ (units : List Unit). Contains units (unit_of_link one)) are (contains_map unit_of_link links one has) in
+    subst (λ (units : List Unit). Contains units (unit_of_link one)) are (contains_map unit_of_link links one has) in
     let found = in_flat_map assoc_units (enumerate_from 0 state.links) (unit_of_link one) (filter_contains (is_marked model marks) (link_units state) (unit_of_link one) there).0 in
     let from = map_contains (of_link (record { index = found.0.0 })) found.0.1 (unit_of_link one) found.2 in
     let number : found.0.0 ≡ one.assoc.index = ap assoc_of from.2 in

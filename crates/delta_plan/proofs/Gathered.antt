@@ -31,13 +31,13 @@ module _ (tables : Tables) (one : TableRow) (within : one.table.index < length t
   pub rows_more : (t : TableId) (rows : List TableRow) → rows_in tables t ≡ named t rows → rows_in after t ≡ named t (rows ++ one ∷ [])
   rows_more t rows is = ⊎_elim
       (λ (same : ((one.table.index == t.index) ≡ true) × (one.table.index ≡ t.index)). (
-        let here : t ≡ one.table = λ i. record { index = sym same.1 i } in
-        looked_up after t ∙ ap (λ n. get_or after n []) (sym same.1) ∙ get_or-set_same tables one.table.index (rows_in tables one.table ++ one.row ∷ []) [] within
-        ∙ ap (λ (u : TableId). rows_in tables u ++ one.row ∷ []) (sym here) ∙ ap (λ list. list ++ one.row ∷ []) is
-        ∙ ap (λ list. named t rows ++ list) (sym (alone true same.0)) ∙ sym (named_more t rows one)))
+      let here : t ≡ one.table = λ i. record { index = sym same.1 i } in
+      looked_up after t ∙ ap (λ n. get_or after n []) (sym same.1) ∙ get_or-set_same tables one.table.index (rows_in tables one.table ++ one.row ∷ []) [] within
+      ∙ ap (λ (u : TableId). rows_in tables u ++ one.row ∷ []) (sym here) ∙ ap (λ list. list ++ one.row ∷ []) is
+      ∙ ap (λ list. named t rows ++ list) (sym (alone true same.0)) ∙ sym (named_more t rows one)))
       (λ (other : ((one.table.index == t.index) ≡ false) × (one.table.index ≢ t.index)).
-        looked_up after t ∙ get_or-set_other tables one.table.index t.index (rows_in tables one.table ++ one.row ∷ []) [] (λ same. other.1 (sym same))
-        ∙ sym (looked_up tables t) ∙ is ∙ sym (append-nil (named t rows)) ∙ ap (λ list. named t rows ++ list) (sym (alone false other.0)) ∙ sym (named_more t rows one))
+      looked_up after t ∙ get_or-set_other tables one.table.index t.index (rows_in tables one.table ++ one.row ∷ []) [] (λ same. other.1 (sym same))
+      ∙ sym (looked_up tables t) ∙ is ∙ sym (append-nil (named t rows)) ∙ ap (λ list. named t rows ++ list) (sym (alone false other.0)) ∙ sym (named_more t rows one))
       (eqb_tells one.table.index t.index)
     where
       alone : (b : Bool) → (one.table.index == t.index) ≡ b → named t (one ∷ []) ≡ (if b then one.row ∷ [] else [])

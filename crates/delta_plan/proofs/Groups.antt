@@ -60,10 +60,10 @@ module _ (key : List ColId) (old new : List Row) (groups : List (KeyGroup SidedR
         → Contains old row × ((wanted : Row) × Contains new wanted × (cells_of wanted key ≡ cells_of row key)) × (cells_of row key ≡ key_of group)
     held_is (Some held) (Some wanted) first second row has = ⊎_elim
         (λ (is : row ≡ held.now). (
-          let was = row_before group there held first in
-          let now = row_afterwards group there wanted second in
-          let own : cells_of row key ≡ key_of group = ap (λ one. cells_of one key) is ∙ was.1 in
-          (subst (Contains old) (sym is) was.0, (wanted.now, now.0, now.1 ∙ sym own), own)))
+        let was = row_before group there held first in
+        let now = row_afterwards group there wanted second in
+        let own : cells_of row key ≡ key_of group = ap (λ one. cells_of one key) is ∙ was.1 in
+        (subst (Contains old) (sym is) was.0, (wanted.now, now.0, now.1 ∙ sym own), own)))
         (λ (never : Contains [] row). absurd (contains_nil row never))
         (contains_cons_cases held.now [] row has)
     held_is (Some held) None first second row has = absurd (contains_nil row has)

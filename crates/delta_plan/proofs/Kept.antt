@@ -42,25 +42,25 @@ module _ (is_free : ColId → Bool) (table : Table) (old fresh : List Row) where
   held_or_not (row ∷ rows) key = ⊎_elim
       (λ (is : row_key table row ≡ key). inl (row, contains_head row rows, is))
       (λ (isnt : row_key table row ≢ key). ⊎_elim
-        (λ (found : (one : Row) × Contains rows one × (row_key table one ≡ key)). inl (found.0, contains_tail row rows found.0 found.1, found.2))
-        (λ (none : (one : Row) → Contains rows one → row_key table one ≢ key).
-          inr (λ one has. ⊎_elim (λ (here : one ≡ row) (same : row_key table one ≡ key). isnt (ap (row_key table) (sym here) ∙ same)) (λ (later : Contains rows one). none one later)
-            (contains_cons_cases row rows one has)))
-        (held_or_not rows key))
+      (λ (found : (one : Row) × Contains rows one × (row_key table one ≡ key)). inl (found.0, contains_tail row rows found.0 found.1, found.2))
+      (λ (none : (one : Row) → Contains rows one → row_key table one ≢ key).
+      inr (λ one has. ⊎_elim (λ (here : one ≡ row) (same : row_key table one ≡ key). isnt (ap (row_key table) (sym here) ∙ same)) (λ (later : Contains rows one). none one later)
+      (contains_cons_cases row rows one has)))
+      (held_or_not rows key))
       (either (same_key (row_key table row) key) (Decides-key (row_key table row) key))
 
   -- a kept row has the key of the fresh one
   pub kept_key : (row kept : Row) → IsKeptRow Free table old row kept → row_key table kept ≡ row_key table row
   kept_key row kept is = ⊎_elim
       (λ (found : (one : Row) × Contains old one × (row_key table one ≡ row_key table row)).
-        same_cells table.key is_free found.0 row kept found.2
-        (λ col free. All-contains (λ (before : Row). row_key table before ≡ row_key table row → (col : ColId) → Free col → cell_of kept col ≡ cell_of before col) old found.0 is.stays found.1
-          found.2 col free)
-        (λ col other. is.rest col (not_both (is_free col) other)))
+      same_cells table.key is_free found.0 row kept found.2
+      (λ col free. All-contains (λ (before : Row). row_key table before ≡ row_key table row → (col : ColId) → Free col → cell_of kept col ≡ cell_of before col) old found.0 is.stays found.1
+      found.2 col free)
+      (λ col other. is.rest col (not_both (is_free col) other)))
       (λ (none : (one : Row) → Contains old one → row_key table one ≢ row_key table row).
-        same_cells table.key is_free row row kept refl
-        (λ col free. is.new (all_from_members (λ (before : Row). row_key table before ≢ row_key table row) old none) col free)
-        (λ col other. is.rest col (not_both (is_free col) other)))
+      same_cells table.key is_free row row kept refl
+      (λ col free. is.new (all_from_members (λ (before : Row). row_key table before ≢ row_key table row) old none) col free)
+      (λ col other. is.rest col (not_both (is_free col) other)))
       (held_or_not old (row_key table row))
 
   -- where a row of the key is held
@@ -69,7 +69,7 @@ module _ (is_free : ColId → Bool) (table : Table) (old fresh : List Row) where
       → IsKeptRow Free table old row (record { cells = kept_cells is_free held row.cells })
   with_held long fresh_long apart held row has has_row same =
       let size : length held.cells ≡ length row.cells = All-contains (λ (one : Row). length one.cells ≡ length table.cols) old held long has
-          ∙ sym (All-contains (λ (one : Row). length one.cells ≡ length table.cols) fresh row fresh_long has_row) in
+      ∙ sym (All-contains (λ (one : Row). length one.cells ≡ length table.cols) fresh row fresh_long has_row) in
       record {
         stays = all_from_members (λ (before : Row). row_key table before ≡ row_key table row → (col : ColId) → Free col
             → cell_of (record { cells = kept_cells is_free held row.cells }) col ≡ cell_of before col) old
@@ -110,30 +110,30 @@ module _ (is_free : ColId → Bool) (table : Table) (old fresh : List Row) (grou
         → IsGiven group row
     given (Some held) (Some new) first second row has = ⊎_elim
         (λ (is : row ≡ record { cells = kept_cells is_free held.now new.now.cells }). (
-          let was = row_before table.key old fresh groups are group there held first in
-          let now = row_afterwards table.key old fresh groups are group there new second in
-          record {
-            one = new.now;
-            has = now.0;
-            kept = subst (IsKeptRow (Free is_free table old fresh) table old new.now) (sym is)
-                (with_held is_free table old fresh long fresh_long apart held.now new.now was.0 now.0 (was.1 ∙ sym now.1));
-            own = now.1;
-            cells = ap (λ (it : Row). length it.cells) is ∙ kept_long is_free held.now new.now (is_long old long held.now was.0 ∙ sym (is_long fresh fresh_long new.now now.0))
-                ∙ is_long fresh fresh_long new.now now.0;
-          }))
+        let was = row_before table.key old fresh groups are group there held first in
+        let now = row_afterwards table.key old fresh groups are group there new second in
+        record {
+          one = new.now;
+          has = now.0;
+          kept = subst (IsKeptRow (Free is_free table old fresh) table old new.now) (sym is)
+              (with_held is_free table old fresh long fresh_long apart held.now new.now was.0 now.0 (was.1 ∙ sym now.1));
+          own = now.1;
+          cells = ap (λ (it : Row). length it.cells) is ∙ kept_long is_free held.now new.now (is_long old long held.now was.0 ∙ sym (is_long fresh fresh_long new.now now.0))
+              ∙ is_long fresh fresh_long new.now now.0;
+        }))
         (λ (never : Contains [] row). absurd (contains_nil row never))
         (contains_cons_cases (record { cells = kept_cells is_free held.now new.now.cells }) [] row has)
     given None (Some new) first second row has = ⊎_elim
         (λ (is : row ≡ new.now). (
-          let now = row_afterwards table.key old fresh groups are group there new second in
-          record {
-            one = new.now;
-            has = now.0;
-            kept = subst (IsKeptRow (Free is_free table old fresh) table old new.now) (sym is)
-                (without_held is_free table old fresh new.now (λ before stands same. none_before table.key old fresh groups are group there first before stands (same ∙ now.1)));
-            own = now.1;
-            cells = ap (λ (it : Row). length it.cells) is ∙ is_long fresh fresh_long new.now now.0;
-          }))
+        let now = row_afterwards table.key old fresh groups are group there new second in
+        record {
+          one = new.now;
+          has = now.0;
+          kept = subst (IsKeptRow (Free is_free table old fresh) table old new.now) (sym is)
+              (without_held is_free table old fresh new.now (λ before stands same. none_before table.key old fresh groups are group there first before stands (same ∙ now.1)));
+          own = now.1;
+          cells = ap (λ (it : Row). length it.cells) is ∙ is_long fresh fresh_long new.now now.0;
+        }))
         (λ (never : Contains [] row). absurd (contains_nil row never))
         (contains_cons_cases new.now [] row has)
     given (Some held) None first second row has = absurd (contains_nil row has)
@@ -170,9 +170,11 @@ module _ (is_free : ColId → Bool) (table : Table) (old fresh : List Row) (grou
         let found = group_of table.key old fresh groups are new has in
         let given = gives found.0 found.1 fresh_apart (first_of Before found.0.items.items) (first_of Afterwards found.0.items.items) refl refl new has (sym found.2) in
         let is = is_given found.0 found.1 given.0 given.1 in
-        let same : is.one ≡ new = told_apart table.key fresh fresh_apart is.one new is.has has (is.own ∙ found.2) in
-        (given.0, contains_flat_map (kept_of is_free) groups found.0 given.0 found.1 given.1,
-          subst (λ (one : Row). IsKeptRow (Free is_free table old fresh) table old one given.0) same is.kept));
+        let same : is.one ≡ new = told_apart table.key fresh fresh_apart is.one new is.has has (is.own ∙ found.2) in (
+          given.0,
+          contains_flat_map (kept_of is_free) groups found.0 given.0 found.1 given.1,
+          subst (λ (one : Row). IsKeptRow (Free is_free table old fresh) table old one given.0) same is.kept,
+        ));
     long = all_from_members (λ (row : Row). length row.cells ≡ length table.cols) (flat_map (kept_of is_free) groups) (λ row has.
         (let from = in_flat_map (kept_of is_free) groups row has in let is = is_given from.0 from.1 row from.2 in is.cells));
     rising = pairs_of_flat_map (λ (one later : KeyGroup SidedRow). slice_cmp value_cmp (key_of one) (key_of later) ≡ Less)

@@ -47,22 +47,22 @@ module _ (is_free : ColId → Bool) (held fresh : Row) (long : length held.cells
   pub free_cell : (col : ColId) → is_free col ≡ true → cell_of kept col ≡ cell_of held col
   free_cell col free = ⊎_elim
       (λ (within : col.index < length fresh.cells). (
-        let value = item_at fresh.cells col.index within in
-        let cell = item_at held.cells col.index (subst (λ (n : ℕ). col.index < n) (sym long) within) in
-        let told : slice_get held.cells col.index ≡ Some cell.0 = cell.1 in
-        at_cell col value.0 value.1 ∙ ap (λ (b : Bool). if b then unwrap_or (slice_get held.cells col.index) value.0 else value.0) free
-        ∙ ap (λ found. unwrap_or found value.0) told ∙ ap or_null (sym told)))
+      let value = item_at fresh.cells col.index within in
+      let cell = item_at held.cells col.index (subst (λ (n : ℕ). col.index < n) (sym long) within) in
+      let told : slice_get held.cells col.index ≡ Some cell.0 = cell.1 in
+      at_cell col value.0 value.1 ∙ ap (λ (b : Bool). if b then unwrap_or (slice_get held.cells col.index) value.0 else value.0) free
+      ∙ ap (λ found. unwrap_or found value.0) told ∙ ap or_null (sym told)))
       (λ (past : length fresh.cells ≤ col.index).
-        beyond kept col (subst (λ (n : ℕ). n ≤ col.index) (sym kept_long) past) ∙ sym (beyond held col (subst (λ (n : ℕ). n ≤ col.index) (sym long) past)))
+      beyond kept col (subst (λ (n : ℕ). n ≤ col.index) (sym kept_long) past) ∙ sym (beyond held col (subst (λ (n : ℕ). n ≤ col.index) (sym long) past)))
       (cases_lt col.index (length fresh.cells))
 
   -- another holds what the fresh row holds
   pub own_cell : (col : ColId) → is_free col ≡ false → cell_of kept col ≡ cell_of fresh col
   own_cell col other = ⊎_elim
       (λ (within : col.index < length fresh.cells). (
-        let value = item_at fresh.cells col.index within in
-        at_cell col value.0 value.1 ∙ ap (λ (b : Bool). if b then unwrap_or (slice_get held.cells col.index) value.0 else value.0) other
-        ∙ ap or_null (sym value.1)))
+      let value = item_at fresh.cells col.index within in
+      at_cell col value.0 value.1 ∙ ap (λ (b : Bool). if b then unwrap_or (slice_get held.cells col.index) value.0 else value.0) other
+      ∙ ap or_null (sym value.1)))
       (λ (past : length fresh.cells ≤ col.index).
-        beyond kept col (subst (λ (n : ℕ). n ≤ col.index) (sym kept_long) past) ∙ sym (beyond fresh col past))
+      beyond kept col (subst (λ (n : ℕ). n ≤ col.index) (sym kept_long) past) ∙ sym (beyond fresh col past))
       (cases_lt col.index (length fresh.cells))

@@ -23,12 +23,12 @@ rows_apart : (store : StoreModel) (tables : Tables) → length tables ≡ length
     → ((t : TableId) (table : Table) → At store.tables t.index table → HaveRisingKeys table.key (rows_in tables t)) → HaveRowsApart store tables
 rows_apart store tables each rising t = ⊎_elim
     (λ (within : t.index < length store.tables). (
-      let found = item_at store.tables t.index within in
-      let Apart : List ColId → Type 0 = λ cols. AreToldApartBy cols (rows_in tables t) in
-      subst Apart (sym (key_columns_at store t found.0 found.1)) (rising_apart found.0.key (rows_in tables t) (rising t found.0 found.1))))
+    let found = item_at store.tables t.index within in
+    let Apart : List ColId → Type 0 = λ cols. AreToldApartBy cols (rows_in tables t) in
+    subst Apart (sym (key_columns_at store t found.0 found.1)) (rising_apart found.0.key (rows_in tables t) (rising t found.0 found.1))))
     (λ (past : length store.tables ≤ t.index). (
-      let Apart : List Row → Type 0 = AreToldApartBy (key_columns store t) in
-      subst Apart (sym (rows_beyond tables t (omega (arith, past, each)))) (λ i j d below within. absurd (omega arith))))
+    let Apart : List Row → Type 0 = AreToldApartBy (key_columns store t) in
+    subst Apart (sym (rows_beyond tables t (omega (arith, past, each)))) (λ i j d below within. absurd (omega arith))))
     (cases_lt t.index (length store.tables))
 
 -- held rows, and kept ones, with others

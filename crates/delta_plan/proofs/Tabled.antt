@@ -34,13 +34,13 @@ module _ (P : TableId → List Row → Type 0) where
     size = length-append lists (rows ∷ []) ∙ ap (λ n. n + 1) made.size;
     each = λ t below. ⊎_elim
         (λ (old : t.index < count). (
-          let found = item_at lists t.index (subst (λ (n : ℕ). t.index < n) (sym made.size) old) in
-          subst (P t) (rows_at lists t found.0 found.1 ∙ sym (rows_at (lists ++ rows ∷ []) t found.0 (at_push_old lists rows t.index found.0 found.1))) (made.each t old)))
+        let found = item_at lists t.index (subst (λ (n : ℕ). t.index < n) (sym made.size) old) in
+        subst (P t) (rows_at lists t found.0 found.1 ∙ sym (rows_at (lists ++ rows ∷ []) t found.0 (at_push_old lists rows t.index found.0 found.1))) (made.each t old)))
         (λ (past : count ≤ t.index). (
-          let same : count ≡ t.index = omega (arith, past, below) in
-          let last : At (lists ++ rows ∷ []) t.index rows = subst (λ (n : ℕ). At (lists ++ rows ∷ []) n rows) (made.size ∙ same) (at_push_last lists rows) in
-          let here : P t rows = subst (λ (n : ℕ). P (record { index = n }) rows) same is in
-          subst (P t) (sym (rows_at (lists ++ rows ∷ []) t rows last)) here))
+        let same : count ≡ t.index = omega (arith, past, below) in
+        let last : At (lists ++ rows ∷ []) t.index rows = subst (λ (n : ℕ). At (lists ++ rows ∷ []) n rows) (made.size ∙ same) (at_push_last lists rows) in
+        let here : P t rows = subst (λ (n : ℕ). P (record { index = n }) rows) same is in
+        subst (P t) (sym (rows_at (lists ++ rows ∷ []) t rows last)) here))
         (cases_lt t.index count);
   }
 
@@ -65,8 +65,8 @@ module _ (store : StoreModel) (tables fresh : Tables) where
           let is = made.each t (subst (λ (n : ℕ). t.index < n) (sym all) (within t table at)) table at in
           all_from_members (IsLong table) (rows_in held t) (λ row has.
           (let from : Contains (rows_in tables t) row × ((one : Row) × Contains (rows_in fresh t) one × (cells_of one table.key ≡ cells_of row table.key)) =
-              All-contains (λ (row : Row). Contains (rows_in tables t) row × ((one : Row) × Contains (rows_in fresh t) one × (cells_of one table.key ≡ cells_of row table.key)))
-              (rows_in held t) row is.only has in All-contains (IsLong table) (rows_in tables t) row (are.rows t table at) from.0)));
+          All-contains (λ (row : Row). Contains (rows_in tables t) row × ((one : Row) × Contains (rows_in fresh t) one × (cells_of one table.key ≡ cells_of row table.key)))
+          (rows_in held t) row is.only has in All-contains (IsLong table) (rows_in tables t) row (are.rows t table at) from.0)));
     };
     rows = λ t table at. made.each t (subst (λ (n : ℕ). t.index < n) (sym all) (within t table at)) table at;
   }

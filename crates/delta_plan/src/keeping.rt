@@ -25,7 +25,9 @@ pub(crate) fn held_rows(
 {
     let mut lists = Vec::new(alloc);
     for index in 0..store.tables.len() {
-        let id = TableId { index: index as u32 };
+        let id = TableId {
+            index: index as u32,
+        };
         let table = store.tables.at(index);
         let rows = held_in(
             alloc,
@@ -39,12 +41,7 @@ pub(crate) fn held_rows(
 }
 
 // The rows of a table that have the key of a wanted one.
-fn held_in(
-    alloc: Global,
-    table: &Table,
-    old: &[Row],
-    wanted: &[Row],
-) -> Result<Seq<Row>, Memory>
+fn held_in(alloc: Global, table: &Table, old: &[Row], wanted: &[Row]) -> Result<Seq<Row>, Memory>
     requires { AreRowsOf table.now old.now wanted.now }
     ensures { IfOk result (AreHeldRows table.now.key old.now wanted.now) }
 {
@@ -57,10 +54,7 @@ fn held_in(
 }
 
 // The rows of these keys, where one is wanted.
-fn held_in_groups(
-    alloc: Global,
-    groups: &[KeyGroup<'_, SidedRow<'_>>],
-) -> Result<Seq<Row>, Memory>
+fn held_in_groups(alloc: Global, groups: &[KeyGroup<'_, SidedRow<'_>>]) -> Result<Seq<Row>, Memory>
     ensures { IfOk result (λ rows. rows ≡ flat_map held_of groups.now) }
 {
     let mut rows = Seq::empty(alloc);
@@ -101,7 +95,9 @@ pub(crate) fn kept_rows(
 {
     let mut lists = Vec::new(alloc);
     for index in 0..store.tables.len() {
-        let id = TableId { index: index as u32 };
+        let id = TableId {
+            index: index as u32,
+        };
         let table = store.tables.at(index);
         let rows = kept_in(
             alloc,
@@ -186,7 +182,9 @@ fn kept_row(
 {
     let mut kept = Seq::empty(alloc);
     for (index, cell) in fresh.cells.as_slice().iter().enumerate() {
-        let col = ColId { index: index as u32 };
+        let col = ColId {
+            index: index as u32,
+        };
         kept.push(kept_cell(alloc, cells, id, col, held, cell)?)?;
     }
     Ok(Row { cells: kept })

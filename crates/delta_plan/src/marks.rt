@@ -54,7 +54,12 @@ impl Marks {
     }
 
     /// Whether the link is touched.
-    pub(crate) fn holds_link(&self, alloc: Global, assoc: AssocId, link: &Link) -> Result<bool, Memory>
+    pub(crate) fn holds_link(
+        &self,
+        alloc: Global,
+        assoc: AssocId,
+        link: &Link,
+    ) -> Result<bool, Memory>
         ensures { IfOk result (λ held. held ≡ holds_link self.now assoc link.now) }
     {
         let spot = link_spot(alloc, assoc, link)?;

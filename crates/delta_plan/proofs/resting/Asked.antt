@@ -37,7 +37,7 @@ module _ (gives : Giving) (model : EntityModel) (cells : Cells) (state : State) 
   pub names_table : (one : TableRow) → Contains (rows_of gives model cells state) one → one.table.index < length store.tables
   names_table one has =
       let there : Contains (rows_in rows one.table) one.row =
-          subst (λ (list : List Row). Contains list one.row) (sym (are.each one.table)) (among_named (rows_of gives model cells state) one has) in
+      subst (λ (list : List Row). Contains list one.row) (sym (are.each one.table)) (among_named (rows_of gives model cells state) one has) in
       subst (λ n. one.table.index < n) are.shape.each (row_within rows one.table one.row there)
 
   module _ (touched : Touched) where

@@ -40,12 +40,12 @@ module _ (store : StoreModel) (others : Tables) where
     left_rows : (t : TableId) → rows_in (left_of tables) t ≡ filter (λ row. not (has_its_key t row)) (rows_in tables t)
     left_rows t = ⊎_elim
         (λ (inside : t.index < length tables). (
-          let found = item_at tables t.index inside in
-          ap (λ one. unwrap_or one []) (at_map left_in (enumerate_from 0 tables) t.index (t.index, found.0) (numbered_at tables t.index found.0 found.1))
-          ∙ ap (λ one. filter (λ row. not (has_its_key t row)) (unwrap_or one [])) (sym found.1)))
+        let found = item_at tables t.index inside in
+        ap (λ one. unwrap_or one []) (at_map left_in (enumerate_from 0 tables) t.index (t.index, found.0) (numbered_at tables t.index found.0 found.1))
+        ∙ ap (λ one. filter (λ row. not (has_its_key t row)) (unwrap_or one [])) (sym found.1)))
         (λ (past : length tables ≤ t.index).
-          rows_beyond (left_of tables) t (subst (λ (n : ℕ). n ≤ t.index) (sym long) past)
-          ∙ ap (filter (λ row. not (has_its_key t row))) (sym (rows_beyond tables t past)))
+        rows_beyond (left_of tables) t (subst (λ (n : ℕ). n ≤ t.index) (sym long) past)
+        ∙ ap (filter (λ row. not (has_its_key t row))) (sym (rows_beyond tables t past)))
         (cases_lt t.index (length tables))
 
     -- a row has the key of another, or it is left

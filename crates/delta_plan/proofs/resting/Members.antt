@@ -35,16 +35,16 @@ module _ (state : State) where
       let found = at_place state.entities s.index entity has in
       Contains-append_left (entity_units state) (link_units state) (of_entity s entity)
       (contains_flat_map set_units (enumerate_from 0 state.entities) (s.index, found.0) (of_entity s entity)
-        (contains_enumerated state.entities s.index found.0 found.1)
-        (contains_map (of_entity s) found.0 entity found.2))
+      (contains_enumerated state.entities s.index found.0 found.1)
+      (contains_map (of_entity s) found.0 entity found.2))
 
   pub unit_of_link : (a : AssocId) (link : Link) → Contains (links_in state a) link → Contains (units_of state) (of_link a link)
   unit_of_link a link has =
       let found = at_place state.links a.index link has in
       Contains-append_right (entity_units state) (link_units state) (of_link a link)
       (contains_flat_map assoc_units (enumerate_from 0 state.links) (a.index, found.0) (of_link a link)
-        (contains_enumerated state.links a.index found.0 found.1)
-        (contains_map (of_link a) found.0 link found.2))
+      (contains_enumerated state.links a.index found.0 found.1)
+      (contains_map (of_link a) found.0 link found.2))
 
   -- what stands at a unit
   abbrev Stands : Unit → Type 0
@@ -54,13 +54,13 @@ module _ (state : State) where
   pub stands : (unit : Unit) → Contains (units_of state) unit → Stands unit
   stands unit has = ⊎_elim
       (λ (first : Contains (entity_units state) unit).
-        (let from = in_flat_map set_units (enumerate_from 0 state.entities) unit first in
-        let one = map_contains (of_entity (record { index = from.0.0 })) from.0.1 unit from.2 in
-        subst Stands one.2 (placed state.entities from.0.0 from.0.1 one.0 (enumerated_at state.entities from.0 from.1) one.1)))
+      (let from = in_flat_map set_units (enumerate_from 0 state.entities) unit first in
+      let one = map_contains (of_entity (record { index = from.0.0 })) from.0.1 unit from.2 in
+      subst Stands one.2 (placed state.entities from.0.0 from.0.1 one.0 (enumerated_at state.entities from.0 from.1) one.1)))
       (λ (second : Contains (link_units state) unit).
-        (let from = in_flat_map assoc_units (enumerate_from 0 state.links) unit second in
-        let one = map_contains (of_link (record { index = from.0.0 })) from.0.1 unit from.2 in
-        subst Stands one.2 (placed state.links from.0.0 from.0.1 one.0 (enumerated_at state.links from.0 from.1) one.1)))
+      (let from = in_flat_map assoc_units (enumerate_from 0 state.links) unit second in
+      let one = map_contains (of_link (record { index = from.0.0 })) from.0.1 unit from.2 in
+      subst Stands one.2 (placed state.links from.0.0 from.0.1 one.0 (enumerated_at state.links from.0 from.1) one.1)))
       (Contains-append_cases (entity_units state) (link_units state) unit has)
 
 -- what a test finds in no item doesn't stand there
@@ -81,4 +81,4 @@ key_untouched touched s key none = none_there (λ (one : SetId × List Value). i
 pub link_untouched : (touched : Touched) (a : AssocId) (link : Link) → is_touched_link touched a link ≡ false → ¬ Contains touched.links (a, link)
 link_untouched touched a link none = none_there (λ (one : AssocId × Link). if one.0.index == a.index then same_link one.1 link else false) touched.links (a, link) none
     (by_both (a.index == a.index) (same_link link link) ((Decides-eqb a.index a.index).1 refl)
-      (by_both (same_key link.first link.first) (same_key link.second link.second) ((Decides-key link.first link.first).1 refl) ((Decides-key link.second link.second).1 refl)))
+    (by_both (same_key link.first link.first) (same_key link.second link.second) ((Decides-key link.first link.first).1 refl) ((Decides-key link.second link.second).1 refl)))

@@ -58,7 +58,7 @@ module _ (store : StoreModel) (cells : Cells) (Stays : TableId → Row → Type 
     pub key : key_in store t fresh ≡ key_in store t row
 
   is_erased : (t : TableId) (row fresh : Row) → IsErasedRow (Free cells t) row fresh → IsErased t row fresh
-  is_erased t row fresh is = record { erased = is; key = erased_key (is_free_in cells t) (key_columns store t) (are.keys_kept t) row fresh is; }
+  is_erased t row fresh is = record { erased = is; key = erased_key (is_free_in cells t) (key_columns store t) (are.keys_kept t) row fresh is }
 
   fresh_of : (t : TableId) (row : Row) → Contains (rows_in tables t) row → (fresh : Row) × Contains (rows_in old_rows t) fresh × IsErased t row fresh
   fresh_of t row has =
@@ -69,7 +69,7 @@ module _ (store : StoreModel) (cells : Cells) (Stays : TableId → Row → Type 
   row_of t fresh has =
       let back = IsPermutation-sym (rows_in are.same.erased t) (rows_in old_rows t) (are.same.same t) in
       let found = beside_right (IsErasedRow (Free cells t)) (rows_in tables t) (rows_in are.same.erased t) (are.same.are_erased.rows t) fresh
-          (Contains-permutation (rows_in old_rows t) (rows_in are.same.erased t) fresh back has) in
+      (Contains-permutation (rows_in old_rows t) (rows_in are.same.erased t) fresh back has) in
       (found.0, found.1, is_erased t found.0 fresh found.2)
 
   module _ (t : TableId) (table : Table) (here : At store.tables t.index table) where
@@ -108,13 +108,13 @@ module _ (store : StoreModel) (cells : Cells) (Stays : TableId → Row → Type 
         → IsKept (rows_in tables t) fresh row → IsKept (rows_in held t) fresh part → row ≡ part
     kept_once fresh asked row part row_long part_long is is_part = by_column (is_free_in cells t) row part (row_long ∙ sym part_long)
         (λ col free. ⊎_elim
-          (λ (found : (one : Row) × Contains (rows_in tables t) one × (row_key table one ≡ row_key table fresh)).
-            stays_cell (rows_in tables t) fresh row is found.0 found.1 found.2 col free
-            ∙ sym (stays_cell (rows_in held t) fresh part is_part found.0 (is_held fresh asked found.0 found.1 found.2) found.2 col free))
-          (λ (none : (one : Row) → Contains (rows_in tables t) one → row_key table one ≢ row_key table fresh).
-            new_cell (rows_in tables t) fresh row is none col free
-            ∙ sym (new_cell (rows_in held t) fresh part is_part (λ one has. none one (held_within one has)) col free))
-          (held_or_not (is_free_in cells t) table (rows_in tables t) (rows_in tables t) (rows_in tables t) (row_key table fresh)))
+        (λ (found : (one : Row) × Contains (rows_in tables t) one × (row_key table one ≡ row_key table fresh)).
+        stays_cell (rows_in tables t) fresh row is found.0 found.1 found.2 col free
+        ∙ sym (stays_cell (rows_in held t) fresh part is_part found.0 (is_held fresh asked found.0 found.1 found.2) found.2 col free))
+        (λ (none : (one : Row) → Contains (rows_in tables t) one → row_key table one ≢ row_key table fresh).
+        new_cell (rows_in tables t) fresh row is none col free
+        ∙ sym (new_cell (rows_in held t) fresh part is_part (λ one has. none one (held_within one has)) col free))
+        (held_or_not (is_free_in cells t) table (rows_in tables t) (rows_in tables t) (rows_in tables t) (row_key table fresh)))
         (λ col other. is.rest col other ∙ sym (is_part.rest col other))
 
     -- a row that is kept from one that stays is that one as the tables hold it
@@ -156,7 +156,7 @@ module _ (store : StoreModel) (cells : Cells) (Stays : TableId → Row → Type 
   stays_left : (t : TableId) (fresh row : Row) → Stays t fresh → IsErased t row fresh → Contains (rows_in tables t) row → Contains (rows_in rest t) row
   stays_left t fresh row still is has = ⊎_elim
       (λ (found : (one : Row) × Contains (rows_in old_asked t) one × (key_in store t one ≡ key_in store t row)).
-        absurd (are.old.apart t found.0 fresh found.1 still (found.2 ∙ sym is.key)))
+      absurd (are.old.apart t found.0 fresh found.1 still (found.2 ∙ sym is.key)))
       (λ (left : Contains (rows_in rest t) row). left)
       (left_or_not store old_asked tables t row has)
 
@@ -168,8 +168,8 @@ module _ (store : StoreModel) (cells : Cells) (Stays : TableId → Row → Type 
   before = record {
     either = λ t row has. ⊎_elim
         (λ (found : (one : Row) × Contains (rows_in old_asked t) one × (key_in store t one ≡ key_in store t row)).
-          (let table = table_of tables are.legal.shape t row has in
-          inl ((are.holds.rows t table.0 table.1).all row found.0 has found.1 (by_table t table.0 table.1 found.0 row found.2))))
+        (let table = table_of tables are.legal.shape t row has in
+        inl ((are.holds.rows t table.0 table.1).all row found.0 has found.1 (by_table t table.0 table.1 found.0 row found.2))))
         (λ (left : Contains (rows_in rest t) row). inr left)
         (left_or_not store old_asked tables t row has);
     of_part = λ t row has. (let table = table_of held are.holds.shape t row has in held_within t table.0 table.1 row has);
@@ -177,7 +177,7 @@ module _ (store : StoreModel) (cells : Cells) (Stays : TableId → Row → Type 
     apart = λ t row other has left same.
         (let table = table_of held are.holds.shape t row has in
         let wanted = (All-contains (λ (row : Row). Contains (rows_in tables t) row × ((one : Row) × Contains (rows_in old_asked t) one × (cells_of one table.0.key ≡ cells_of row table.0.key)))
-            (rows_in held t) row (are.holds.rows t table.0 table.1).only has).1 in
+        (rows_in held t) row (are.holds.rows t table.0 table.1).only has).1 in
         left_apart store old_asked tables t other left wanted.0 wanted.1 (by_store t table.0 table.1 wanted.0 row wanted.2 ∙ same));
     once = rest_once;
   }
@@ -189,13 +189,13 @@ module _ (store : StoreModel) (cells : Cells) (Stays : TableId → Row → Type 
         let from = kept_from t table.0 table.1 row has in
         ⊎_elim
         (λ (asked : Contains (rows_in new_asked t) from.0).
-          (let part = (are.holds_kept.rows t table.0 table.1).all from.0 asked in
-          let one = kept_once t table.0 table.1 from.0 asked row part.0 (kept_long t table.0 table.1 row has) (part_long t table.0 table.1 part.0 part.1) from.2 part.2 in
-          inl (subst (Contains (rows_in fresh_kept t)) (sym one) part.1)))
+        (let part = (are.holds_kept.rows t table.0 table.1).all from.0 asked in
+        let one = kept_once t table.0 table.1 from.0 asked row part.0 (kept_long t table.0 table.1 row has) (part_long t table.0 table.1 part.0 part.1) from.2 part.2 in
+        inl (subst (Contains (rows_in fresh_kept t)) (sym one) part.1)))
         (λ (still : Stays t from.0).
-          (let was = row_of t from.0 (are.old.of_stays t from.0 still) in
-          let one = kept_as_was t table.0 table.1 from.0 was.0 row was.2 was.1 (kept_long t table.0 table.1 row has) from.2 in
-          inr (subst (Contains (rows_in rest t)) (sym one) (stays_left t from.0 was.0 still was.2 was.1))))
+        (let was = row_of t from.0 (are.old.of_stays t from.0 still) in
+        let one = kept_as_was t table.0 table.1 from.0 was.0 row was.2 was.1 (kept_long t table.0 table.1 row has) from.2 in
+        inr (subst (Contains (rows_in rest t)) (sym one) (stays_left t from.0 was.0 still was.2 was.1))))
         (are.new.either t from.0 from.1));
     of_part = λ t row has.
         (let table = table_of fresh_kept are.holds_kept.shape t row has in
@@ -221,4 +221,4 @@ module _ (store : StoreModel) (cells : Cells) (Stays : TableId → Row → Type 
 
   -- they are with one rest
   pub one_rest : (rest : Tables) × AreWithOneRest store held fresh_kept rest tables kept
-  one_rest = (rest, record { old = before; new = afterwards; })
+  one_rest = (rest, record { old = before; new = afterwards })

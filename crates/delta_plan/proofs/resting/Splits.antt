@@ -60,17 +60,17 @@ module _ (gives : Giving) (model : EntityModel) (cells : Cells) (touched : Touch
       apart = λ t row other has still.
           (let Apart : Row → Row → Type 0 = λ one two. key_in store t one ≢ key_in store t two in
           apart_units Apart (given t) (λ one two differ is. differ (sym is)) (is_touched model touched) (units_of state)
-            (subst (AllPairs Apart) (rows_are gives model cells state store rows are t) (apart t))
-            row (subst (λ (list : List Row). Contains list row) (part_is gives model cells state store rows are touched asked same t) has)
-            still.unit still.there still.untouched other still.gave);
+          (subst (AllPairs Apart) (rows_are gives model cells state store rows are t) (apart t))
+          row (subst (λ (list : List Row). Contains list row) (part_is gives model cells state store rows are touched asked same t) has)
+          still.unit still.there still.untouched other still.gave);
     }
       where
         by : (t : TableId) (row : Row) (unit : Unit) → Contains (units_of state) unit → Contains (given t unit) row → (b : Bool) → is_touched model touched unit ≡ b
             → Contains (rows_in asked t) row ⊎ Stays state t row
         by t row unit there gave true is = inl (subst (λ (list : List Row). Contains list row) (sym (part_is gives model cells state store rows are touched asked same t))
             (contains_flat_map (given t) (filter (is_touched model touched) (units_of state)) unit row
-              (contains_filter (is_touched model touched) (units_of state) unit there is) gave))
-        by t row unit there gave false is = inr (record { unit = unit; there = there; untouched = is; gave = gave; })
+            (contains_filter (is_touched model touched) (units_of state) unit there is) gave))
+        by t row unit there gave false is = inr (record { unit = unit; there = there; untouched = is; gave = gave })
 
   -- what stays of a state stays of one that differs only at what is touched
   pub stays_there : (old new : State) → DifferOnlyAt model cells touched old new → (t : TableId) (row : Row) → Stays old t row → Stays new t row

@@ -23,8 +23,9 @@ loop-one-preserved g c =
     let local = g.R.LocalRows.rows c.args.views.now in
     let f = local_rows local (links_in c.args.hosts.now) in
     let so_far = flat_map f (take i marked) in
-    let first = c.args.rows.now.items in
-    (c.in_ok-append.ensures ∙ ap (λ rows. rows ++ c.in_ok-own.own) c.loop-one.invariant.0 ∙ append_assoc first so_far c.in_ok-own.own
-        ∙ ap (λ own. first ++ (so_far ++ own)) (c.in_ok-own.ensures.demanded ∙ ap (local one.set one.entity.now) c.at-links.ensures)
-        ∙ ap (λ all. first ++ all) (next_lists f marked i one (reached marked i one c.loop-one-test.true c.one-item.is)),
-    stepped i (g.L.Ledger.count c.args.steps.now) (g.L.Ledger.count c.loop-one.steps) (g.L.Ledger.count c.local.new.steps) c.loop-one.invariant.1 c.local.ensures.counted)
+    let first = c.args.rows.now.items in (
+      c.in_ok-append.ensures ∙ ap (λ rows. rows ++ c.in_ok-own.own) c.loop-one.invariant.0 ∙ append_assoc first so_far c.in_ok-own.own
+          ∙ ap (λ own. first ++ (so_far ++ own)) (c.in_ok-own.ensures.demanded ∙ ap (local one.set one.entity.now) c.at-links.ensures)
+          ∙ ap (λ all. first ++ all) (next_lists f marked i one (reached marked i one c.loop-one-test.true c.one-item.is)),
+      stepped i (g.L.Ledger.count c.args.steps.now) (g.L.Ledger.count c.loop-one.steps) (g.L.Ledger.count c.local.new.steps) c.loop-one.invariant.1 c.local.ensures.counted,
+    )

@@ -6,10 +6,12 @@ use Rattle.delta_plan.proofs.gathering.gathered.Goals as goal
 
 pub loop-one-init : goal.loop-one-init
 loop-one-init c = (
-    ap (λ (tables : Tables). length tables) c.in_ok-tables.ensures ∙ length-map c.args.store.now.tables (λ (_ : Table). no_row),
-    λ t. ap (λ (tables : Tables). rows_in tables t) c.in_ok-tables.ensures ∙ none_named c.args.store.now t)
+  ap (λ (tables : Tables). length tables) c.in_ok-tables.ensures ∙ length-map c.args.store.now.tables (λ (_ : Table). no_row),
+  λ t. ap (λ (tables : Tables). rows_in tables t) c.in_ok-tables.ensures ∙ none_named c.args.store.now t,
+)
 
 pub loop-one-preserved : goal.loop-one-preserved
 loop-one-preserved c = (
-    c.in_ok-put.ensures.size ∙ c.loop-one.invariant.0,
-    λ t. c.in_ok-put.ensures.more t c.loop-one.yielded (c.loop-one.invariant.1 t))
+  c.in_ok-put.ensures.size ∙ c.loop-one.invariant.0,
+  λ t. c.in_ok-put.ensures.more t c.loop-one.yielded (c.loop-one.invariant.1 t),
+)

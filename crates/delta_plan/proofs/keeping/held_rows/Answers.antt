@@ -15,7 +15,7 @@ held_in-requires c =
     let old = c.as_slice.ensures.items ∙ c.rows.ensures in
     let new = c.as_slice-in-loop-index.ensures.items ∙ c.rows-in-loop-index.ensures in
     let is : AreRowsOf c.at-table.result.now (rows_in c.args.tables.now t) (rows_in c.args.wanted.now t) =
-        are_rows_of c.args.store.now c.args.tables.now c.args.wanted.now c.requires t c.at-table.result.now c.at-table.ensures in
+    are_rows_of c.args.store.now c.args.tables.now c.args.wanted.now c.requires t c.at-table.result.now c.at-table.ensures in
     let Both : List Row × List Row → Type 0 = λ both. AreRowsOf c.at-table.result.now both.0 both.1 in
     subst Both (λ k. (sym old k, sym new k)) is
 
@@ -28,7 +28,7 @@ loop-index-preserved c =
     let new = c.as_slice-in-loop-index.ensures.items ∙ c.rows-in-loop-index.ensures in
     let Made : Table × List Row × List Row → Type 0 = λ p. AreHeldRows p.0.key p.1 p.2 made in
     let is : (table : Table) → At c.args.store.now.tables i table → Made (table, rows_in c.args.tables.now t, rows_in c.args.wanted.now t) = λ table at.
-        subst Made (λ k. (at_once c.args.store.now.tables i c.at-table.result.now table c.at-table.ensures at k, old k, new k)) c.in_ok-rows.ensures in
+    subst Made (λ k. (at_once c.args.store.now.tables i c.at-table.result.now table c.at-table.ensures at k, old k, new k)) c.in_ok-rows.ensures in
     subst (IsMade (IsHeld c.args.store.now c.args.tables.now c.args.wanted.now) (i + 1)) (sym c.in_ok-push.ensures.items)
     (more_made (IsHeld c.args.store.now c.args.tables.now c.args.wanted.now) i c.loop-index.lists.items made c.loop-index.invariant is)
 

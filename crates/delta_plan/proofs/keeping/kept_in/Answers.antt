@@ -14,4 +14,4 @@ returns c =
     let Kept : List Row → Type 0 = AreKeptRows (Free c.args.cells.now c.args.id) table old fresh in
     let Groups : List ColId → Type 0 = λ cols. AreRowGroups cols old fresh c.in_ok-groups.groups.items in
     subst Kept (sym (c.in_ok-rows.ensures ∙ ap (flat_map (kept_of (is_free_in c.args.cells.now c.args.id))) c.as_slice-2.ensures.value)) (are_kept (is_free_in c.args.cells.now c.args.id) table old fresh c.in_ok-groups.groups.items
-        (subst Groups c.as_slice.ensures.items c.in_ok-groups.ensures) c.requires.old_long c.requires.new_long c.requires.old_apart c.requires.new_apart)
+    (subst Groups c.as_slice.ensures.items c.in_ok-groups.ensures) c.requires.old_long c.requires.new_long c.requires.old_apart c.requires.new_apart)

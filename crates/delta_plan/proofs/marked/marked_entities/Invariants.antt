@@ -8,5 +8,5 @@ use Rattle.delta_plan.proofs.marked.marked_entities.Given as goal
 abbrev pub invariant-loop-index : goal.invariant-loop-index
 invariant-loop-index l =
     (map unit_of l.found.items ≡ filter (is_marked l.model l.marks)
-        (flat_map set_units (take l.index (enumerate_from 0 l.state.entities))))
+    (flat_map set_units (take l.index (enumerate_from 0 l.state.entities))))
     × All (HasOwnKey l.model) l.found.items

@@ -10,11 +10,11 @@ loop-index-preserved c = λ model.
     let i = c.loop-index.index in
     let links = c.links-item.result in
     next_numbered (is_marked model c.args.marks.now) assoc_units c.args.state.now.links items c.link_lists-links-items.ensures i
-        links c.as_slice.result.now c.in-Ok.number (map unit_of_link c.loop-index.found.items) (map unit_of_link c.add_assoc.new.found.items)
-        (reached items i links c.loop-index-test.true c.links-item.is) c.in-Ok.ensures.1 c.as_slice.ensures.items
-        (c.loop-index.invariant model) (c.in_ok-add_assoc.ensures model)
+    links c.as_slice.result.now c.in-Ok.number (map unit_of_link c.loop-index.found.items) (map unit_of_link c.add_assoc.new.found.items)
+    (reached items i links c.loop-index-test.true c.links-item.is) c.in-Ok.ensures.1 c.as_slice.ensures.items
+    (c.loop-index.invariant model) (c.in_ok-add_assoc.ensures model)
 
 pub returns : goal.returns
 returns c = λ model.
     numbered_all (is_marked model c.args.marks.now) assoc_units c.args.state.now.links c.link_lists-links-items.result.now c.link_lists-links-items.ensures
-        c.loop-index.index (map unit_of_link c.loop-index.found.items) c.loop-index-test.false (c.loop-index.invariant model)
+    c.loop-index.index (map unit_of_link c.loop-index.found.items) c.loop-index-test.false (c.loop-index.invariant model)
