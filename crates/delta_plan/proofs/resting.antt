@@ -6,3 +6,4 @@ pub mod Splits
 pub mod Alike
 pub mod Left
 pub mod OneRest
+pub mod Ready

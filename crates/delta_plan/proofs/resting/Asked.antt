@@ -23,6 +23,12 @@ pub among_named : (rows : List TableRow) (one : TableRow) → Contains rows one 
 among_named rows one has = contains_map (λ (some : TableRow). some.row) (filter (λ (some : TableRow). some.table.index == one.table.index) rows) one
     (contains_filter (λ (some : TableRow). some.table.index == one.table.index) rows one has ((Decides-eqb one.table.index one.table.index).1 refl))
 
+-- rows that name tables of the store; where tables hold them, these are as long as the store tells, with one row at a key
+pub record AreWithin (store : StoreModel) (asked : List TableRow) : Type 0 where
+  pub names : (one : TableRow) → Contains asked one → one.table.index < length store.tables
+  pub tables : (part : Tables) → length part ≡ length store.tables → ((t : TableId) → rows_in part t ≡ named t asked) → AreTables store part
+  pub apart : (part : Tables) → ((t : TableId) → rows_in part t ≡ named t asked) → HaveRowsApart store part
+
 module _ (gives : Giving) (model : EntityModel) (cells : Cells) (state : State) (store : StoreModel) (rows : Tables)
     (are : AreTablesOf store (rows_of gives model cells state) rows) where
   -- the rows of a table that a unit gives
@@ -70,3 +76,11 @@ module _ (gives : Giving) (model : EntityModel) (cells : Cells) (state : State) 
           let Apart : Row → Row → Type 0 = λ row other. cells_of row (key_columns store t) ≢ cells_of other (key_columns store t) in
           subst (AllPairs Apart) (sym (part_is t))
           (pairs_of_filtered Apart (given_in t) (is_touched model touched) (units_of state) (subst (AllPairs Apart) (rows_are t) (apart t)))
+
+    -- what is asked for is within the store
+    pub asked_within : HaveRowsApart store rows → AreWithin store asked
+    asked_within apart = record {
+      names = asked_names_table;
+      tables = λ part long same. asked_tables part same long;
+      apart = λ part same. asked_apart part same apart;
+    }
