@@ -7,3 +7,4 @@ pub mod Alike
 pub mod Left
 pub mod OneRest
 pub mod Ready
+pub mod Few
