@@ -1,14 +1,11 @@
 -- The rows of what is touched are a part of those of a state.
-use Rattle.std.proofs.Common.{◌≡◌, ◌≢◌, ◌==◌, ◌<◌, ◌∙◌, List, map, filter, length, All, AllPairs, Contains, refl, sym, subst}
-use Rattle.std.proofs.Common.{Decides}
+use Rattle.std.proofs.Common.{◌≡◌, ◌≢◌, ◌==◌, ◌<◌, ◌∙◌, List, filter, length, AllPairs, Contains, refl, sym, subst}
 use Rattle.std.specs.List.{flat_map}
 use Rattle.std.proofs.lemmas.Bool.Decides.{Decides-eqb}
 use Rattle.std.proofs.lemmas.List.Elements.{All-contains}
-use Rattle.emc_base.specs.Lists.{At}
 use Rattle.emc_base.proofs.Lists.{all_from_members}
 use Rattle.emc_base.proofs.Mapped.{contains_filter, contains_map}
-use Rattle.round_trip.specs.Words.{AreTables, ColId, EntityModel, Row, State, StoreModel, Table, TableId, Tables, cells_of, key_columns, rows_in}
-use Rattle.table_files.specs.InOrder.{AreToldApartBy}
+use Rattle.round_trip.specs.Words.{AreTables, EntityModel, Row, State, StoreModel, TableId, Tables, cells_of, key_columns, rows_in}
 use Rattle.table_files.specs.declared.tables.TableRow.{TableRow}
 use Rattle.keyed_rows.specs.row_differences.SameButFree.{HaveRowsApart}
 use Rattle.row_changes.proofs.leading.Primary.{row_within}
@@ -43,7 +40,7 @@ module _ (gives : Giving) (model : EntityModel) (cells : Cells) (state : State) 
   pub names_table : (one : TableRow) → Contains (rows_of gives model cells state) one → one.table.index < length store.tables
   names_table one has =
       let there : Contains (rows_in rows one.table) one.row =
-          subst (λ (list : List Row). Contains list one.row) (sym (are.each one.table)) (among_named (rows_of gives model cells state) one has) in
+      subst (λ (list : List Row). Contains list one.row) (sym (are.each one.table)) (among_named (rows_of gives model cells state) one has) in
       subst (λ n. one.table.index < n) are.shape.each (row_within rows one.table one.row there)
 
   module _ (touched : Touched) where

@@ -1,7 +1,8 @@
 -- A state has no more entities at touched keys than there are such keys.
-use Rattle.std.proofs.Common.{◌≡◌, ◌≢◌, ◌==◌, ◌<◌, ◌≤◌, ◌∙◌, ⊎_elim, ℕ, List, [], ◌∷◌, map, filter, length, get_or, All, Any, AllPairs, Bool, true, false, Contains, Decides, slice_get, unwrap_or, if◌then◌else◌, refl, sym, ap, subst, arith}
+use Rattle.std.proofs.Common.{◌≡◌, ◌≢◌, ◌==◌, ◌<◌, ◌≤◌, ◌∙◌, ⊎_elim, ℕ, List, [], ◌∷◌, map, filter, length, All, AllPairs, Bool, true, false, Contains}
+use Rattle.std.proofs.Common.{Decides, unwrap_or, if◌then◌else◌, refl, sym, ap, subst, arith}
 use Rattle.std.specs.Cmp.{IsEquivalence}
-use Rattle.std.specs.List.{enumerate_from, flat_map, list_any}
+use Rattle.std.specs.List.{enumerate_from, flat_map}
 use Rattle.std.proofs.lemmas.Bool.{cases_Bool, false_from_ne_true}
 use Rattle.std.proofs.lemmas.Bool.Decides.{Decides-eqb, not_from_Decides}
 use Rattle.std.proofs.lemmas.List.{length-map}
@@ -71,7 +72,8 @@ one_key-equivalence = record {
   refl = λ x. (one_key-decides x x).1 refl;
   symm = λ x y. ⊎_elim
       (λ (told : one_key x y ≡ true). told ∙ sym ((one_key-decides y x).1 (sym ((one_key-decides x y).0 told))))
-      (λ (told : one_key x y ≡ false). told ∙ sym (false_from_ne_true (one_key y x) (λ also. not_from_Decides (one_key x y) (one_key-decides x y) told (sym ((one_key-decides y x).0 also)))))
+      (λ (told : one_key x y ≡ false). told ∙ sym (false_from_ne_true (one_key y x)
+      (λ also. not_from_Decides (one_key x y) (one_key-decides x y) told (sym ((one_key-decides y x).0 also)))))
       (cases_Bool (one_key x y));
   congr = λ x y z told. ap (λ w. one_key w z) ((one_key-decides x y).0 told);
 }
@@ -85,7 +87,8 @@ no_more keys list apart inside = length-le_from_is_member one_key-equivalence ke
 touched_there : (touched : Touched) (s : SetId) (key : List Value) → is_touched_key touched s key ≡ true → Contains touched.entities (s, key)
 touched_there touched s key told =
     let Is : KeyIn → Type 0 = λ one. one ≡ (s, key) in
-    let found = member_of Is touched.entities ((Decides-any (λ (one : KeyIn). one_key one (s, key)) Is (λ one. one_key-decides one (s, key)) touched.entities).0 told) in
+    let found = member_of Is touched.entities ((Decides-any (λ (one : KeyIn). one_key one (s, key)) Is
+    (λ one. one_key-decides one (s, key)) touched.entities).0 told) in
     subst (Contains touched.entities) found.2 found.1
 
 module _ (model : EntityModel) (touched : Touched) (state : State) (legal : IsLegal model state) where
@@ -117,7 +120,8 @@ module _ (model : EntityModel) (touched : Touched) (state : State) (legal : IsLe
       omega (arith, number, below)
 
   entities_apart : AllPairs HaveTwoKeys (entity_units state)
-  entities_apart = pairs_given (λ (one other : ℕ × List Entity). one.0 < other.0) HaveTwoKeys set_units (enumerate_from 0 state.entities) (numbers_rise state.entities) set_apart sets_apart
+  entities_apart = pairs_given (λ (one other : ℕ × List Entity). one.0 < other.0) HaveTwoKeys set_units (enumerate_from 0 state.entities)
+      (numbers_rise state.entities) set_apart sets_apart
 
   -- what is counted
   abbrev counted : List Unit
@@ -136,6 +140,7 @@ module _ (model : EntityModel) (touched : Touched) (state : State) (legal : IsLe
   pub few_touched : count_at model touched state ≤ length touched.entities
   few_touched =
       let few = no_more (map key_at counted) touched.entities
-          (all_pairs_map (λ (one other : KeyIn). one ≢ other) key_at counted (AllPairs-filter HaveTwoKeys (is_touched model touched) (entity_units state) entities_apart))
-          (λ key has. (let one = map_contains key_at counted key has in subst (Contains touched.entities) one.2 (key_touched one.0 one.1))) in
+      (all_pairs_map (λ (one other : KeyIn). one ≢ other) key_at counted
+      (AllPairs-filter HaveTwoKeys (is_touched model touched) (entity_units state) entities_apart))
+      (λ key has. (let one = map_contains key_at counted key has in subst (Contains touched.entities) one.2 (key_touched one.0 one.1))) in
       subst (λ (n : ℕ). n ≤ length touched.entities) (length-map counted key_at) few

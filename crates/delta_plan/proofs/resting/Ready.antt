@@ -28,7 +28,7 @@ module _ (gives : Giving) (model : EntityModel) (store : StoreModel) (cells : Ce
 
   -- the tables are legal, before and afterwards
   pub both_legal : AreBothLegal store tables kept
-  both_legal = record { sound = ready.sound; old_legal = ready.legal; new_legal = ready.kept_legal; }
+  both_legal = record { sound = ready.sound; old_legal = ready.legal; new_legal = ready.kept_legal }
 
   module _ (old_asked new_asked held fresh_kept : Tables) (old_is : (t : TableId) → rows_in old_asked t ≡ named t (asked before))
       (new_is : (t : TableId) → rows_in new_asked t ≡ named t (asked after)) (holds : HoldsHeld store tables old_asked held)
@@ -40,13 +40,14 @@ module _ (gives : Giving) (model : EntityModel) (store : StoreModel) (cells : Ce
 
     -- what is held at the keys of old rows, and what is kept of it in new ones, are parts of the tables with one rest
     pub are_with_one_rest : (rest : Tables) × AreWithOneRest store held fresh_kept rest tables kept
-    are_with_one_rest = one_rest store cells (Stays gives model cells touched before) tables old_rows new_rows kept old_asked new_asked held fresh_kept (record {
-      keys_kept = ready.keys_kept;
-      legal = ready.legal;
-      same = ready.same;
-      keeps = ready.keeps;
-      old = split gives model cells touched before store old_rows ready.are_old ready.old_apart old_asked old_is;
-      new = new_split;
-      holds = holds;
-      holds_kept = holds_kept;
-    })
+    are_with_one_rest = one_rest store cells (Stays gives model cells touched before) tables old_rows new_rows kept old_asked new_asked held fresh_kept
+        (record {
+          keys_kept = ready.keys_kept;
+          legal = ready.legal;
+          same = ready.same;
+          keeps = ready.keeps;
+          old = split gives model cells touched before store old_rows ready.are_old ready.old_apart old_asked old_is;
+          new = new_split;
+          holds = holds;
+          holds_kept = holds_kept;
+        })

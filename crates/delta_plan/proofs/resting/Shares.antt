@@ -1,5 +1,6 @@
 -- What items give, of which some pass a test.
-use Rattle.std.proofs.Common.{◌≡◌, ◌≢◌, ◌==◌, ◌∙◌, ⊎_elim, List, [], ◌∷◌, ◌++◌, map, filter, Bool, true, false, true≢false, All, AllPairs, Contains, refl, sym, ap, subst}
+use Rattle.std.proofs.Common.{◌≡◌, ◌≢◌, ◌==◌, ◌∙◌, ⊎_elim, List, [], ◌∷◌, ◌++◌, map, filter, Bool, true, false, true≢false, All, AllPairs, Contains, refl}
+use Rattle.std.proofs.Common.{sym, ap, subst}
 use Rattle.std.specs.List.{flat_map}
 use Rattle.std.proofs.lemmas.List.{map-append}
 use Rattle.std.proofs.lemmas.List.Concat.{flat_map-cons}
@@ -23,7 +24,7 @@ module _ {Y : Type 0} (P : Y → Y → Type 0) where
   across [] ys pairs x y has_x has_y = absurd (contains_nil x has_x)
   across (z ∷ xs) ys pairs x y has_x has_y = ⊎_elim
       (λ (here : x ≡ z). subst (λ (w : Y). P w y) (sym here)
-        (All-contains (P z) (xs ++ ys) y (pairs_head P z (xs ++ ys) pairs) (Contains-append_right xs ys y has_y)))
+      (All-contains (P z) (xs ++ ys) y (pairs_head P z (xs ++ ys) pairs) (Contains-append_right xs ys y has_y)))
       (λ (later : Contains xs x). across xs ys (pairs_tail P z (xs ++ ys) pairs) x y later has_y)
       (contains_cons_cases z xs x has_x)
 
@@ -49,8 +50,8 @@ module _ {Y : Type 0} (P : Y → Y → Type 0) where
           (subst (AllPairs P) (sym (flat_map-cons g x (filter p xs)))
           (apart-append P (g x) (flat_map g (filter p xs)) (apart-left P (g x) (flat_map g xs) both) rest
           (all_from_members (λ (y : Y). All (P y) (flat_map g (filter p xs))) (g x) (λ y has_y.
-            all_from_members (P y) (flat_map g (filter p xs)) (λ w has_w.
-              across (g x) (flat_map g xs) both y w has_y (within xs w has_w))))))
+          all_from_members (P y) (flat_map g (filter p xs)) (λ w has_w.
+          across (g x) (flat_map g xs) both y w has_y (within xs w has_w))))))
 
       -- and goes as all goes
       pub pairs_of_filtered : (xs : List X) → AllPairs P (flat_map g xs) → AllPairs P (flat_map g (filter p xs))
@@ -65,13 +66,13 @@ module _ {Y : Type 0} (P : Y → Y → Type 0) where
     of_two turned [] pairs x z has_x has_z differ y w of_x of_z = absurd (contains_nil x has_x)
     of_two turned (first ∷ xs) pairs x z has_x has_z differ y w of_x of_z = ⊎_elim
         (λ (x_first : x ≡ first). ⊎_elim
-          (λ (z_first : z ≡ first). absurd (differ (x_first ∙ sym z_first)))
-          (λ (z_later : Contains xs z). from_first x z y w x_first z_later of_x of_z)
-          (contains_cons_cases first xs z has_z))
+        (λ (z_first : z ≡ first). absurd (differ (x_first ∙ sym z_first)))
+        (λ (z_later : Contains xs z). from_first x z y w x_first z_later of_x of_z)
+        (contains_cons_cases first xs z has_z))
         (λ (x_later : Contains xs x). ⊎_elim
-          (λ (z_first : z ≡ first). turned w y (from_first z x w y z_first x_later of_z of_x))
-          (λ (z_later : Contains xs z). of_two turned xs (apart-right (g first) (flat_map g xs) both) x z x_later z_later differ y w of_x of_z)
-          (contains_cons_cases first xs z has_z))
+        (λ (z_first : z ≡ first). turned w y (from_first z x w y z_first x_later of_z of_x))
+        (λ (z_later : Contains xs z). of_two turned xs (apart-right (g first) (flat_map g xs) both) x z x_later z_later differ y w of_x of_z)
+        (contains_cons_cases first xs z has_z))
         (contains_cons_cases first xs x has_x)
       where
         both : AllPairs P (g first ++ flat_map g xs)
@@ -93,7 +94,8 @@ module _ (t : TableId) where
   named-append : (xs ys : List TableRow) → named t (xs ++ ys) ≡ named t xs ++ named t ys
   named-append xs ys =
       ap (map (λ (one : TableRow). one.row)) (filter-append (λ (one : TableRow). one.table.index == t.index) xs ys)
-      ∙ map-append (λ (one : TableRow). one.row) (filter (λ (one : TableRow). one.table.index == t.index) xs) (filter (λ (one : TableRow). one.table.index == t.index) ys)
+      ∙ map-append (λ (one : TableRow). one.row) (filter (λ (one : TableRow). one.table.index == t.index) xs)
+      (filter (λ (one : TableRow). one.table.index == t.index) ys)
 
   pub named_given : {X : Type 0} (f : X → List TableRow) (xs : List X) → named t (flat_map f xs) ≡ flat_map (λ x. named t (f x)) xs
   named_given f [] = refl
