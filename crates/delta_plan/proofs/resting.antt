@@ -6,3 +6,5 @@ pub mod Splits
 pub mod Alike
 pub mod Left
 pub mod OneRest
+pub mod Ready
+pub mod Few

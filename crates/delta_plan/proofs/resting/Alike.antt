@@ -1,12 +1,12 @@
 -- Rows that are one: of the same cells, and what they are with free cells erased or kept.
-use Rattle.std.proofs.Common.{◌≡◌, ◌≢◌, ◌⊎◌, ◌<◌, ◌∙◌, ⊎_elim, ℕ, zero, suc, List, [], ◌∷◌, map, length, All, Bool, IsTrue, true, false, true≢false, Contains, Option, Some, slice_get, unwrap_or, refl, sym, ap, subst, arith}
+use Rattle.std.proofs.Common.{◌≡◌, ◌∙◌, ℕ, suc, List, [], ◌∷◌, length, All, Bool, IsTrue, true, false, true≢false, Contains, Some, slice_get, unwrap_or, refl}
+use Rattle.std.proofs.Common.{sym, ap, arith}
 use Rattle.std.specs.List.{AllZip}
-use Rattle.std.proofs.lemmas.List.Elements.{All-contains}
 use Rattle.std.proofs.lemmas.Option.{slice_get-get_or}
 use Rattle.emc_base.specs.Lists.{At}
 use Rattle.emc_base.proofs.Mapped.{contains_at}
 use Rattle.emc_base.proofs.facts.Zipped.{zipped_left, zipped_right}
-use Rattle.round_trip.specs.Words.{ColId, IsErasedRow, IsKeptRow, Null, Row, Table, Value, cell_of, cells_of, row_key}
+use Rattle.round_trip.specs.Words.{ColId, IsErasedRow, Null, Row, Value, cell_of, cells_of}
 
 -- lists of one length that hold the same at each place
 same_list : (xs ys : List Value) → length xs ≡ length ys → ((i : ℕ) → unwrap_or (slice_get xs i) Null ≡ unwrap_or (slice_get ys i) Null) → xs ≡ ys
@@ -50,7 +50,8 @@ module _ (is_free : ColId → Bool) where
       by col false is = other col (not_free col is)
 
   -- an erased row has the same key, where no column of it is free
-  pub erased_key : (key : List ColId) → All (λ col. is_free col ≡ false) key → (row erased : Row) → IsErasedRow Free row erased → cells_of erased key ≡ cells_of row key
+  pub erased_key : (key : List ColId) → All (λ col. is_free col ≡ false) key → (row erased : Row) → IsErasedRow Free row erased
+      → cells_of erased key ≡ cells_of row key
   erased_key key kept row erased is = same_key_cells key erased row (λ k d within. is.rest _ (not_free _ (kept k d within)))
 
 module _ {X Y : Type 0} (R : X → Y → Type 0) where
@@ -59,7 +60,9 @@ module _ {X Y : Type 0} (R : X → Y → Type 0) where
 
   -- beside a member of the one list stands one of the other
   pub beside_left : (xs : List X) (ys : List Y) → AllZip R xs ys → (x : X) → Contains xs x → (y : Y) × Contains ys y × R x y
-  beside_left xs ys zipped x has = let found = zipped_left R xs ys zipped has.0 x (at_member xs x has) in (found.0, contains_at ys has.0 found.0 found.1, found.2)
+  beside_left xs ys zipped x has = let found = zipped_left R xs ys zipped has.0 x (at_member xs x has) in
+      (found.0, contains_at ys has.0 found.0 found.1, found.2)
 
   pub beside_right : (xs : List X) (ys : List Y) → AllZip R xs ys → (y : Y) → Contains ys y → (x : X) × Contains xs x × R x y
-  beside_right xs ys zipped y has = let found = zipped_right R xs ys zipped has.0 y (at_member ys y has) in (found.0, contains_at xs has.0 found.0 found.1, found.2)
+  beside_right xs ys zipped y has = let found = zipped_right R xs ys zipped has.0 y (at_member ys y has) in
+      (found.0, contains_at xs has.0 found.0 found.1, found.2)

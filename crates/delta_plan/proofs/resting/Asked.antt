@@ -1,14 +1,11 @@
 -- The rows of what is touched are a part of those of a state.
-use Rattle.std.proofs.Common.{◌≡◌, ◌≢◌, ◌==◌, ◌<◌, ◌∙◌, List, map, filter, length, All, AllPairs, Contains, refl, sym, subst}
-use Rattle.std.proofs.Common.{Decides}
+use Rattle.std.proofs.Common.{◌≡◌, ◌≢◌, ◌==◌, ◌<◌, ◌∙◌, List, filter, length, AllPairs, Contains, refl, sym, subst}
 use Rattle.std.specs.List.{flat_map}
 use Rattle.std.proofs.lemmas.Bool.Decides.{Decides-eqb}
 use Rattle.std.proofs.lemmas.List.Elements.{All-contains}
-use Rattle.emc_base.specs.Lists.{At}
 use Rattle.emc_base.proofs.Lists.{all_from_members}
 use Rattle.emc_base.proofs.Mapped.{contains_filter, contains_map}
-use Rattle.round_trip.specs.Words.{AreTables, ColId, EntityModel, Row, State, StoreModel, Table, TableId, Tables, cells_of, key_columns, rows_in}
-use Rattle.table_files.specs.InOrder.{AreToldApartBy}
+use Rattle.round_trip.specs.Words.{AreTables, EntityModel, Row, State, StoreModel, TableId, Tables, cells_of, key_columns, rows_in}
 use Rattle.table_files.specs.declared.tables.TableRow.{TableRow}
 use Rattle.keyed_rows.specs.row_differences.SameButFree.{HaveRowsApart}
 use Rattle.row_changes.proofs.leading.Primary.{row_within}
@@ -22,6 +19,12 @@ use Rattle.delta_plan.proofs.resting.Shares.{named_given, pairs_of_filtered, wit
 pub among_named : (rows : List TableRow) (one : TableRow) → Contains rows one → Contains (named one.table rows) one.row
 among_named rows one has = contains_map (λ (some : TableRow). some.row) (filter (λ (some : TableRow). some.table.index == one.table.index) rows) one
     (contains_filter (λ (some : TableRow). some.table.index == one.table.index) rows one has ((Decides-eqb one.table.index one.table.index).1 refl))
+
+-- rows that name tables of the store; where tables hold them, these are as long as the store tells, with one row at a key
+pub record AreWithin (store : StoreModel) (asked : List TableRow) : Type 0 where
+  pub names : (one : TableRow) → Contains asked one → one.table.index < length store.tables
+  pub tables : (part : Tables) → length part ≡ length store.tables → ((t : TableId) → rows_in part t ≡ named t asked) → AreTables store part
+  pub apart : (part : Tables) → ((t : TableId) → rows_in part t ≡ named t asked) → HaveRowsApart store part
 
 module _ (gives : Giving) (model : EntityModel) (cells : Cells) (state : State) (store : StoreModel) (rows : Tables)
     (are : AreTablesOf store (rows_of gives model cells state) rows) where
@@ -70,3 +73,11 @@ module _ (gives : Giving) (model : EntityModel) (cells : Cells) (state : State) 
           let Apart : Row → Row → Type 0 = λ row other. cells_of row (key_columns store t) ≢ cells_of other (key_columns store t) in
           subst (AllPairs Apart) (sym (part_is t))
           (pairs_of_filtered Apart (given_in t) (is_touched model touched) (units_of state) (subst (AllPairs Apart) (rows_are t) (apart t)))
+
+    -- what is asked for is within the store
+    pub asked_within : HaveRowsApart store rows → AreWithin store asked
+    asked_within apart = record {
+      names = asked_names_table;
+      tables = λ part long same. asked_tables part same long;
+      apart = λ part same. asked_apart part same apart;
+    }

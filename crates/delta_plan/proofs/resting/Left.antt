@@ -1,10 +1,10 @@
 -- The rows of tables whose key no row of others has.
-use Rattle.std.proofs.Common.{◌≡◌, ◌≢◌, ◌⊎◌, ◌<◌, ◌≤◌, ◌∙◌, ⊎_elim, inl, inr, ℕ, List, [], map, filter, not, length, Any, Bool, true, false, true≢false, Contains, Decides, slice_get, unwrap_or, refl, sym, ap, subst, arith}
+use Rattle.std.proofs.Common.{◌≡◌, ◌≢◌, ◌⊎◌, ◌<◌, ◌≤◌, ◌∙◌, ⊎_elim, inl, inr, ℕ, List, [], map, filter, not, length, Any, Bool, true, false, true≢false}
+use Rattle.std.proofs.Common.{Contains, Decides, unwrap_or, refl, sym, ap, subst}
 use Rattle.std.specs.List.{enumerate_from, list_any}
 use Rattle.std.proofs.lemmas.Bool.{cases_lt}
 use Rattle.std.proofs.lemmas.List.{length-map}
 use Rattle.std.proofs.lemmas.List.FromFn.{length-enumerate_from}
-use Rattle.emc_base.specs.Lists.{At}
 use Rattle.emc_base.proofs.FoundItems.{member_of, some_member}
 use Rattle.emc_base.proofs.Joined.{at_map}
 use Rattle.emc_base.proofs.Lists.{item_at}
@@ -30,7 +30,8 @@ module _ (store : StoreModel) (others : Tables) where
   left_of tables = map left_in (enumerate_from 0 tables)
 
   has_key-decides : (t : TableId) (row : Row) → Decides (has_its_key t row) (Any (λ one. key_in store t one ≡ key_in store t row) (rows_in others t))
-  has_key-decides t row = Decides-any (λ (one : Row). same_key (key_in store t one) (key_in store t row)) (λ (one : Row). key_in store t one ≡ key_in store t row)
+  has_key-decides t row = Decides-any (λ (one : Row). same_key (key_in store t one) (key_in store t row))
+      (λ (one : Row). key_in store t one ≡ key_in store t row)
       (λ one. Decides-key (key_in store t one) (key_in store t row)) (rows_in others t)
 
   module _ (tables : Tables) where
@@ -60,14 +61,17 @@ module _ (store : StoreModel) (others : Tables) where
             (contains_filter (λ (one : Row). not (has_its_key t one)) (rows_in tables t) row has (ap not is)))
 
     is_left : (t : TableId) (row : Row) → Contains (rows_in (left_of tables) t) row → Contains (rows_in tables t) row × (not (has_its_key t row) ≡ true)
-    is_left t row has = filter_contains (λ (one : Row). not (has_its_key t one)) (rows_in tables t) row (subst (λ (list : List Row). Contains list row) (left_rows t) has)
+    is_left t row has = filter_contains (λ (one : Row). not (has_its_key t one)) (rows_in tables t) row
+        (subst (λ (list : List Row). Contains list row) (left_rows t) has)
 
     -- what is left was there
     pub left_within : (t : TableId) (row : Row) → Contains (rows_in (left_of tables) t) row → Contains (rows_in tables t) row
     left_within t row has = (is_left t row has).0
 
     -- and has the key of no other
-    pub left_apart : (t : TableId) (row : Row) → Contains (rows_in (left_of tables) t) row → (one : Row) → Contains (rows_in others t) one → key_in store t one ≢ key_in store t row
+    pub left_apart : (t : TableId) (row : Row) → Contains (rows_in (left_of tables) t) row → (one : Row) → Contains (rows_in others t) one
+        → key_in store t one ≢ key_in store t row
     left_apart t row has one there same =
-        let told : has_its_key t row ≡ true = (has_key-decides t row).1 (some_member (λ (some : Row). key_in store t some ≡ key_in store t row) (rows_in others t) one there same) in
+        let told : has_its_key t row ≡ true = (has_key-decides t row).1
+        (some_member (λ (some : Row). key_in store t some ≡ key_in store t row) (rows_in others t) one there same) in
         true≢false (sym (is_left t row has).1 ∙ ap not told)

@@ -1,6 +1,7 @@
 -- The units of a state are its entities and its links; which of them are touched.
-use Rattle.std.proofs.Common.{◌≡◌, ◌==◌, ◌∙◌, ◌↔◌, ⊎_elim, ℕ, List, [], ◌∷◌, ◌++◌, map, Any, Bool, true, false, true≢false, Contains, Option, Some, None, Decides, slice_get, unwrap_or, if◌then◌else◌, refl, sym, ap, subst}
-use Rattle.std.specs.List.{enumerate_from, flat_map, list_any}
+use Rattle.std.proofs.Common.{◌≡◌, ◌==◌, ◌∙◌, ⊎_elim, ℕ, List, [], Bool, true, false, true≢false, Contains, Option, Some, None, slice_get, unwrap_or}
+use Rattle.std.proofs.Common.{if◌then◌else◌, refl, sym, subst}
+use Rattle.std.specs.List.{enumerate_from, list_any}
 use Rattle.std.proofs.lemmas.Bool.Decides.{Decides-eqb}
 use Rattle.std.proofs.lemmas.List.Elements.{Contains-append_cases, Contains-append_left, Contains-append_right}
 use Rattle.emc_base.specs.Lists.{At}
@@ -9,7 +10,7 @@ use Rattle.emc_base.proofs.Joined.{in_flat_map}
 use Rattle.emc_base.proofs.Mapped.{contains_enumerated, contains_map}
 use Rattle.emc_base.proofs.Members.{contains_nil}
 use Rattle.emc_base.proofs.Numbered.{enumerated_at, map_contains}
-use Rattle.round_trip.specs.Words.{AssocId, Entity, EntityModel, Link, SetId, State, Value, entities_in, key_of, links_in}
+use Rattle.round_trip.specs.Words.{AssocId, Entity, Link, SetId, State, Value, entities_in, links_in}
 use Rattle.schema_laws.proofs.state_demand.lists.Lists.{Decides-any}
 use Rattle.schema_laws.proofs.state_demand.writings.Selecting.{Decides-key}
 use Rattle.schema_laws.specs.state_demand.Selecting.{same_key}
@@ -18,10 +19,12 @@ use Rattle.entity_changes.specs.declared.touched.Touched.{Touched}
 use Rattle.delta_plan.specs.Units.{Unit, assoc_units, entity_units, is_touched_key, is_touched_link, link_units, of_entity, of_link, set_units, units_of}
 
 -- a member of the list at a place
-placed : {X : Type 0} (lists : List (List X)) (i : ℕ) (list : List X) (x : X) → At lists i list → Contains list x → Contains (unwrap_or (slice_get lists i) []) x
+placed : {X : Type 0} (lists : List (List X)) (i : ℕ) (list : List X) (x : X) → At lists i list → Contains list x
+    → Contains (unwrap_or (slice_get lists i) []) x
 placed {X} lists i list x here has = subst (λ (found : Option (List X)). Contains (unwrap_or found []) x) (sym here) has
 
-at_place : {X : Type 0} (lists : List (List X)) (i : ℕ) (x : X) → Contains (unwrap_or (slice_get lists i) []) x → (list : List X) × At lists i list × Contains list x
+at_place : {X : Type 0} (lists : List (List X)) (i : ℕ) (x : X) → Contains (unwrap_or (slice_get lists i) []) x
+    → (list : List X) × At lists i list × Contains list x
 at_place {X} lists i x has = by (slice_get lists i) refl has
   where
     by : (found : Option (List X)) → slice_get lists i ≡ found → Contains (unwrap_or found []) x → (list : List X) × At lists i list × Contains list x
@@ -75,10 +78,13 @@ by_both false two is both = absurd cc
 
 -- what isn't told as touched isn't
 pub key_untouched : (touched : Touched) (s : SetId) (key : List Value) → is_touched_key touched s key ≡ false → ¬ Contains touched.entities (s, key)
-key_untouched touched s key none = none_there (λ (one : SetId × List Value). if one.0.index == s.index then same_key one.1 key else false) touched.entities (s, key) none
+key_untouched touched s key none = none_there (λ (one : SetId × List Value). if one.0.index == s.index then same_key one.1 key else false) touched.entities
+    (s, key) none
     (by_both (s.index == s.index) (same_key key key) ((Decides-eqb s.index s.index).1 refl) ((Decides-key key key).1 refl))
 
 pub link_untouched : (touched : Touched) (a : AssocId) (link : Link) → is_touched_link touched a link ≡ false → ¬ Contains touched.links (a, link)
-link_untouched touched a link none = none_there (λ (one : AssocId × Link). if one.0.index == a.index then same_link one.1 link else false) touched.links (a, link) none
+link_untouched touched a link none = none_there (λ (one : AssocId × Link). if one.0.index == a.index then same_link one.1 link else false) touched.links
+    (a, link) none
     (by_both (a.index == a.index) (same_link link link) ((Decides-eqb a.index a.index).1 refl)
-    (by_both (same_key link.first link.first) (same_key link.second link.second) ((Decides-key link.first link.first).1 refl) ((Decides-key link.second link.second).1 refl)))
+    (by_both (same_key link.first link.first) (same_key link.second link.second) ((Decides-key link.first link.first).1 refl)
+    ((Decides-key link.second link.second).1 refl)))

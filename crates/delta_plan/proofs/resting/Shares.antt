@@ -1,5 +1,6 @@
 -- What items give, of which some pass a test.
-use Rattle.std.proofs.Common.{◌≡◌, ◌≢◌, ◌==◌, ◌∙◌, ⊎_elim, List, [], ◌∷◌, ◌++◌, map, filter, Bool, true, false, true≢false, All, AllPairs, Contains, refl, sym, ap, subst}
+use Rattle.std.proofs.Common.{◌≡◌, ◌≢◌, ◌==◌, ◌∙◌, ⊎_elim, List, [], ◌∷◌, ◌++◌, map, filter, Bool, true, false, true≢false, All, AllPairs, Contains, refl}
+use Rattle.std.proofs.Common.{sym, ap, subst}
 use Rattle.std.specs.List.{flat_map}
 use Rattle.std.proofs.lemmas.List.{map-append}
 use Rattle.std.proofs.lemmas.List.Concat.{flat_map-cons}
@@ -93,7 +94,8 @@ module _ (t : TableId) where
   named-append : (xs ys : List TableRow) → named t (xs ++ ys) ≡ named t xs ++ named t ys
   named-append xs ys =
       ap (map (λ (one : TableRow). one.row)) (filter-append (λ (one : TableRow). one.table.index == t.index) xs ys)
-      ∙ map-append (λ (one : TableRow). one.row) (filter (λ (one : TableRow). one.table.index == t.index) xs) (filter (λ (one : TableRow). one.table.index == t.index) ys)
+      ∙ map-append (λ (one : TableRow). one.row) (filter (λ (one : TableRow). one.table.index == t.index) xs)
+      (filter (λ (one : TableRow). one.table.index == t.index) ys)
 
   pub named_given : {X : Type 0} (f : X → List TableRow) (xs : List X) → named t (flat_map f xs) ≡ flat_map (λ x. named t (f x)) xs
   named_given f [] = refl

@@ -1,6 +1,5 @@
 -- Tables of which a part is asked for: what is left of them stays.
-use Rattle.std.proofs.Common.{◌≡◌, ◌≢◌, ◌==◌, ◌⊎◌, ◌∙◌, ⊎_elim, inl, inr, List, map, filter, Bool, true, false, AllPairs, Contains, refl, sym, subst}
-use Rattle.std.specs.List.{flat_map}
+use Rattle.std.proofs.Common.{◌≡◌, ◌≢◌, ◌==◌, ◌⊎◌, ⊎_elim, inl, inr, List, filter, Bool, true, false, AllPairs, Contains, refl, sym, subst}
 use Rattle.emc_base.proofs.FoundItems.{contains_flat_map}
 use Rattle.emc_base.proofs.Joined.{in_flat_map}
 use Rattle.emc_base.proofs.Mapped.{contains_filter, contains_map}
@@ -29,7 +28,8 @@ pub record IsSplit (store : StoreModel) (Stays : TableId → Row → Type 0) (ro
 pub told_so : (store : StoreModel) (Stays Other : TableId → Row → Type 0) (rows asked : Tables) → ((t : TableId) (row : Row) → Stays t row → Other t row)
     → ((t : TableId) (row : Row) → Other t row → Stays t row) → IsSplit store Stays rows asked → IsSplit store Other rows asked
 told_so store Stays Other rows asked forth back split = record {
-  either = λ t row has. ⊎_elim (λ (part : Contains (rows_in asked t) row). inl part) (λ (still : Stays t row). inr (forth t row still)) (split.either t row has);
+  either = λ t row has. ⊎_elim (λ (part : Contains (rows_in asked t) row). inl part) (λ (still : Stays t row). inr (forth t row still))
+      (split.either t row has);
   of_asked = split.of_asked;
   of_stays = λ t row still. split.of_stays t row (back t row still);
   apart = λ t row other has still. split.apart t row other has (back t other still);
@@ -43,7 +43,8 @@ module _ (gives : Giving) (model : EntityModel) (cells : Cells) (touched : Touch
     pub untouched : is_touched model touched unit ≡ false
     pub gave : Contains (named t (unit_rows gives model cells state unit)) row
 
-  module _ (state : State) (store : StoreModel) (rows : Tables) (are : AreTablesOf store (rows_of gives model cells state) rows) (apart : HaveRowsApart store rows)
+  module _ (state : State) (store : StoreModel) (rows : Tables) (are : AreTablesOf store (rows_of gives model cells state) rows)
+      (apart : HaveRowsApart store rows)
       (asked : Tables) (same : (t : TableId) → rows_in asked t ≡ named t (touched_rows gives model cells state touched)) where
     abbrev given : TableId → Unit → List Row
     given t unit = named t (unit_rows gives model cells state unit)
@@ -52,7 +53,8 @@ module _ (gives : Giving) (model : EntityModel) (cells : Cells) (touched : Touch
     pub split : IsSplit store (Stays state) rows asked
     split = record {
       either = λ t row has.
-          (let from = in_flat_map (given t) (units_of state) row (subst (λ (list : List Row). Contains list row) (rows_are gives model cells state store rows are t) has) in
+          (let from = in_flat_map (given t) (units_of state) row (subst (λ (list : List Row). Contains list row)
+          (rows_are gives model cells state store rows are t) has) in
           by t row from.0 from.1 from.2 (is_touched model touched from.0) refl);
       of_asked = part_within gives model cells state store rows are touched asked same;
       of_stays = λ t row still. subst (λ (list : List Row). Contains list row) (sym (rows_are gives model cells state store rows are t))
@@ -65,9 +67,11 @@ module _ (gives : Giving) (model : EntityModel) (cells : Cells) (touched : Touch
           still.unit still.there still.untouched other still.gave);
     }
       where
-        by : (t : TableId) (row : Row) (unit : Unit) → Contains (units_of state) unit → Contains (given t unit) row → (b : Bool) → is_touched model touched unit ≡ b
+        by : (t : TableId) (row : Row) (unit : Unit) → Contains (units_of state) unit → Contains (given t unit) row → (b : Bool)
+            → is_touched model touched unit ≡ b
             → Contains (rows_in asked t) row ⊎ Stays state t row
-        by t row unit there gave true is = inl (subst (λ (list : List Row). Contains list row) (sym (part_is gives model cells state store rows are touched asked same t))
+        by t row unit there gave true is = inl (subst (λ (list : List Row). Contains list row)
+            (sym (part_is gives model cells state store rows are touched asked same t))
             (contains_flat_map (given t) (filter (is_touched model touched) (units_of state)) unit row
             (contains_filter (is_touched model touched) (units_of state) unit there is) gave))
         by t row unit there gave false is = inr (record { unit = unit; there = there; untouched = is; gave = gave })

@@ -1,13 +1,11 @@
 -- What isn't touched stands in both states, and gives there the same rows.
-use Rattle.std.proofs.Common.{◌≡◌, ◌∙◌, ⊎_elim, List, [], map, filter, Bool, true, false, Contains, Option, Some, None, slice_get, unwrap_or, refl, sym, ap, subst}
-use Rattle.std.specs.Option.{option_map_or}
+use Rattle.std.proofs.Common.{◌≡◌, List, false, Contains, Option, Some, None, slice_get, unwrap_or, refl, sym, subst}
 use Rattle.emc_base.proofs.Members.{contains_nil}
 use Rattle.round_trip.specs.Words.{AssocId, EntityModel, Hosted, Link, State, key_of}
 use Rattle.table_files.specs.declared.tables.TableRow.{TableRow}
 use Rattle.table_owners.specs.declared.places.LinkPlace.{LinkPlace}
 use Rattle.table_owners.specs.declared.places.LinkPlace.TheVariants as place
 use Rattle.cells.specs.declared.cells.Cells.{Cells}
-use Rattle.cells.specs.HostedLinks.{hosted_links}
 use Rattle.entity_changes.specs.declared.touched.Touched.{Touched}
 use Rattle.entity_changes.specs.Touching.{DifferOnlyAt, IsJoined}
 use Rattle.delta_plan.specs.RowsOf.{Giving, link_rows, unit_rows}
@@ -15,7 +13,8 @@ use Rattle.delta_plan.specs.Units.{Unit, is_touched, of_entity, of_link, units_o
 use Rattle.delta_plan.proofs.resting.Members.{key_untouched, link_untouched, stands, unit_of_entity, unit_of_link}
 
 -- the other way round too
-pub differ_back : (model : EntityModel) (cells : Cells) (touched : Touched) (old new : State) → DifferOnlyAt model cells touched old new → DifferOnlyAt model cells touched new old
+pub differ_back : (model : EntityModel) (cells : Cells) (touched : Touched) (old new : State) → DifferOnlyAt model cells touched old new
+    → DifferOnlyAt model cells touched new old
 differ_back model cells touched old new differ = record {
   entities = λ s entity apart. (let both = differ.entities s entity apart in (both.1, both.0));
   hosted = λ s entity apart has. sym (differ.hosted s entity apart ((differ.entities s entity apart).1 has));
@@ -33,13 +32,15 @@ joined_row cells a joined link one has = by (slice_get cells.places a.index) ref
     at_place place.Unmapped is there = absurd (contains_nil one there)
     at_place place.Constraint is there = absurd (contains_nil one there)
 
-    by : (found : Option LinkPlace) → slice_get cells.places a.index ≡ found → Contains (link_rows (unwrap_or found place.Unmapped) joined link) one → IsJoined cells a
+    by : (found : Option LinkPlace) → slice_get cells.places a.index ≡ found → Contains (link_rows (unwrap_or found place.Unmapped) joined link) one
+        → IsJoined cells a
     by None is there = absurd (contains_nil one there)
     by (Some spot) is there = at_place spot is there
 
 module _ (gives : Giving) (model : EntityModel) (cells : Cells) (touched : Touched) (old new : State) (differ : DifferOnlyAt model cells touched old new) where
   -- a unit that has a row and isn't touched stands in the other state, and has this row there
-  pub stays : (unit : Unit) → is_touched model touched unit ≡ false → Contains (units_of old) unit → (one : TableRow) → Contains (unit_rows gives model cells old unit) one
+  pub stays : (unit : Unit) → is_touched model touched unit ≡ false → Contains (units_of old) unit → (one : TableRow)
+      → Contains (unit_rows gives model cells old unit) one
       → Contains (units_of new) unit × Contains (unit_rows gives model cells new unit) one
   stays (of_entity s entity) apart has one gave =
       let away = key_untouched touched s (key_of model entity) apart in
