@@ -8,3 +8,4 @@ pub mod Gathered
 pub mod Asked
 pub mod Keyed
 pub mod resting
+pub mod Planned

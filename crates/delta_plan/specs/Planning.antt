@@ -32,8 +32,6 @@ pub record MayBePlanned (gives : Giving) (model : EntityModel) (store : StoreMod
   pub old_legal : IsLegal model before
   pub new_legal : IsLegal model after
   pub differ : DifferOnlyAt model cells touched before after
-  pub keys_once : AreApart touched.entities
-  pub links_once : AreApart touched.links
   -- no two rows that the views give for a state have one key
   pub are_old : AreTablesOf store (rows_of gives model cells before) old_rows
   pub old_apart : HaveRowsApart store old_rows
