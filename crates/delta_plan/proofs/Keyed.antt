@@ -16,7 +16,7 @@ use Rattle.row_plans.proofs.altering.InTable.{not_below}
 use Rattle.cells.specs.declared.cells.Cells.{Cells}
 use Rattle.delta_plan.specs.Keeping.{HaveRisingKeys, HoldsHeld, HoldsKept}
 
-rising_apart : (key : List ColId) (rows : List Row) → HaveRisingKeys key rows → AreToldApartBy key rows
+pub rising_apart : (key : List ColId) (rows : List Row) → HaveRisingKeys key rows → AreToldApartBy key rows
 rising_apart key rows rising = λ i j d below within. not_below (cells_of (get_or rows i d) key) (cells_of (get_or rows j d) key) (rising i j d below within)
 
 rows_apart : (store : StoreModel) (tables : Tables) → length tables ≡ length store.tables

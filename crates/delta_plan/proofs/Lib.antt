@@ -2,10 +2,12 @@ pub mod Marking
 pub mod Stepped
 pub mod Groups
 pub mod KeptCells
-pub mod Kept
+pub mod KeptRows
 pub mod Tabled
 pub mod Gathered
 pub mod Asked
 pub mod Keyed
 pub mod resting
 pub mod Planned
+pub mod Paired
+pub mod Chosen

@@ -22,8 +22,8 @@ rows_at lists t rows here = ap (λ found. unwrap_or found []) here
 module _ (P : TableId → List Row → Type 0) where
   -- so many tables are made
   pub record IsMade (count : ℕ) (lists : List (List Row)) : Type 0 where
-    size : length lists ≡ count
-    each : (t : TableId) → t.index < count → P t (rows_in lists t)
+    pub size : length lists ≡ count
+    pub each : (t : TableId) → t.index < count → P t (rows_in lists t)
 
   pub none_made : IsMade 0 []
   none_made = record { size = refl; each = λ t never. absurd (omega (arith, never)) }

@@ -7,7 +7,7 @@ use Rattle.std.specs.List.{enumerate_from}
 use Rattle.std.specs.declared.cmp.Ordering.TheVariants.{Less}
 use Rattle.emc_base.specs.Lists.{At}
 use Rattle.emc_base.specs.Order.{value_cmp}
-use Rattle.round_trip.specs.Words.{AreTables, ColId, IsKeptRow, Row, StoreModel, Table, TableId, Tables, Value, cells_of, row_key, rows_in}
+use Rattle.round_trip.specs.Words.{AreSameTables, AreTables, ColId, IsKeptRow, KeepsFree, Row, StoreModel, Table, TableId, Tables, Value, cells_of, row_key, rows_in}
 use Rattle.table_files.specs.InOrder.{AreToldApartBy}
 use Rattle.cells.specs.Cells.{is_free_in}
 use Rattle.cells.specs.declared.cells.Cells.{Cells}
@@ -54,6 +54,13 @@ pub record HoldsKept (store : StoreModel) (cells : Cells) (tables fresh kept : T
   pub shape : AreTables store kept
   pub rows : (t : TableId) (table : Table) → At store.tables t.index table
       → AreKeptRows (Free cells t) table (rows_in tables t) (rows_in fresh t) (rows_in kept t)
+
+-- the fresh tables, in whose free cells stands what the tables hold, up to the order of rows; these stand in the order of their keys
+pub record AreKeptInOrder (store : StoreModel) (cells : Cells) (tables fresh kept : Tables) : Type 0 where
+  pub paired : Tables
+  pub keeps : KeepsFree store (Free cells) tables fresh paired
+  pub same : AreSameTables paired kept
+  pub rising : (t : TableId) (table : Table) → At store.tables t.index table → HaveRisingKeys table.key (rows_in kept t)
 
 -- the row of a key, where one is wanted
 abbrev pub held_by : Option (Bor Row) → Option (Bor Row) → List Row

@@ -4,8 +4,12 @@
 mod asking;
 mod gathering;
 mod keeping;
+mod kept_tables;
 mod marked;
 mod marks;
 mod planning;
+mod touching;
 
+pub use kept_tables::kept;
 pub use planning::{PlanFault, plan};
+pub use touching::touched;
