@@ -4,6 +4,7 @@
 mod change;
 mod copies;
 mod laws;
+mod lent_key;
 mod making;
 mod spots;
 mod touched;

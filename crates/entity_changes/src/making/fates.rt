@@ -22,7 +22,7 @@ pub(crate) enum Fate<'t, T> {
 /// them afterwards, the last first.
 #[derive(Drop)]
 pub(crate) struct Fates<'t, T> {
-    pub(crate) by_spot: BTreeMap<Spot, Fate<'t, T>>,
+    pub(crate) by_spot: BTreeMap<Spot<'t>, Fate<'t, T>>,
     pub(crate) behind: Vec<Vec<&'t T>>,
 }
 
@@ -42,16 +42,16 @@ impl<'t, T> Fates<'t, T> {
     }
 
     /// One change before: the items of a spot go. `Memory` comes where memory ran out.
-    pub(super) fn remove(&mut self, spot: Spot) -> Result<(), Memory>
-        ensures { IfOk result (λ _. RemovesItems spot self.old self.new) }
+    pub(super) fn remove(&mut self, spot: Spot<'t>) -> Result<(), Memory>
+        ensures { IfOk result (λ _. RemovesItems spot.entry self.old self.new) }
     {
         self.by_spot.insert(spot, Fate::Gone)?;
         Ok(())
     }
 
     /// One change before: an item takes the place of each of its spot. `Memory` comes where memory ran out.
-    pub(super) fn replace(&mut self, spot: Spot, item: &'t T) -> Result<(), Memory>
-        ensures { IfOk result (λ _. ReplacesItems spot item.now self.old self.new) }
+    pub(super) fn replace(&mut self, spot: Spot<'t>, item: &'t T) -> Result<(), Memory>
+        ensures { IfOk result (λ _. ReplacesItems spot.entry item.now self.old self.new) }
     {
         if !self.by_spot.contains_key(&spot) {
             self.by_spot.insert(spot, Fate::Replaced(item))?;
@@ -60,7 +60,7 @@ impl<'t, T> Fates<'t, T> {
     }
 
     /// What becomes of an item of a spot; `None` where it goes.
-    pub(super) fn survivor(&self, spot: &Spot, item: &'t T) -> Option<&'t T>
+    pub(super) fn survivor(&self, spot: &Spot<'t>, item: &'t T) -> Option<&'t T>
         ensures { option_copied result ≡ survivor (get spot_cmp self.now.by_spot spot.now) item.now }
     {
         match self.by_spot.get(spot) {
@@ -71,7 +71,7 @@ impl<'t, T> Fates<'t, T> {
     }
 
     /// One change before: an item comes behind those of a list. `Memory` comes where memory ran out.
-    pub(super) fn add(&mut self, place: usize, spot: &Spot, item: &'t T) -> Result<(), Memory>
+    pub(super) fn add(&mut self, place: usize, spot: &Spot<'t>, item: &'t T) -> Result<(), Memory>
         requires { place < length self.old.behind.items }
         ensures { IfOk result (λ _. AddsItem place spot.now item.now self.old self.new) }
     {

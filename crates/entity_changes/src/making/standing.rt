@@ -17,18 +17,18 @@ use std::collections::{BTreeMap, BTreeSet};
 
 /// What stands in a state, as far as changes are refused by it.
 #[derive(Drop)]
-pub(crate) struct Standing {
-    pub(crate) entities: BTreeMap<Spot, Types>,
-    pub(crate) links: BTreeSet<Spot>,
+pub(crate) struct Standing<'t> {
+    pub(crate) entities: BTreeMap<Spot<'t>, Types>,
+    pub(crate) links: BTreeSet<Spot<'t>>,
 }
 
-impl Standing {
+impl<'t> Standing<'t> {
     /// What stands in this state. `Memory` comes where memory ran out.
     pub(super) fn of(
         alloc: Global,
         model: &EntityModel,
-        state: &EntityState,
-    ) -> Result<Standing, Memory>
+        state: &'t EntityState,
+    ) -> Result<Standing<'t>, Memory>
         ensures { IfOk result (TellsStanding model.now state.now) }
     {
         let entities = types_in(alloc, model, state.entity_lists())?;
@@ -41,7 +41,7 @@ impl Standing {
         &mut self,
         alloc: Global,
         model: &EntityModel,
-        change: &Change,
+        change: &'t Change,
     ) -> Result<Option<Reason>, Memory>
         ensures { IfOk result (Takes model.now change.now self.old self.new) }
     {
@@ -72,8 +72,8 @@ impl Standing {
 }
 
 // A link comes, unless it is there.
-fn add_link(links: &mut BTreeSet<Spot>, spot: Spot) -> Result<Option<Reason>, Memory>
-    ensures { IfOk result (AddsLink spot links.old links.new) }
+fn add_link<'t>(links: &mut BTreeSet<Spot<'t>>, spot: Spot<'t>) -> Result<Option<Reason>, Memory>
+    ensures { IfOk result (AddsLink spot.entry links.old links.new) }
 {
     if links.insert(spot)? {
         Ok(None)
@@ -83,7 +83,7 @@ fn add_link(links: &mut BTreeSet<Spot>, spot: Spot) -> Result<Option<Reason>, Me
 }
 
 // A link goes, unless it isn't there.
-fn take_link(links: &mut BTreeSet<Spot>, spot: &Spot) -> Option<Reason>
+fn take_link<'t>(links: &mut BTreeSet<Spot<'t>>, spot: &Spot<'t>) -> Option<Reason>
     ensures { TakesLink spot.now links.old links.new result }
 {
     if links.remove(spot) {
@@ -94,11 +94,11 @@ fn take_link(links: &mut BTreeSet<Spot>, spot: &Spot) -> Option<Reason>
 }
 
 // The types of the entities of each key.
-fn types_in(
+fn types_in<'t>(
     alloc: Global,
     model: &EntityModel,
-    lists: &[Seq<Entity>],
-) -> Result<BTreeMap<Spot, Types>, Memory>
+    lists: &'t [Seq<Entity>],
+) -> Result<BTreeMap<Spot<'t>, Types>, Memory>
     ensures { IfOk result (TellsTypes model.now lists.now) }
 {
     let mut types = BTreeMap::new(alloc);
@@ -112,12 +112,12 @@ fn types_in(
 }
 
 // Adds those of the entities of a set.
-fn add_types(
+fn add_types<'t>(
     alloc: Global,
     model: &EntityModel,
-    types: &mut BTreeMap<Spot, Types>,
+    types: &mut BTreeMap<Spot<'t>, Types>,
     set: SetId,
-    entities: &[Entity],
+    entities: &'t [Entity],
 ) -> Result<(), Memory>
     ensures { IfOk result (λ _. AddsTypes model.now set entities.now types.old types.new) }
 {
@@ -129,7 +129,7 @@ fn add_types(
 }
 
 // The links that there are.
-fn links_in(alloc: Global, lists: &[Seq<Link>]) -> Result<BTreeSet<Spot>, Memory>
+fn links_in<'t>(alloc: Global, lists: &'t [Seq<Link>]) -> Result<BTreeSet<Spot<'t>>, Memory>
     ensures { IfOk result (TellsLinks lists.now) }
 {
     let mut links = BTreeSet::new(alloc);
@@ -143,11 +143,11 @@ fn links_in(alloc: Global, lists: &[Seq<Link>]) -> Result<BTreeSet<Spot>, Memory
 }
 
 // Adds those of an association set.
-fn add_links(
+fn add_links<'t>(
     alloc: Global,
-    links: &mut BTreeSet<Spot>,
+    links: &mut BTreeSet<Spot<'t>>,
     assoc: AssocId,
-    list: &[Link],
+    list: &'t [Link],
 ) -> Result<(), Memory>
     ensures { IfOk result (λ _. AddsLinks assoc list.now links.old links.new) }
 {
