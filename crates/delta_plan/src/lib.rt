@@ -7,5 +7,7 @@ mod keeping;
 mod marked;
 mod marks;
 mod planning;
+mod running;
 
 pub use planning::{PlanFault, plan};
+pub use running::run_changes;

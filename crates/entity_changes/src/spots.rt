@@ -8,8 +8,8 @@ use entity_state::key_of;
 use std::alloc::Global;
 
 /// Where an entity or a link is looked up: an entity by the number of its set and its key, beside which stands an empty one; a link by the number of
-/// its association set and the keys at its ends.
-pub(crate) type Spot = (u32, Key, Key);
+/// its association set and the keys at its ends. A row stands at the number of its table and its key, as an entity does.
+pub type Spot = (u32, Key, Key);
 
 /// The spot of a key in a set. `Memory` comes where memory ran out.
 pub(crate) fn key_spot(alloc: Global, set: SetId, key: &Key) -> Result<Spot, Memory>
