@@ -6,3 +6,4 @@ pub mod Marked
 pub mod Asking
 pub mod Keeping
 pub mod Planning
+pub mod Running

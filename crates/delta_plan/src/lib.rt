@@ -8,8 +8,10 @@ mod kept_tables;
 mod marked;
 mod marks;
 mod planning;
+mod running;
 mod touching;
 
 pub use kept_tables::kept;
 pub use planning::{PlanFault, plan};
+pub use running::run_changes;
 pub use touching::touched;

@@ -1,5 +1,7 @@
 pub mod Afterwards
-mod Kept
-mod Pushes
+pub mod Become
+pub mod Fresh
+pub mod Kept
+pub mod Pushes
 pub mod Replaced
 pub mod SpotOrder

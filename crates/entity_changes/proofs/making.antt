@@ -1,4 +1,3 @@
-mod Become
 mod Known
 mod Made
 mod Put

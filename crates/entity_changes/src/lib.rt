@@ -4,12 +4,12 @@
 mod change;
 mod copies;
 mod laws;
-mod lent_key;
 mod making;
 mod spots;
 mod touched;
 
 pub use change::{Change, Reason};
 pub use laws::only_touched_units_change;
-pub use making::{ApplyFault, apply};
+pub use making::{ApplyFault, Fate, Fates, apply};
+pub use spots::Spot;
 pub use touched::Touched;

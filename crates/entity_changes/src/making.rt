@@ -9,3 +9,4 @@ mod standing;
 mod types;
 
 pub use applied::{ApplyFault, apply};
+pub use fates::{Fate, Fates};

@@ -55,15 +55,7 @@ split_push (y ∷ xs) x (b ∷ before) one later is =
     (λ (inside : (rest : List _) × (xs ≡ before ++ one ∷ rest)). inr (inside.0, λ i. first i ∷ inside.1 i))
     (split_push xs x before one later rest)
 
-nothing_before : {X : Type 0} (before later : List X) (one : X) → [] ≡ (before ++ one ∷ later) → ⊥
-nothing_before [] later one is = cc
-nothing_before (first ∷ before) later one is = cc
-
 module _ (model : EntityModel) (state : State) where
-  -- no change is accepted
-  pub accepted_none : AreAccepted model state []
-  accepted_none before later one why is refused = nothing_before before later one is
-
   -- one change more is accepted
   accepted_more : (before : List Change) (one : Change) → AreAccepted model state before → ((why : Reason) → ¬ IsRefused model (after model state before) one why)
       → AreAccepted model state (before ++ one ∷ [])

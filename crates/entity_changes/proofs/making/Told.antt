@@ -1,7 +1,7 @@
 -- What one change more does, before those whose doings are told.
-use Rattle.std.proofs.Common.{◌≡◌, ◌≢◌, ◌<◌, ⊎_elim, ℕ, List, [], ◌∷◌, ◌++◌, map, filter, length, not, if◌then◌else◌, refl, sym, ap, subst, ◌∙◌}
+use Rattle.std.proofs.Common.{◌≡◌, ◌≢◌, ◌<◌, ⊎_elim, List, [], ◌∷◌, ◌++◌, map, filter, length, not, if◌then◌else◌, refl, sym, ap, subst, ◌∙◌}
 use Rattle.std.proofs.lemmas.Bool.{cases_eq}
-use Rattle.std.proofs.lemmas.List.{length-map, length-set}
+use Rattle.std.proofs.lemmas.List.{length-map}
 use Rattle.round_trip.specs.Words.{SetId, AssocId, Value, EntityModel, Entity, Link, State, entities_in, links_in, key_of}
 use Rattle.schema_laws.specs.state_demand.Selecting.{same_key}
 use Rattle.entity_changes.specs.declared.change.Change.{Change}
@@ -9,10 +9,10 @@ use Rattle.entity_changes.specs.declared.change.Change.TheVariants as change
 use Rattle.entity_changes.specs.declared.making.fates.Fates.{Fates}
 use Rattle.entity_changes.specs.Changes.{after, after_one, same_link, with_entities, with_links}
 use Rattle.entity_changes.specs.Spots.{Spot, key_spot, link_spot}
-use Rattle.entity_changes.specs.making.Fates.{AddsItem, Foretells, ForetellsOneMore, RemovesItems, ReplacesItems, becomes, behind_lists}
+use Rattle.entity_changes.specs.making.Fates.{AddsItem, Foretells, ForetellsOneMore, RemovesItems, ReplacesItems, becomes}
 use Rattle.entity_changes.proofs.Afterwards.{entities_elsewhere, entities_here, length-entities, length-links, links_elsewhere, links_here, same_assoc, same_set}
 use Rattle.entity_changes.proofs.SpotOrder.{apart_spots, key_spot_same, link_spot_same}
-use Rattle.entity_changes.proofs.making.Become.{added, added_elsewhere, removed, removed_elsewhere, replaced, replaced_elsewhere}
+use Rattle.entity_changes.proofs.Become.{added, added_elsewhere, removed, removed_elsewhere, replaced, replaced_elsewhere, same_size}
 
 module _ (model : EntityModel) where
   abbrev spot_in : SetId → Entity → Spot
@@ -79,12 +79,6 @@ module _ (model : EntityModel) where
             (λ (apart : b.index ≢ a.index).
             ap (becomes old (link_spot b) b.index) (links_elsewhere state a (links state) b apart) ∙ sym (others b apart (links_in state b)))
             (cases_eq b.index a.index)
-
-  same_size : {X : Type 0} (place : ℕ) (item : X) (spot : Spot) (old new : Fates X) → AddsItem place spot item old new
-      → length new.behind.items ≡ length old.behind.items
-  same_size place item spot old new one =
-      sym (length-map new.behind.items (λ list. map (λ x. x.now) list.items)) ∙ ap length one.lists ∙ length-set (behind_lists old) place _
-      ∙ length-map old.behind.items (λ list. map (λ x. x.now) list.items)
 
   module _ (s : SetId) (old new : Fates Entity) (links : Fates Link) (within : s.index < length old.behind.items) where
     pub inserts : (entity : Entity) → AddsItem s.index (key_spot s (key_of model entity)) entity old new

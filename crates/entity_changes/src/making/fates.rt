@@ -11,7 +11,7 @@ use std::collections::BTreeMap;
 
 /// What later changes do to the items of a spot.
 #[derive(Clone, Copy)]
-pub(crate) enum Fate<'t, T> {
+pub enum Fate<'t, T> {
     /// Each is replaced by this one.
     Replaced(&'t T),
     /// Each goes.
@@ -21,14 +21,16 @@ pub(crate) enum Fate<'t, T> {
 /// What some last changes do to the items that stand before them: the fate of those at a spot, if they have one; and, for each list, what stands behind
 /// them afterwards, the last first.
 #[derive(Drop)]
-pub(crate) struct Fates<'t, T> {
-    pub(crate) by_spot: BTreeMap<Spot<'t>, Fate<'t, T>>,
-    pub(crate) behind: Vec<Vec<&'t T>>,
+pub struct Fates<'t, T> {
+    /// The fate of the items at a spot; where there is none, they stay.
+    pub by_spot: BTreeMap<Spot, Fate<'t, T>>,
+    /// What stands behind the items of each list, the last first.
+    pub behind: Vec<Vec<&'t T>>,
 }
 
 impl<'t, T> Fates<'t, T> {
     /// What no change does, to so many lists. `Memory` comes where memory ran out.
-    pub(super) fn none(alloc: Global, count: usize) -> Result<Fates<'t, T>, Memory>
+    pub fn none(alloc: Global, count: usize) -> Result<Fates<'t, T>, Memory>
         ensures { IfOk result (IsFresh count) }
     {
         let mut behind = Vec::new(alloc);
@@ -42,16 +44,16 @@ impl<'t, T> Fates<'t, T> {
     }
 
     /// One change before: the items of a spot go. `Memory` comes where memory ran out.
-    pub(super) fn remove(&mut self, spot: Spot<'t>) -> Result<(), Memory>
-        ensures { IfOk result (λ _. RemovesItems spot.entry self.old self.new) }
+    pub fn remove(&mut self, spot: Spot) -> Result<(), Memory>
+        ensures { IfOk result (λ _. RemovesItems spot self.old self.new) }
     {
         self.by_spot.insert(spot, Fate::Gone)?;
         Ok(())
     }
 
     /// One change before: an item takes the place of each of its spot. `Memory` comes where memory ran out.
-    pub(super) fn replace(&mut self, spot: Spot<'t>, item: &'t T) -> Result<(), Memory>
-        ensures { IfOk result (λ _. ReplacesItems spot.entry item.now self.old self.new) }
+    pub fn replace(&mut self, spot: Spot, item: &'t T) -> Result<(), Memory>
+        ensures { IfOk result (λ _. ReplacesItems spot item.now self.old self.new) }
     {
         if !self.by_spot.contains_key(&spot) {
             self.by_spot.insert(spot, Fate::Replaced(item))?;
@@ -60,7 +62,7 @@ impl<'t, T> Fates<'t, T> {
     }
 
     /// What becomes of an item of a spot; `None` where it goes.
-    pub(super) fn survivor(&self, spot: &Spot<'t>, item: &'t T) -> Option<&'t T>
+    pub fn survivor(&self, spot: &Spot, item: &'t T) -> Option<&'t T>
         ensures { option_copied result ≡ survivor (get spot_cmp self.now.by_spot spot.now) item.now }
     {
         match self.by_spot.get(spot) {
@@ -71,7 +73,7 @@ impl<'t, T> Fates<'t, T> {
     }
 
     /// One change before: an item comes behind those of a list. `Memory` comes where memory ran out.
-    pub(super) fn add(&mut self, place: usize, spot: &Spot<'t>, item: &'t T) -> Result<(), Memory>
+    pub fn add(&mut self, place: usize, spot: &Spot, item: &'t T) -> Result<(), Memory>
         requires { place < length self.old.behind.items }
         ensures { IfOk result (λ _. AddsItem place spot.now item.now self.old self.new) }
     {
@@ -82,7 +84,7 @@ impl<'t, T> Fates<'t, T> {
     }
 
     /// What stands behind the items of a list afterwards, the last first.
-    pub(super) fn behind(&self, place: usize) -> &[&'t T]
+    pub fn behind(&self, place: usize) -> &[&'t T]
         requires { place < length self.now.behind.items }
         ensures { map (λ item. item.now) result.now ≡ behind_at self.now place }
     {

@@ -17,18 +17,18 @@ use std::collections::{BTreeMap, BTreeSet};
 
 /// What stands in a state, as far as changes are refused by it.
 #[derive(Drop)]
-pub(crate) struct Standing<'t> {
-    pub(crate) entities: BTreeMap<Spot<'t>, Types>,
-    pub(crate) links: BTreeSet<Spot<'t>>,
+pub(crate) struct Standing {
+    pub(crate) entities: BTreeMap<Spot, Types>,
+    pub(crate) links: BTreeSet<Spot>,
 }
 
-impl<'t> Standing<'t> {
+impl Standing {
     /// What stands in this state. `Memory` comes where memory ran out.
     pub(super) fn of(
         alloc: Global,
         model: &EntityModel,
-        state: &'t EntityState,
-    ) -> Result<Standing<'t>, Memory>
+        state: &EntityState,
+    ) -> Result<Standing, Memory>
         ensures { IfOk result (TellsStanding model.now state.now) }
     {
         let entities = types_in(alloc, model, state.entity_lists())?;
@@ -41,7 +41,7 @@ impl<'t> Standing<'t> {
         &mut self,
         alloc: Global,
         model: &EntityModel,
-        change: &'t Change,
+        change: &Change,
     ) -> Result<Option<Reason>, Memory>
         ensures { IfOk result (Takes model.now change.now self.old self.new) }
     {
@@ -72,8 +72,8 @@ impl<'t> Standing<'t> {
 }
 
 // A link comes, unless it is there.
-fn add_link<'t>(links: &mut BTreeSet<Spot<'t>>, spot: Spot<'t>) -> Result<Option<Reason>, Memory>
-    ensures { IfOk result (AddsLink spot.entry links.old links.new) }
+fn add_link(links: &mut BTreeSet<Spot>, spot: Spot) -> Result<Option<Reason>, Memory>
+    ensures { IfOk result (AddsLink spot links.old links.new) }
 {
     if links.insert(spot)? {
         Ok(None)
@@ -83,7 +83,7 @@ fn add_link<'t>(links: &mut BTreeSet<Spot<'t>>, spot: Spot<'t>) -> Result<Option
 }
 
 // A link goes, unless it isn't there.
-fn take_link<'t>(links: &mut BTreeSet<Spot<'t>>, spot: &Spot<'t>) -> Option<Reason>
+fn take_link(links: &mut BTreeSet<Spot>, spot: &Spot) -> Option<Reason>
     ensures { TakesLink spot.now links.old links.new result }
 {
     if links.remove(spot) {
@@ -94,11 +94,11 @@ fn take_link<'t>(links: &mut BTreeSet<Spot<'t>>, spot: &Spot<'t>) -> Option<Reas
 }
 
 // The types of the entities of each key.
-fn types_in<'t>(
+fn types_in(
     alloc: Global,
     model: &EntityModel,
-    lists: &'t [Seq<Entity>],
-) -> Result<BTreeMap<Spot<'t>, Types>, Memory>
+    lists: &[Seq<Entity>],
+) -> Result<BTreeMap<Spot, Types>, Memory>
     ensures { IfOk result (TellsTypes model.now lists.now) }
 {
     let mut types = BTreeMap::new(alloc);
@@ -112,12 +112,12 @@ fn types_in<'t>(
 }
 
 // Adds those of the entities of a set.
-fn add_types<'t>(
+fn add_types(
     alloc: Global,
     model: &EntityModel,
-    types: &mut BTreeMap<Spot<'t>, Types>,
+    types: &mut BTreeMap<Spot, Types>,
     set: SetId,
-    entities: &'t [Entity],
+    entities: &[Entity],
 ) -> Result<(), Memory>
     ensures { IfOk result (λ _. AddsTypes model.now set entities.now types.old types.new) }
 {
@@ -129,7 +129,7 @@ fn add_types<'t>(
 }
 
 // The links that there are.
-fn links_in<'t>(alloc: Global, lists: &'t [Seq<Link>]) -> Result<BTreeSet<Spot<'t>>, Memory>
+fn links_in(alloc: Global, lists: &[Seq<Link>]) -> Result<BTreeSet<Spot>, Memory>
     ensures { IfOk result (TellsLinks lists.now) }
 {
     let mut links = BTreeSet::new(alloc);
@@ -143,11 +143,11 @@ fn links_in<'t>(alloc: Global, lists: &'t [Seq<Link>]) -> Result<BTreeSet<Spot<'
 }
 
 // Adds those of an association set.
-fn add_links<'t>(
+fn add_links(
     alloc: Global,
-    links: &mut BTreeSet<Spot<'t>>,
+    links: &mut BTreeSet<Spot>,
     assoc: AssocId,
-    list: &'t [Link],
+    list: &[Link],
 ) -> Result<(), Memory>
     ensures { IfOk result (λ _. AddsLinks assoc list.now links.old links.new) }
 {

@@ -16,12 +16,12 @@ pub(crate) enum Types {
 }
 
 /// Adds the type of one more entity at a spot. `Memory` comes where memory ran out.
-pub(super) fn add_type<'t>(
-    types: &mut BTreeMap<Spot<'t>, Types>,
-    spot: Spot<'t>,
+pub(super) fn add_type(
+    types: &mut BTreeMap<Spot, Types>,
+    spot: Spot,
     ty: TypeId,
 ) -> Result<(), Memory>
-    ensures { IfOk result (λ _. AddsType spot.entry ty types.old types.new) }
+    ensures { IfOk result (λ _. AddsType spot ty types.old types.new) }
 {
     let held = joined(types.get(&spot).copied(), ty);
     types.insert(spot, held)?;
@@ -40,12 +40,12 @@ fn joined(held: Option<Types>, ty: TypeId) -> Types
 }
 
 /// An entity of this type comes, unless one is at the spot. `Memory` comes where memory ran out.
-pub(super) fn insert_type<'t>(
-    types: &mut BTreeMap<Spot<'t>, Types>,
-    spot: Spot<'t>,
+pub(super) fn insert_type(
+    types: &mut BTreeMap<Spot, Types>,
+    spot: Spot,
     ty: TypeId,
 ) -> Result<Option<Reason>, Memory>
-    ensures { IfOk result (InsertsTypes spot.entry ty types.old types.new) }
+    ensures { IfOk result (InsertsTypes spot ty types.old types.new) }
 {
     if types.contains_key(&spot) {
         return Ok(Some(Reason::Exists));
@@ -66,10 +66,7 @@ pub(super) fn update_reason(held: Option<Types>, ty: TypeId) -> Option<Reason>
 }
 
 /// The entities at a spot go, unless none is there.
-pub(super) fn delete_types<'t>(
-    types: &mut BTreeMap<Spot<'t>, Types>,
-    spot: &Spot<'t>,
-) -> Option<Reason>
+pub(super) fn delete_types(types: &mut BTreeMap<Spot, Types>, spot: &Spot) -> Option<Reason>
     ensures { DeletesTypes spot.now types.old types.new result }
 {
     if types.remove(spot).is_some() {

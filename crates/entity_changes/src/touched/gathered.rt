@@ -7,10 +7,11 @@ ghost use Rattle.entity_changes.specs.touched.Seen.{AddsOnce, AreGathered, Gathe
 
 use crate::change::Change;
 use crate::copies::copied_link;
-use crate::touched::seen::{OwnSpot, Seen};
+use crate::spots::{key_spot, link_spot};
+use crate::touched::seen::Seen;
 use cells::Cells;
 use edm_types::{Assoc, EntityModel, Link};
-use emc_base::{AssocId, Key, Memory, Seq, SetId};
+use emc_base::{AssocId, Key, Memory, SetId};
 use entity_state::key_of;
 use std::alloc::Global;
 use table_owners::LinkPlace;
@@ -130,21 +131,4 @@ fn host_key(first_hosts: bool, link: &Link) -> &Key
     } else {
         &link.second
     }
-}
-
-// The spot of a key in a set.
-fn key_spot(alloc: Global, set: SetId, key: &Key) -> Result<OwnSpot, Memory>
-    ensures { IfOk result (λ spot. spot ≡ key_spot set key.now) }
-{
-    let key = key.copy(alloc)?;
-    Ok((set.index, key, Seq::empty(alloc)))
-}
-
-// The spot of a link.
-fn link_spot(alloc: Global, assoc: AssocId, link: &Link) -> Result<OwnSpot, Memory>
-    ensures { IfOk result (λ spot. spot ≡ link_spot assoc link.now) }
-{
-    let first = link.first.copy(alloc)?;
-    let second = link.second.copy(alloc)?;
-    Ok((assoc.index, first, second))
 }

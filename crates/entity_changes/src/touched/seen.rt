@@ -2,17 +2,15 @@ ghost use Rattle.std.specs.Prelude.{◌≡◌, [], IfOk};
 ghost use Rattle.std.specs.BTreeSet.{IsEmpty};
 ghost use Rattle.entity_changes.specs.touched.Seen.{AddsOnce};
 
-use emc_base::{Key, Memory, Seq};
+use crate::spots::Spot;
+use emc_base::{Memory, Seq};
 use std::alloc::Global;
 use std::collections::BTreeSet;
-
-/// A spot as a [`Spot`](crate::spots::Spot) is, with keys of its own.
-pub(super) type OwnSpot = (u32, Key, Key);
 
 /// Items, each once, with their spots.
 #[derive(Drop)]
 pub(crate) struct Seen<T> {
-    pub(crate) spots: BTreeSet<OwnSpot>,
+    pub(crate) spots: BTreeSet<Spot>,
     pub(crate) items: Seq<T>,
 }
 
@@ -29,7 +27,7 @@ impl<T: Drop> Seen<T> {
     }
 
     /// Adds an item behind the others, unless one has its spot. `Memory` comes where memory ran out.
-    pub(super) fn add(&mut self, spot: OwnSpot, item: T) -> Result<(), Memory>
+    pub(super) fn add(&mut self, spot: Spot, item: T) -> Result<(), Memory>
         ensures { IfOk result (λ _. AddsOnce spot item self.old self.new) }
     {
         if self.spots.insert(spot)? {

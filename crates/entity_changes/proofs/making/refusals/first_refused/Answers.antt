@@ -4,11 +4,8 @@ use Rattle.emc_base.specs.Lists.{At}
 use Rattle.entity_changes.specs.declared.change.Change.{Change}
 use Rattle.entity_changes.specs.declared.change.Reason.{Reason}
 use Rattle.entity_changes.specs.making.Standing.{Takes}
-use Rattle.entity_changes.proofs.making.Refused.{accepted_none, refused, taken}
+use Rattle.entity_changes.proofs.making.Refused.{refused, taken}
 use Rattle.entity_changes.proofs.making.refusals.first_refused.Goals as goal
-
-pub loop-place-init : goal.loop-place-init
-loop-place-init c = (accepted_none c.args.model.now c.args.state.now, c.in_ok-standing.ensures)
 
 pub returns-in-Some : goal.returns-in-Some
 returns-in-Some c =

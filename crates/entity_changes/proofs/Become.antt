@@ -2,7 +2,7 @@
 use Rattle.std.proofs.Common.{◌≡◌, ◌≢◌, ◌<◌, ℕ, List, [], ◌∷◌, ◌++◌, append-nil, map, filter, length, slice_get, reverse, Option, None, Some, unwrap_or, Bool, true, false, not, cond, if◌then◌else◌, refl, sym, ap, ◌∙◌}
 use Rattle.std.specs.BTreeMap.{get}
 use Rattle.std.specs.List.{filter_map, cons_option}
-use Rattle.std.proofs.lemmas.List.{append_assoc, reverse-append}
+use Rattle.std.proofs.lemmas.List.{append_assoc, length-map, length-set, reverse-append}
 use Rattle.std.proofs.lemmas.List.Elements.{filter_map-append}
 use Rattle.entity_changes.specs.Spots.{Spot, same_spot, spot_cmp}
 use Rattle.entity_changes.specs.declared.making.fates.Fate.{Fate}
@@ -109,3 +109,10 @@ module _ {X : Type 0} (spot : Spot) (old new : Fates X) (spot_of : X → Spot) (
   added_elsewhere other apart xs = λ i. same_survivors xs i
       ++ reverse ((ap (λ lists. unwrap_or (slice_get lists other) []) one.lists
       ∙ put_elsewhere (behind_lists old) place (behind_at old place ++ cons_option (survivor (get spot_cmp old.by_spot spot) item) []) other apart) i)
+
+-- as many lists as before
+pub same_size : {X : Type 0} (place : ℕ) (item : X) (spot : Spot) (old new : Fates X) → AddsItem place spot item old new
+    → length new.behind.items ≡ length old.behind.items
+same_size place item spot old new one =
+    sym (length-map new.behind.items (λ list. map (λ x. x.now) list.items)) ∙ ap length one.lists ∙ length-set (behind_lists old) place _
+    ∙ length-map old.behind.items (λ list. map (λ x. x.now) list.items)
