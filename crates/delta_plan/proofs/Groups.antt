@@ -1,5 +1,5 @@
 -- The rows of two tables that stand in one group, and what is given of all groups.
-use Rattle.std.proofs.Common.{◌≡◌, ◌≢◌, ◌∷◌, ◌∙◌, [], List, All, AllPairs, Contains, Option, Some, None, ⊎_elim, ap, arith, map, refl, subst, sym}
+use Rattle.std.proofs.Common.{◌≡◌, ◌≢◌, ◌∷◌, ◌∙◌, [], List, Contains, Option, Some, None, ⊎_elim, ap, arith, refl, subst, sym}
 use Rattle.std.specs.Borrow.{Bor}
 use Rattle.std.specs.Cmp.Lexicographic.{slice_cmp}
 use Rattle.std.specs.List.{flat_map}

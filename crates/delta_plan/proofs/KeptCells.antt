@@ -1,10 +1,10 @@
 -- The cells of a fresh row in whose free cells stands what a row holds.
-use Rattle.std.proofs.Common.{◌≡◌, ◌≤◌, ◌<◌, ◌∙◌, ℕ, List, Bool, true, false, Option, Some, None, [], ◌∷◌, drop, get_or, map, length, unwrap_or, slice_get, if◌then◌else◌, ⊎_elim, ap, refl, subst, sym, arith}
+use Rattle.std.proofs.Common.{◌≡◌, ◌≤◌, ◌<◌, ◌∙◌, ℕ, List, Bool, true, false, Option, Some, [], ◌∷◌, drop, get_or, length, unwrap_or, slice_get, if◌then◌else◌, ⊎_elim, ap, refl, subst, sym}
 use Rattle.std.specs.List.{enumerate_from}
 use Rattle.std.proofs.lemmas.Bool.{cases_lt}
 use Rattle.std.proofs.lemmas.List.{length-map}
 use Rattle.std.proofs.lemmas.List.FromFn.{length-enumerate_from}
-use Rattle.std.proofs.lemmas.Option.{slice_get_past, slice_get_within}
+use Rattle.std.proofs.lemmas.Option.{slice_get_past}
 use Rattle.emc_base.proofs.Joined.{at_map}
 use Rattle.emc_base.proofs.Lists.{item_at}
 use Rattle.emc_base.proofs.Numbered.{numbered_at}

@@ -1,5 +1,5 @@
 -- The kept rows of all groups.
-use Rattle.std.proofs.Common.{◌≡◌, ◌≢◌, ◌⊎◌, ◌∷◌, ◌∙◌, [], List, All, AllPairs, Bool, IsTrue, true, false, Contains, Option, Some, None, length, ⊎_elim, inl, inr, ap, arith, refl, subst, sym}
+use Rattle.std.proofs.Common.{◌≡◌, ◌≢◌, ◌⊎◌, ◌∷◌, ◌∙◌, [], List, All, Bool, IsTrue, true, false, Contains, Option, Some, None, length, ⊎_elim, inl, inr, ap, arith, refl, subst, sym}
 use Rattle.std.specs.Borrow.{Bor}
 use Rattle.std.specs.Cmp.Lexicographic.{slice_cmp}
 use Rattle.std.specs.List.{flat_map}
@@ -11,7 +11,7 @@ use Rattle.emc_base.proofs.Joined.{in_flat_map}
 use Rattle.emc_base.proofs.Lists.{all_from_members}
 use Rattle.emc_base.proofs.Members.{contains_cons_cases, contains_head, contains_nil, contains_tail}
 use Rattle.emc_base.specs.Order.{value_cmp}
-use Rattle.round_trip.specs.Words.{ColId, IsKeptRow, Row, Table, Value, cell_of, cells_of, row_key}
+use Rattle.round_trip.specs.Words.{ColId, IsKeptRow, Row, Table, Value, cell_of, row_key}
 use Rattle.schema_laws.proofs.state_demand.writings.Selecting.{Decides-key}
 use Rattle.schema_laws.specs.state_demand.Selecting.{same_key}
 use Rattle.row_changes.proofs.leading.Primary.{either}

@@ -1,12 +1,8 @@
 -- Rows whose keys rise are told apart by them.
-use Rattle.std.proofs.Common.{◌≡◌, ◌≢◌, ◌<◌, ◌≤◌, ◌∙◌, ℕ, List, [], get_or, length, ⊎_elim, arith, subst, sym}
+use Rattle.std.proofs.Common.{◌≡◌, ◌<◌, ◌≤◌, List, get_or, length, ⊎_elim, arith, subst, sym}
 use Rattle.std.proofs.lemmas.Bool.{cases_lt}
-use Rattle.std.specs.Cmp.Lexicographic.{slice_cmp}
-use Rattle.std.specs.List.{AllPairs}
-use Rattle.std.specs.declared.cmp.Ordering.TheVariants.{Less}
 use Rattle.edm_types.proofs.Lookups.{rows_beyond}
 use Rattle.emc_base.proofs.Lists.{item_at}
-use Rattle.emc_base.specs.Order.{value_cmp}
 use Rattle.round_trip.proofs.Lookups.{key_columns_at}
 use Rattle.round_trip.specs.Words.{At, ColId, Row, StoreModel, Table, TableId, Tables, cells_of, key_columns, rows_in}
 use Rattle.table_files.specs.InOrder.{AreToldApartBy}

@@ -1,5 +1,5 @@
 -- Kept rows in the order of the fresh ones.
-use Rattle.std.proofs.Common.{◌≡◌, ◌≢◌, ◌<◌, ◌≤◌, ◌∙◌, ℕ, List, [], ◌∷◌, All, AllPairs, Bool, Contains, IsTrue, length, ⊎_elim, ap, arith, subst, sym}
+use Rattle.std.proofs.Common.{◌≡◌, ◌≢◌, ◌∙◌, List, [], ◌∷◌, All, AllPairs, Bool, Contains, IsTrue, length, ⊎_elim, ap, arith, subst, sym}
 use Rattle.std.proofs.lemmas.List.Elements.{All-contains}
 use Rattle.std.proofs.lemmas.List.Kept.{AllPairs-cons}
 use Rattle.std.specs.List.{AllZip}
@@ -8,7 +8,7 @@ use Rattle.emc_base.proofs.Joined.{pairs_head, pairs_tail}
 use Rattle.emc_base.proofs.Lists.{all_from_members}
 use Rattle.emc_base.proofs.Members.{contains_cons_cases, contains_head, contains_nil, contains_tail}
 use Rattle.schema_laws.proofs.state_demand.lists.Permutations.{same_members_permute}
-use Rattle.round_trip.specs.Words.{ColId, IsKeptRow, Row, Table, cells_of, row_key}
+use Rattle.round_trip.specs.Words.{ColId, IsKeptRow, Row, Table, row_key}
 use Rattle.table_files.specs.InOrder.{AreToldApartBy}
 use Rattle.delta_plan.specs.Keeping.{AreKeptRows}
 use Rattle.delta_plan.proofs.Groups.{told_apart}
@@ -36,9 +36,9 @@ module _ (is_free : ColId → Bool) (table : Table) (old fresh kept : List Row) 
         (contains_cons_cases row rows other stands);
     apart = AllPairs-cons (λ (x y : Row). row_key table x ≢ row_key table y) row rows
         (all_from_members (λ (y : Row). row_key table row ≢ row_key table y) rows (λ other stands same.
-          (let from = paired.each other stands in
-          All-contains (λ (y : Row). row_key table one ≢ row_key table y) ones from.0 (pairs_head (λ (x y : Row). row_key table x ≢ row_key table y) one ones apart) from.1
-            (sym (kept_key is_free table old fresh one row keeps) ∙ same ∙ kept_key is_free table old fresh from.0 other from.3))))
+        (let from = paired.each other stands in
+        All-contains (λ (y : Row). row_key table one ≢ row_key table y) ones from.0 (pairs_head (λ (x y : Row). row_key table x ≢ row_key table y) one ones apart) from.1
+        (sym (kept_key is_free table old fresh one row keeps) ∙ same ∙ kept_key is_free table old fresh from.0 other from.3))))
         paired.apart;
   }
 
@@ -60,14 +60,14 @@ module _ (is_free : ColId → Bool) (table : Table) (old fresh kept : List Row) 
         rows.0,
         rows.1.beside,
         same_members_permute rows.0 kept (once rows.0 rows.1.apart) (once kept kept_apart)
-          (λ row has. (rows.1.each row has).2)
-          (λ row has. (
+            (λ row has. (rows.1.each row has).2)
+            (λ row has. (
             let from = All-contains (λ (row : Row). (one : Row) × Contains fresh one × Keeps one row) kept row are.only has in
             let beside = beside_left Keeps fresh rows.0 rows.1.beside from.0 from.1 in
             let other = rows.1.each beside.0 beside.1 in
             let same : beside.0 ≡ row = told_apart table.key kept kept_apart beside.0 row other.2 has
-                (kept_key is_free table old fresh from.0 beside.0 beside.2 ∙ sym (kept_key is_free table old fresh from.0 row from.2)) in
+            (kept_key is_free table old fresh from.0 beside.0 beside.2 ∙ sym (kept_key is_free table old fresh from.0 row from.2)) in
             subst (Contains rows.0) same beside.1)),
         all_from_members (λ (row : Row). length row.cells ≡ length table.cols) rows.0 (λ row has.
-          All-contains (λ (row : Row). length row.cells ≡ length table.cols) kept row are.long (rows.1.each row has).2),
+            All-contains (λ (row : Row). length row.cells ≡ length table.cols) kept row are.long (rows.1.each row has).2),
       )

@@ -1,5 +1,5 @@
 -- What is planned, where it may be: the rows of what is touched, and what a plan of them comes to.
-use Rattle.std.proofs.Common.{◌≡◌, ◌<◌, ◌≤◌, ◌+◌, ◌*◌, ◌∙◌, ℕ, All, Contains, length, arith}
+use Rattle.std.proofs.Common.{◌≡◌, ◌<◌, ◌≤◌, ◌+◌, ◌*◌, ℕ, All, length, arith}
 use Rattle.emc_base.proofs.Lists.{all_from_members}
 use Rattle.round_trip.specs.Words.{EntityModel, State, StoreModel, TableId, Tables, rows_in}
 use Rattle.table_files.specs.declared.tables.TableRow.{TableRow}

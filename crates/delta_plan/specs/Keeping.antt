@@ -7,7 +7,7 @@ use Rattle.std.specs.List.{enumerate_from}
 use Rattle.std.specs.declared.cmp.Ordering.TheVariants.{Less}
 use Rattle.emc_base.specs.Lists.{At}
 use Rattle.emc_base.specs.Order.{value_cmp}
-use Rattle.round_trip.specs.Words.{AreSameTables, AreTables, ColId, IsKeptRow, KeepsFree, Row, StoreModel, Table, TableId, Tables, Value, cells_of, row_key, rows_in}
+use Rattle.round_trip.specs.Words.{AreSameTables, AreTables, ColId, IsKeptRow, KeepsFree, Row, StoreModel, Table, TableId, Tables, Value, cells_of, rows_in}
 use Rattle.table_files.specs.InOrder.{AreToldApartBy}
 use Rattle.cells.specs.Cells.{is_free_in}
 use Rattle.cells.specs.declared.cells.Cells.{Cells}

@@ -1,8 +1,7 @@
 -- When changes of rows are planned for what is touched, and what is told then.
 -- Source: this project's, as in the tables that an update keeps.
-use Rattle.std.specs.Prelude.{◌≡◌, ◌+◌, ◌*◌, ⊤, ℕ, List, Bool, IsTrue, Result, Ok, Err, length}
-use Rattle.emc_base.specs.Lists.{AreApart}
-use Rattle.round_trip.specs.Words.{AreLegalTables, EntityModel, IsLegal, KeepsFree, State, StoreModel, Tables, ColId, TableId}
+use Rattle.std.specs.Prelude.{◌≡◌, ◌+◌, ⊤, ℕ, List, Result, Ok, Err}
+use Rattle.round_trip.specs.Words.{AreLegalTables, EntityModel, IsLegal, KeepsFree, State, StoreModel, Tables}
 use Rattle.round_trip.specs.soundness.Stores.{IsSoundStore}
 use Rattle.cells.specs.declared.cells.Cells.{Cells}
 use Rattle.cells.specs.Cells.{is_free_in}
@@ -16,7 +15,7 @@ use Rattle.row_plans.specs.declared.plan.RowPlan.TheVariants.{Steps, Circular}
 use Rattle.row_plans.specs.Plans.{IsPlan, TellsPlan}
 use Rattle.delta_plan.specs.Keeping.{Free, HoldsHeld, HoldsKept}
 use Rattle.delta_plan.specs.RowsOf.{AreTablesOf, Giving, rows_of}
-use Rattle.delta_plan.specs.Steps.{RoseAtMost, raised}
+use Rattle.delta_plan.specs.Steps.{raised}
 use Rattle.delta_plan.specs.Units.{count_at}
 use Rattle.delta_plan.specs.declared.planning.PlanFault.{PlanFault}
 use Rattle.delta_plan.specs.declared.planning.PlanFault.TheVariants as fault

@@ -1,6 +1,6 @@
 -- The entities and the links of a state one by one, and those that are touched.
 -- Source: this project's.
-use Rattle.std.specs.Prelude.{◌==◌, ℕ, List, ◌++◌, map, filter, length, Bool, false, not, if◌then◌else◌}
+use Rattle.std.specs.Prelude.{◌==◌, ℕ, List, ◌++◌, map, filter, length, Bool, false, if◌then◌else◌}
 use Rattle.std.specs.List.{enumerate_from, flat_map, list_any}
 use Rattle.round_trip.specs.Words.{SetId, AssocId, Value, EntityModel, Entity, Link, State, key_of}
 use Rattle.schema_laws.specs.state_demand.Selecting.{same_key}

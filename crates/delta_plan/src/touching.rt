@@ -10,11 +10,7 @@ use std::alloc::Global;
 
 /// What changes touch, each once: the key of each changed entity, the key of the entity that hosts a changed link, and each changed link of a joined association
 /// set. `Memory` comes where memory ran out.
-pub fn touched(
-    alloc: Global,
-    parts: &Parts<'_>,
-    changes: &Seq<Change>,
-) -> Result<Touched, Memory>
+pub fn touched(alloc: Global, parts: &Parts<'_>, changes: &Seq<Change>) -> Result<Touched, Memory>
     requires parts { AreParts parts.now }
     requires changes { All (IsChange parts.now.model.now) changes.now }
     ensures { IfOk result (TellsTouched parts.now.model.now parts.now.cells.now changes.now) }

@@ -21,9 +21,9 @@ module _ (store : StoreModel) where
   module _ (one : RowChange) (old new : Fates Row) (size : length new.behind.items ≡ length old.behind.items)
       (within : (table_of one).index < length old.behind.items)
       (own : (xs : List Row) → becomes new (row_spot store (table_of one)) (table_of one).index xs
-          ≡ becomes old (row_spot store (table_of one)) (table_of one).index (rows_after store one xs))
+      ≡ becomes old (row_spot store (table_of one)) (table_of one).index (rows_after store one xs))
       (others : (t : TableId) → t.index ≢ (table_of one).index → (xs : List Row)
-          → becomes new (row_spot store t) t.index xs ≡ becomes old (row_spot store t) t.index xs) where
+      → becomes new (row_spot store t) t.index xs ≡ becomes old (row_spot store t) t.index xs) where
     -- a change is told where it tells of its own table, and leaves others
     tells : ForetellsOneMore store one old new
     tells = record { size = size; told = each }

@@ -1,4 +1,4 @@
-use Rattle.std.proofs.Common.{◌≡◌, ◌<◌, ◌++◌, ◌∙◌, ℕ, List, [], All, ap, flat_map, length, map, filter, subst, sym}
+use Rattle.std.proofs.Common.{◌<◌, ◌++◌, ◌∙◌, ℕ, List, All, ap, flat_map, length, subst, sym}
 use Rattle.cells.specs.host_links.Grouped.{links_in}
 use Rattle.delta_plan.specs.Asking.{local_rows, rows_by_place}
 use Rattle.delta_plan.specs.Steps.{RoseAtMost, raised}

@@ -1,6 +1,6 @@
-use Rattle.std.proofs.Common.{◌∙◌, List, [], ap, length}
+use Rattle.std.proofs.Common.{◌∙◌, ap, length}
 use Rattle.std.proofs.lemmas.List.{length-map}
-use Rattle.round_trip.specs.Words.{Row, Table, TableId, Tables, rows_in}
+use Rattle.round_trip.specs.Words.{Table, Tables, rows_in}
 use Rattle.delta_plan.proofs.Gathered.{no_row, none_named}
 use Rattle.delta_plan.proofs.gathering.gathered.Goals as goal
 

@@ -1,4 +1,4 @@
-use Rattle.std.proofs.Common.{◌≡◌, ◌+◌, ◌++◌, ◌∷◌, ◌∙◌, [], ℕ, List, ap, subst, sym}
+use Rattle.std.proofs.Common.{◌+◌, ◌∙◌, List, subst, sym}
 use Rattle.emc_base.proofs.Lists.{at_once}
 use Rattle.round_trip.specs.Words.{At, Row, Table, TableId, rows_in}
 use Rattle.delta_plan.specs.Keeping.{AreHeldRows, AreRowsOf, HoldsHeld}

@@ -1,5 +1,4 @@
-use Rattle.std.proofs.Common.{◌++◌, ◌∷◌, [], ◌∙◌, ap, map, take}
-use Rattle.std.specs.List.{enumerate_from}
+use Rattle.std.proofs.Common.{◌++◌, ◌∷◌, [], ◌∙◌, ap}
 use Rattle.cells.specs.Cells.{is_free_in}
 use Rattle.delta_plan.specs.Keeping.{kept_cell}
 use Rattle.delta_plan.proofs.Marking.{mapped_all, next_mapped, reached}

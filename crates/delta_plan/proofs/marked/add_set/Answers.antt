@@ -1,5 +1,5 @@
-use Rattle.std.proofs.Common.{◌++◌, ◌∙◌, ap, map}
-use Rattle.delta_plan.specs.Marked.{entities_of, is_marked, unit_of}
+use Rattle.std.proofs.Common.{map}
+use Rattle.delta_plan.specs.Marked.{is_marked, unit_of}
 use Rattle.delta_plan.specs.Units.{of_entity}
 use Rattle.delta_plan.proofs.Marking.{next_after, reached}
 use Rattle.delta_plan.proofs.marked.add_set.Goals as goal
