@@ -1,13 +1,7 @@
 pub mod Marking
 pub mod Stepped
-pub mod Groups
-pub mod KeptCells
-pub mod KeptRows
-pub mod Tabled
 pub mod Gathered
 pub mod Asked
-pub mod Keyed
 pub mod resting
 pub mod Planned
-pub mod Paired
-pub mod Chosen
+pub mod grouped

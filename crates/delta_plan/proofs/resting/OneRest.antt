@@ -14,7 +14,7 @@ use Rattle.row_changes.specs.Changes.{key_in}
 use Rattle.row_changes.specs.Joined.{AreJoined, AreWithOneRest}
 use Rattle.row_changes.proofs.leading.Primary.{legal_apart, one_row, row_within}
 use Rattle.delta_plan.specs.Keeping.{Free, HoldsHeld, HoldsKept}
-use Rattle.delta_plan.proofs.KeptRows.{held_or_not, kept_key}
+use Rattle.delta_plan.proofs.grouped.KeptRows.{held_or_not, kept_key}
 use Rattle.delta_plan.proofs.resting.Alike.{beside_left, beside_right, by_column, erased_key}
 use Rattle.delta_plan.proofs.resting.Left.{left_apart, left_of, left_or_not, left_within}
 use Rattle.delta_plan.proofs.resting.Splits.{IsSplit}

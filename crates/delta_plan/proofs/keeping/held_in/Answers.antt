@@ -2,7 +2,7 @@ use Rattle.std.proofs.Common.{List, ◌∙◌, ap, flat_map, subst, sym}
 use Rattle.round_trip.specs.Words.{ColId, Row}
 use Rattle.row_plans.specs.Sides.{AreRowGroups}
 use Rattle.delta_plan.specs.Keeping.{AreHeldRows, held_of}
-use Rattle.delta_plan.proofs.Groups.{are_held}
+use Rattle.delta_plan.proofs.grouped.Groups.{are_held}
 use Rattle.delta_plan.proofs.keeping.held_in.Goals as goal
 
 pub returns : goal.returns

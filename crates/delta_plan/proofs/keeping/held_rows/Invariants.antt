@@ -1,4 +1,4 @@
-use Rattle.delta_plan.proofs.Tabled.{IsHeld, IsMade}
+use Rattle.delta_plan.proofs.grouped.Tabled.{IsHeld, IsMade}
 use Rattle.delta_plan.proofs.keeping.held_rows.Given as goal
 
 -- the tables so far are made

@@ -3,7 +3,7 @@ use Rattle.round_trip.specs.Words.{ColId, Row}
 use Rattle.cells.specs.Cells.{is_free_in}
 use Rattle.row_plans.specs.Sides.{AreRowGroups}
 use Rattle.delta_plan.specs.Keeping.{AreKeptRows, Free, kept_of}
-use Rattle.delta_plan.proofs.KeptRows.{are_kept}
+use Rattle.delta_plan.proofs.grouped.KeptRows.{are_kept}
 use Rattle.delta_plan.proofs.keeping.kept_in.Goals as goal
 
 pub returns : goal.returns

@@ -2,7 +2,7 @@ use Rattle.std.proofs.Common.{◌+◌, ◌∙◌, List, subst, sym}
 use Rattle.emc_base.proofs.Lists.{at_once}
 use Rattle.round_trip.specs.Words.{At, Row, Table, TableId, rows_in}
 use Rattle.delta_plan.specs.Keeping.{AreKeptRows, AreRowsOf, Free, HoldsKept}
-use Rattle.delta_plan.proofs.Tabled.{IsKept, IsMade, all_kept, all_counted, are_rows_of, more_made, none_made}
+use Rattle.delta_plan.proofs.grouped.Tabled.{IsKept, IsMade, all_kept, all_counted, are_rows_of, more_made, none_made}
 use Rattle.delta_plan.proofs.keeping.kept_rows.Goals as goal
 
 pub loop-index-init : goal.loop-index-init

@@ -1,4 +1,4 @@
-use Rattle.delta_plan.proofs.Tabled.{IsKept, IsMade}
+use Rattle.delta_plan.proofs.grouped.Tabled.{IsKept, IsMade}
 use Rattle.delta_plan.proofs.keeping.kept_rows.Given as goal
 
 -- the tables so far are made

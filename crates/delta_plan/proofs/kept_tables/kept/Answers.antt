@@ -1,4 +1,4 @@
-use Rattle.delta_plan.proofs.Chosen.{are_kept_in_order}
+use Rattle.delta_plan.proofs.grouped.Chosen.{are_kept_in_order}
 use Rattle.delta_plan.proofs.kept_tables.kept.Goals as goal
 
 pub returns : goal.returns

@@ -1,4 +1,4 @@
-use Rattle.delta_plan.proofs.Keyed.{held_keyed, kept_keyed}
+use Rattle.delta_plan.proofs.grouped.Keyed.{held_keyed, kept_keyed}
 use Rattle.delta_plan.proofs.planning.plan_of_asked.Goals as goal
 
 pub kept_rows-requires : goal.kept_rows-requires

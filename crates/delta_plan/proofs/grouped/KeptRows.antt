@@ -24,8 +24,8 @@ use Rattle.row_plans.specs.declared.altered.sides.Side.TheVariants.{Before, Afte
 use Rattle.row_plans.specs.declared.altered.sides.SidedRow.{SidedRow}
 use Rattle.row_plans.proofs.altering.InTable.{pairs_of_flat_map}
 use Rattle.delta_plan.specs.Keeping.{AreKeptRows, HaveRisingKeys, kept_by, kept_cells, kept_of}
-use Rattle.delta_plan.proofs.Groups.{group_of, none_afterwards, none_before, row_afterwards, row_before, told_apart}
-use Rattle.delta_plan.proofs.KeptCells.{free_cell, kept_long, own_cell, same_cells}
+use Rattle.delta_plan.proofs.grouped.Groups.{group_of, none_afterwards, none_before, row_afterwards, row_before, told_apart}
+use Rattle.delta_plan.proofs.grouped.KeptCells.{free_cell, kept_long, own_cell, same_cells}
 
 module _ (is_free : ColId → Bool) (table : Table) (old fresh : List Row) where
   abbrev Free : ColId → Type 0

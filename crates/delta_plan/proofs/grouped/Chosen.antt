@@ -13,8 +13,8 @@ use Rattle.cells.specs.Cells.{is_free_in}
 use Rattle.cells.specs.declared.cells.Cells.{Cells}
 use Rattle.row_plans.specs.Plans.{AreKeyed}
 use Rattle.delta_plan.specs.Keeping.{AreKeptInOrder, Free, HoldsKept}
-use Rattle.delta_plan.proofs.Paired.{kept_in_order}
-use Rattle.delta_plan.proofs.Tabled.{IsMade, are_rows_of, more_made, none_made}
+use Rattle.delta_plan.proofs.grouped.Paired.{kept_in_order}
+use Rattle.delta_plan.proofs.grouped.Tabled.{IsMade, are_rows_of, more_made, none_made}
 
 -- tables whose rows are chosen one table after another
 chosen : (P : TableId → List Row → Type 0) (count : ℕ) → ((t : TableId) → t.index < count → (rows : List Row) × P t rows) → (tables : Tables) × IsMade P count tables

@@ -11,9 +11,9 @@ use Rattle.schema_laws.proofs.state_demand.lists.Permutations.{same_members_perm
 use Rattle.round_trip.specs.Words.{ColId, IsKeptRow, Row, Table, row_key}
 use Rattle.table_files.specs.InOrder.{AreToldApartBy}
 use Rattle.delta_plan.specs.Keeping.{AreKeptRows}
-use Rattle.delta_plan.proofs.Groups.{told_apart}
-use Rattle.delta_plan.proofs.KeptRows.{kept_key}
-use Rattle.delta_plan.proofs.Keyed.{rising_apart}
+use Rattle.delta_plan.proofs.grouped.Groups.{told_apart}
+use Rattle.delta_plan.proofs.grouped.KeptRows.{kept_key}
+use Rattle.delta_plan.proofs.grouped.Keyed.{rising_apart}
 use Rattle.delta_plan.proofs.resting.Alike.{beside_left}
 
 module _ (is_free : ColId → Bool) (table : Table) (old fresh kept : List Row) (are : AreKeptRows (λ col. IsTrue (is_free col)) table old fresh kept) where
