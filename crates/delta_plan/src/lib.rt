@@ -5,11 +5,13 @@ mod asking;
 mod gathering;
 mod keeping;
 mod kept_tables;
+mod laws;
 mod marked;
 mod marks;
 mod planning;
 mod touching;
 
 pub use kept_tables::kept;
+pub use laws::rows_of_views_are_the_tables;
 pub use planning::{PlanFault, plan};
 pub use touching::touched;
