@@ -69,25 +69,25 @@ module _ (basis : Basis) (is : IsBasis basis) (state : State) (s : SetId) (key :
   from_told : told.IsHostedLink basis.schema state s key hosted → IsHostedLink state (basis.hosts s) key hosted
   from_told of = elim of.end [
     | inl first ↦ by_host true of.fragment of.assoc of.link (record {
-        is_fragment = of.is_fragment;
-        is_assoc = of.is_assoc;
-        stands = of.stands;
-        at_end = first.0;
-        of_set = first.1;
-        of_key = first.2;
-        of_assoc = of.of_assoc;
-        of_partner = first.3;
-      })
+      is_fragment = of.is_fragment;
+      is_assoc = of.is_assoc;
+      stands = of.stands;
+      at_end = first.0;
+      of_set = first.1;
+      of_key = first.2;
+      of_assoc = of.of_assoc;
+      of_partner = first.3;
+    })
     | inr second ↦ by_host false of.fragment of.assoc of.link (record {
-        is_fragment = of.is_fragment;
-        is_assoc = of.is_assoc;
-        stands = of.stands;
-        at_end = second.0;
-        of_set = second.1;
-        of_key = second.2;
-        of_assoc = of.of_assoc;
-        of_partner = second.3;
-      })
+      is_fragment = of.is_fragment;
+      is_assoc = of.is_assoc;
+      stands = of.stands;
+      at_end = second.0;
+      of_set = second.1;
+      of_key = second.2;
+      of_assoc = of.of_assoc;
+      of_partner = second.3;
+    })
   ]
 
   to_told : IsHostedLink state (basis.hosts s) key hosted → told.IsHostedLink basis.schema state s key hosted

@@ -50,8 +50,7 @@ module _ (basis : Basis) (is : IsBasis basis) (local : SetId → Entity → List
   pub views_tables : (rows : Tables) × AreTablesOf basis.schema.store (rows_of (giving local joined) basis.schema.model cells state) rows
       × TablesAre basis.schema state rows
   views_tables =
-      let same = one_list basis is local joined fills cells tells state in
-      (
+      let same = one_list basis is local joined fills cells tells state in (
         tables,
         subst (λ (list : List TableRow). AreTablesOf basis.schema.store list tables) (sym same)
             (record { shape = are_tables.shape; each = rows_named basis.schema.store rows within }),
