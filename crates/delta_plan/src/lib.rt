@@ -5,6 +5,7 @@ mod asking;
 mod gathering;
 mod keeping;
 mod kept_tables;
+mod laws;
 mod marked;
 mod marks;
 mod planning;
@@ -12,6 +13,7 @@ mod running;
 mod touching;
 
 pub use kept_tables::kept;
+pub use laws::rows_of_views_are_the_tables;
 pub use planning::{PlanFault, plan};
 pub use running::run_changes;
 pub use touching::touched;

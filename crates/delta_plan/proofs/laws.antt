@@ -1,0 +1,4 @@
+pub mod OneList
+pub mod Hosting
+pub mod Named
+pub mod Whole
