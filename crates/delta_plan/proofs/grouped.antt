@@ -5,3 +5,5 @@ pub mod Tabled
 pub mod Keyed
 pub mod Paired
 pub mod Chosen
+pub mod Beside
+pub mod Reordered

@@ -57,6 +57,7 @@ pub record HoldsKept (store : StoreModel) (cells : Cells) (tables fresh kept : T
 
 -- the fresh tables, in whose free cells stands what the tables hold, up to the order of rows; these stand in the order of their keys
 pub record AreKeptInOrder (store : StoreModel) (cells : Cells) (tables fresh kept : Tables) : Type 0 where
+  pub shape : AreTables store kept
   pub paired : Tables
   pub keeps : KeepsFree store (Free cells) tables fresh paired
   pub same : AreSameTables paired kept

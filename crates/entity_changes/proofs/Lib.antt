@@ -5,3 +5,4 @@ pub mod Kept
 pub mod Pushes
 pub mod Replaced
 pub mod SpotOrder
+pub mod same

@@ -9,7 +9,7 @@ mod spots;
 mod touched;
 
 pub use change::{Change, Reason};
-pub use laws::only_touched_units_change;
+pub use laws::{changed_states_are_states, only_touched_units_change, same_states_change_alike};
 pub use making::{ApplyFault, Fate, Fates, apply};
 pub use spots::Spot;
 pub use touched::Touched;

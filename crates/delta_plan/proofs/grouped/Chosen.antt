@@ -17,7 +17,7 @@ use Rattle.delta_plan.proofs.grouped.Paired.{kept_in_order}
 use Rattle.delta_plan.proofs.grouped.Tabled.{IsMade, are_rows_of, more_made, none_made}
 
 -- tables whose rows are chosen one table after another
-chosen : (P : TableId → List Row → Type 0) (count : ℕ) → ((t : TableId) → t.index < count → (rows : List Row) × P t rows) → (tables : Tables) × IsMade P count tables
+pub chosen : (P : TableId → List Row → Type 0) (count : ℕ) → ((t : TableId) → t.index < count → (rows : List Row) × P t rows) → (tables : Tables) × IsMade P count tables
 chosen P zero each = ([], none_made P)
 chosen P (suc count) each =
     let before = chosen P count (λ t below. each t (omega (arith, below))) in
@@ -43,6 +43,7 @@ module _ (store : StoreModel) (cells : Cells) (tables fresh kept : Tables) (keye
   are_kept_in_order =
       let paired = chosen IsInOrder (length store.tables) in_table in
       record {
+        shape = holds.shape;
         paired = paired.0;
         keeps = record {
           shape = record {

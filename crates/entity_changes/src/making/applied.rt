@@ -1,3 +1,5 @@
+ghost use Rattle.std.specs.Prelude.{IfOk};
+ghost use Rattle.round_trip.specs.Words.{IsState};
 ghost use Rattle.entity_changes.specs.Applying.{AreGoodChanges, TellsApplied};
 
 use crate::change::{Change, Reason};
@@ -29,7 +31,7 @@ impl From<Memory> for ApplyFault {
 }
 
 /// The state that changes lead to, one behind the other: what comes stands behind the others of its list, and what takes the place of another stands in
-/// its place. The first change that is refused at its turn is told, and then nothing is changed.
+/// its place; it is a state of the model too. The first change that is refused at its turn is told, and then nothing is changed.
 pub fn apply(
     alloc: Global,
     model: &EntityModel,
@@ -37,7 +39,8 @@ pub fn apply(
     state: &EntityState,
 ) -> Result<EntityState, ApplyFault>
     requires { AreGoodChanges model.now state.now changes.now }
-    ensures { TellsApplied model.now state.now changes.now result }
+    ensures applied { TellsApplied model.now state.now changes.now result }
+    ensures state { IfOk result (IsState model.now) }
 {
     if let Some((index, reason)) = first_refused(alloc, model, changes.as_slice(), state)? {
         return Err(ApplyFault::Refused { index, reason });

@@ -1,0 +1,3 @@
+mod Filtered
+pub mod SameChange
+pub mod States
