@@ -51,7 +51,7 @@ kept_keys basis is is_free decides t = ⊎_elim
 
 -- what holds of the items of two lists, place by place, and gives something else
 module _ {X Y : Type 0} (R S : X → Y → Type 0) (gives : (x : X) (y : Y) → R x y → S x y) where
-  zip_gives : (xs : List X) (ys : List Y) → AllZip R xs ys → AllZip S xs ys
+  pub zip_gives : (xs : List X) (ys : List Y) → AllZip R xs ys → AllZip S xs ys
   zip_gives [] [] all = all
   zip_gives [] (y ∷ ys) all = all
   zip_gives (x ∷ xs) [] all = all

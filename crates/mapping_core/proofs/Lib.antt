@@ -7,3 +7,4 @@ pub mod Telling
 pub mod OwnTables
 pub mod NotRefused
 pub mod printed
+pub mod saved

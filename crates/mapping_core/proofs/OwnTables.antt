@@ -1,14 +1,15 @@
 -- The tables of a legal state by an accepted mapping are legal, and the state's own.
-use Rattle.std.proofs.Common.{◌≡◌, ⊎_elim, List, Contains, Result, Ok, Err, refl, subst}
+use Rattle.std.proofs.Common.{◌≡◌, ◌≢◌, ⊎_elim, List, Contains, Result, Ok, Err, refl, sym, subst}
 use Rattle.std.specs.List.{AllZip}
 use Rattle.std.proofs.lemmas.List.Elements.{All-contains}
+use Rattle.std.proofs.lemmas.List.Sorted.{All-permutation}
 use Rattle.std.proofs.lemmas.List.{map-id}
 use Rattle.emc_base.proofs.Lists.{all_from_members}
 use Rattle.emc_base.proofs.Mapped.{all_zip-map}
-use Rattle.round_trip.specs.Words.{TableId, ColId, ForeignKey, Null, Row, Schema, State, Tables, AreLegalTables, AreSameTables, HasAllowedNullCells, HasCellsInDomain, HasDemandedCells, IsErasedRow, IsFree, IsLegal, KeepsForeignKey, TablesAre, cell_of, cells_of, rows_in}
+use Rattle.round_trip.specs.Words.{TableId, ColId, ForeignKey, Null, Row, Schema, State, Tables, AreLegalTables, AreSameTables, AreTables, HasAllowedNullCells, HasCellsInDomain, HasDemandedCells, IsErasedRow, IsFree, IsLegal, KeepsForeignKey, TablesAre, cell_of, cells_of, row_key, rows_in}
 use Rattle.round_trip.specs.legality.LegalTables.{FindsRow, Refers}
 use Rattle.schema_laws.proofs.state_demand.tables.SameTables.{same_tables}
-use Rattle.schema_laws.proofs.same_states.Reordered.{all_in_any_order, any_in_any_order}
+use Rattle.schema_laws.proofs.same_states.Reordered.{all_in_any_order, any_in_any_order, pairs_in_any_order}
 use Rattle.keyed_rows.proofs.row_differences.OfState.{free_not_demanded}
 use Rattle.case_laws.specs.Reading.{HasStateTables}
 use Rattle.table_files.proofs.table_legality.Kept.{no_breach}
@@ -25,6 +26,21 @@ keeps_too one two same key kept =
     all_in_any_order (Kept one) (Kept two)
     (λ row finds refers. any_in_any_order (λ (target : Row). cells_of target key.to_cols ≡ cells_of row key.from_cols) (rows_in one key.to) (rows_in two key.to) (same key.to) (finds refers))
     (rows_in one key.from) (rows_in two key.from) (same key.from) kept
+
+-- legal tables are legal in any order of their rows
+pub legal_moved : (store : StoreModel) (one two : Tables) → AreSameTables one two → AreTables store two → AreLegalTables store one → AreLegalTables store two
+legal_moved store one two same shape legal = record {
+  shape = shape;
+  rows = λ t table here.
+      let rows = legal.rows t table here in
+      record {
+        nulls = All-permutation (HasAllowedNullCells table) (rows_in one t) (rows_in two t) (same t) rows.nulls;
+        domains = All-permutation (HasCellsInDomain table) (rows_in one t) (rows_in two t) (same t) rows.domains;
+        keys = pairs_in_any_order (λ (row other : Row). row_key table row ≢ row_key table other) (λ row other apart alike. apart (sym alike)) (rows_in one t) (rows_in two t) (same t) rows.keys;
+      };
+  keys = all_from_members (KeepsForeignKey two) store.keys
+      (λ key among. keeps_too one two same key (All-contains (KeepsForeignKey one) store.keys key legal.keys among));
+}
 
 module _ (schema : Schema) (state : State) (tables : Tables) (are : TablesAre schema state tables) where
   abbrev HasNullWhereFree : TableId → Row → Type 0
@@ -56,18 +72,7 @@ module _ (schema : Schema) (state : State) (tables : Tables) (are : TablesAre sc
   legal_tables accepted legal =
       let good = accepted.keeps.every_state.stored state legal in
       let same : AreSameTables good.tables tables = same_tables schema state good.tables tables good.defined are in
-      record {
-        shape = are.shape;
-        rows = λ t table here.
-            let rows = good.legal.rows t table here in
-            record {
-              nulls = all_in_any_order (HasAllowedNullCells table) (HasAllowedNullCells table) (λ row holds. holds) (rows_in good.tables t) (rows_in tables t) (same t) rows.nulls;
-              domains = all_in_any_order (HasCellsInDomain table) (HasCellsInDomain table) (λ row holds. holds) (rows_in good.tables t) (rows_in tables t) (same t) rows.domains;
-              keys = (are.rows t table here).once;
-            };
-        keys = all_from_members (KeepsForeignKey tables) schema.store.keys
-            (λ key among. keeps_too good.tables tables same key (All-contains (KeepsForeignKey good.tables) schema.store.keys key good.legal.keys among));
-      }
+      legal_moved schema.store good.tables tables same are.shape good.legal
 
 -- loading legal tables of a state's own gives the state back, unless memory ran out
 pub given_back : (schema : Schema) (state : State) (tables : Tables) → IsLegal schema.model state → AreLegalTables schema.store tables → HasStateTables schema state tables

@@ -2,6 +2,8 @@ ghost use Rattle.cells.specs.Parts.{schema_in};
 ghost use Rattle.round_trip.specs.Words.{AreLegalTables, AreTables, IsLegal};
 ghost use Rattle.mapping_core.specs.states.Loads.{AreAcceptedParts, Compares, Loads, LoadsLegal};
 
+pub mod laws;
+
 use crate::compiled::{Compiled, CompiledParts};
 use edm_types::{Breach, Row};
 use emc_base::{Memory, Place};

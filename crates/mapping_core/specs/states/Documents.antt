@@ -1,5 +1,5 @@
--- What reading a document of entities or of tables answers.
--- Source: RFC 8259; this project's entity documents and table documents.
+-- What reading a document of entities, of tables or of changes answers.
+-- Source: RFC 8259; this project's entity documents, table documents and change documents.
 use Rattle.std.specs.Prelude.{◌≡◌, ◌⊎◌, ℕ, List, [], Some, None, Result, Ok, Err, ⊤}
 use Rattle.serde_json.specs.Data.{Data}
 use Rattle.json_form.specs.declared.doc.Doc.{Doc}
@@ -9,7 +9,10 @@ use Rattle.data_documents.specs.declared.shape_faults.fault.ShapeFault.{ShapeFau
 use Rattle.data_documents.specs.declared.shape_faults.fault.ShapeFault.TheVariants.{Shape, Memory}
 use Rattle.data_documents.specs.entity_documents.DocShapes.{IsDocFault}
 use Rattle.data_documents.specs.entity_documents.Reading.{FailsFirstAt, MeansState, ReadAs}
+use Rattle.data_documents.specs.change_documents.Reading.{TellsChanges}
+use Rattle.data_documents.specs.change_documents.Shapes as change
 use Rattle.data_documents.specs.table_documents.Reading as table
+use Rattle.entity_changes.specs.declared.change.Change.{Change}
 use Rattle.round_trip.specs.Words.{EntityModel, State, StoreModel, Tables}
 
 -- the document that a file holds; or that it holds none, which is told at the root. Memory says nothing.
@@ -45,3 +48,18 @@ abbrev pub ReadsTables : StoreModel → List ℕ → Result Tables ShapeFault �
 ReadsTables store bytes (Ok tables) = HoldsTables store bytes tables
 ReadsTables store bytes (Err (Shape pointer)) = HoldsNoTables store bytes pointer
 ReadsTables store bytes (Err Memory) = ⊤
+
+-- the file holds a document of the right shape, and these are the changes that it tells
+abbrev pub HoldsChanges : EntityModel → List ℕ → List Change → Type 0
+HoldsChanges model bytes changes = (d : Data) × (tree_at bytes ≡ Some d) × ReadAs (change.IsDocFault model d) (TellsChanges model d) changes
+
+-- the file holds no document, which is told at the root; or one of another shape, and this is the first place where that is so
+abbrev pub HoldsNoChanges : EntityModel → List ℕ → List ℕ → Type 0
+HoldsNoChanges model bytes pointer = ((tree_at bytes ≡ None) × (pointer ≡ []))
+    ⊎ ((d : Data) × (tree_at bytes ≡ Some d) × FailsFirstAt (change.IsDocFault model d) [] pointer)
+
+-- the changes, or the first place of another shape. Memory says nothing.
+abbrev pub ReadsChangeList : EntityModel → List ℕ → Result (List Change) ShapeFault → Type 0
+ReadsChangeList model bytes (Ok changes) = HoldsChanges model bytes changes
+ReadsChangeList model bytes (Err (Shape pointer)) = HoldsNoChanges model bytes pointer
+ReadsChangeList model bytes (Err Memory) = ⊤

@@ -19,7 +19,7 @@ pub fn change_shape_text(alloc: Global, pointer: &str) -> Result<Txt, Memory>
 
 /// The change at this place, counted from 0, is refused. `Memory` comes where memory ran out.
 #[tactic(auto, unfolding(crate::specs::change_texts::Texts::refused_text))]
-pub fn refused_text(alloc: Global, index: usize, reason: Reason) -> Result<Txt, Memory>
+pub fn refused_text(alloc: Global, index: u64, reason: Reason) -> Result<Txt, Memory>
     ensures { IfOk result (λ text. text ≡ refused_text index reason) }
 {
     let word = reason_word(reason);

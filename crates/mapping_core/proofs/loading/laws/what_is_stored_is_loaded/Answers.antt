@@ -1,5 +1,5 @@
 use Rattle.mapping_core.proofs.OwnTables.{given_back, legal_tables, own_tables}
-use Rattle.mapping_core.proofs.loading_laws.what_is_stored_is_loaded.Goals as goal
+use Rattle.mapping_core.proofs.loading.laws.what_is_stored_is_loaded.Goals as goal
 
 pub returns-clause-legal : goal.returns-clause-legal
 returns-clause-legal c = λ schema accepted state legal tables are. legal_tables schema state tables are accepted legal

@@ -1,6 +1,6 @@
 use Rattle.mapping_core.proofs.printed.PrintedStates.{entities_back}
 use Rattle.mapping_core.proofs.printed.PrintedTables.{state_back, tables_back}
-use Rattle.mapping_core.proofs.loading_laws.what_is_printed_is_loaded.Goals as goal
+use Rattle.mapping_core.proofs.loading.laws.what_is_printed_is_loaded.Goals as goal
 
 pub returns-clause-tables : goal.returns-clause-tables
 returns-clause-tables c = λ schema read accepted state legal text told result reads. tables_back schema read accepted state legal text told result reads

@@ -1,0 +1,1 @@
+use Rattle.mapping_core.proofs.saving.save.Goals as goal
