@@ -5,7 +5,8 @@ use Rattle.texts.specs.command_texts.Texts.{usage_text}
 use Rattle.mapping_run.specs.declared.answers.answer.Answer.{Answer}
 use Rattle.mapping_run.specs.declared.answers.status.Status.TheVariants.{Usage, FileFault}
 use Rattle.mapping_run.specs.declared.answers.command.Command.{Command}
-use Rattle.mapping_run.specs.answers.Gives.{GivesOn, Says, SaysSome}
+use Rattle.mapping_run.specs.answers.Gives.{GivesOn}
+use Rattle.mapping_run.specs.answers.Says.{Says, SaysSome}
 use Rattle.mapping_run.specs.Commands.{command_of, inputs_of}
 use Rattle.mapping_run.specs.Inputs.{AreInputs, LacksInput}
 

@@ -5,11 +5,12 @@ mod answer;
 mod answering;
 mod command;
 mod load;
+mod save;
 mod status;
 mod store;
 mod views;
 
 pub use answer::{Answer, Halt};
 pub use answering::answer_on;
-pub use command::{Command, input_count};
+pub use command::{Command, input_count, name_count};
 pub use status::Status;

@@ -1,7 +1,7 @@
-ghost use Rattle.std.specs.Prelude.{◌≡◌, drop};
-ghost use Rattle.mapping_run.specs.Commands.{command_named, command_of, inputs_of};
+ghost use Rattle.std.specs.Prelude.{◌≡◌, drop, option_copied};
+ghost use Rattle.mapping_run.specs.Commands.{command_named, command_of, inputs_of, output_of};
 
-use crate::answers::{Command, input_count};
+use crate::answers::{Command, input_count, name_count};
 use emc_base::Txt;
 
 // The command that these words are; `None` where they are none.
@@ -12,7 +12,7 @@ pub(crate) fn command_of(words: &[Txt]) -> Option<Command>
         return None;
     };
     let command = command_named(word.as_str())?;
-    if names.len() == input_count(command) {
+    if names.len() == name_count(command) {
         Some(command)
     } else {
         None
@@ -28,6 +28,7 @@ fn command_named(word: &str) -> Option<Command>
         "views" => Some(Command::Views),
         "store" => Some(Command::Store),
         "load" => Some(Command::Load),
+        "save" => Some(Command::Save),
         _ => None,
     }
 }
@@ -36,8 +37,17 @@ fn command_named(word: &str) -> Option<Command>
 pub(crate) fn inputs_of(command: Command, words: &[Txt]) -> &[Txt]
     ensures { result.now ≡ inputs_of command words.now }
 {
+    let names = after_first(words);
+    &names[..input_count(command).min(names.len())]
+}
+
+// The word that names the file which the command writes; `None` where it writes none.
+pub(crate) fn output_of(command: Command, words: &[Txt]) -> Option<&Txt>
+    ensures { option_copied result ≡ output_of command words.now }
+{
     match command {
-        Command::Check | Command::Views | Command::Store | Command::Load => after_first(words),
+        Command::Check | Command::Views | Command::Store | Command::Load => None,
+        Command::Save => words.get(6),
     }
 }
 

@@ -1,18 +1,20 @@
--- What the steps of answering a command give: whether the mapping is accepted, and why tables are refused.
+-- What the steps of answering a command give: whether the mapping is accepted, and by which names tables are refused.
 use Rattle.std.specs.Prelude.{◌≡◌, ℕ, List, Any, Result, Ok, Err, ⊤}
 use Rattle.mapping_core.specs.Rules.{IsReadSchema}
-use Rattle.mapping_core.specs.Words.{IsAccepted, IsFailureOf, Schema}
+use Rattle.mapping_core.specs.Words.{IsAccepted, IsFailureOf, SaveFault, Schema}
 use Rattle.mapping_core.specs.declared.loading.LoadFault.{LoadFault}
 use Rattle.mapping_core.specs.declared.loading.LoadFault.TheVariants as load
+use Rattle.mapping_core.specs.declared.saving.fault.SaveFault.TheVariants as save
 use Rattle.mapping_core.specs.declared.verdict.Refusal.{Refusal}
 use Rattle.mapping_core.specs.declared.verdict.Refusal.TheVariants as refusal
-use Rattle.texts.specs.command_texts.Texts.{IsFailText, limit_text, table_breach_text}
+use Rattle.texts.specs.command_texts.Texts.{IsFailText, limit_text}
 use Rattle.mapping_core.specs.declared.accepted.AcceptedMapping.{AcceptedMapping}
 use Rattle.mapping_run.specs.declared.answers.answer.Answer.{Answer}
 use Rattle.mapping_run.specs.declared.answers.answer.Halt.{Halt}
 use Rattle.mapping_run.specs.declared.answers.answer.Halt.TheVariants.{Tells, Memory}
-use Rattle.mapping_run.specs.declared.answers.status.Status.TheVariants.{DocumentRefused, MappingRefused}
-use Rattle.mapping_run.specs.answers.Gives.{HasDocuments, RefusesMapping, RefusesSchema, Says, SaysSome, TellsNoState}
+use Rattle.mapping_run.specs.declared.answers.status.Status.TheVariants.{MappingRefused}
+use Rattle.mapping_run.specs.answers.Gives.{HasDocuments, RefusesMapping, RefusesSchema}
+use Rattle.mapping_run.specs.answers.Says.{Says, SaysSome}
 
 -- the accepted mapping of the documents that are the first three of these contents; or what is told where they aren't accepted
 abbrev pub Accepts : List (List ℕ) → Result AcceptedMapping Halt → Type 0
@@ -48,8 +50,7 @@ abbrev pub NamesTable : Schema → LoadFault → Type 0
 NamesTable schema (load.Differs place held demanded) = Any (λ table. table.name ≡ place.name) schema.store.tables
 NamesTable schema fault = ⊤
 
--- the tables are refused, for this reason
-abbrev pub RefusesTables : Schema → LoadFault → Answer → Type 0
-RefusesTables schema (load.Breach breach) answer = Says (table_breach_text breach) DocumentRefused answer
-RefusesTables schema load.Memory answer = ⊥
-RefusesTables schema fault answer = SaysSome (TellsNoState schema fault) DocumentRefused answer
+-- the same of the tables of which changes aren't saved
+abbrev pub NamesTableOf : Schema → SaveFault → Type 0
+NamesTableOf schema (save.Load fault) = NamesTable schema fault
+NamesTableOf schema fault = ⊤

@@ -1,25 +1,17 @@
--- What a command answers, by the content of its input files: what is printed, and the status that the program ends with. Each relation speaks of the answer alone;
--- what is left in the files is said where a run ends, in `Runs`.
-use Rattle.std.specs.Prelude.{◌≡◌, ◌⊎◌, ℕ, List, Some, Err}
+-- What a command answers, by the content of its input files: what is printed, the status that the program ends with, and what is saved. Each relation speaks of the
+-- answer alone; what is left in the files is said where a run ends, in `Runs`.
+use Rattle.std.specs.Prelude.{◌≡◌, ◌⊎◌, ℕ, List, Some}
 use Rattle.emc_base.specs.Lists.{At}
 use Rattle.mapping_core.specs.Rules.{IsReadSchema}
-use Rattle.mapping_core.specs.Words.{Breach, Failure, HoldsNoState, HoldsNoTables, HoldsState, HoldsTables, IsAccepted, IsBreachOf, IsBreachOfTables, IsFailureOf, IsFirstLimit, IsLegal, IsLoaded, IsStateText, IsTablesText, IsToldRule, IsViewsText, AreLegalTables, LimitFault, LoadsLegal, Means, PassesNoLimit, RuleFault, Schema, State, Tables}
-use Rattle.mapping_core.specs.declared.loading.LoadFault.{LoadFault}
-use Rattle.mapping_core.specs.declared.loading.LoadFault.TheVariants as load
-use Rattle.texts.specs.command_texts.Texts.{accepted_text, entity_breach_text, entity_shape_text, illegal_text, IsDiffersText, IsFailText, limit_text, no_case_text, rule_text, table_breach_text, table_shape_text}
+use Rattle.mapping_core.specs.Words.{Breach, Failure, HoldsNoState, HoldsState, IsAccepted, IsBreachOf, IsFailureOf, IsFirstLimit, IsLegal, IsTablesText, IsToldRule, IsViewsText, LimitFault, Means, PassesNoLimit, RuleFault, Schema, State}
+use Rattle.texts.specs.command_texts.Texts.{accepted_text, entity_breach_text, entity_shape_text, IsFailText, limit_text, rule_text}
 use Rattle.mapping_run.specs.declared.answers.answer.Answer.{Answer}
-use Rattle.mapping_run.specs.declared.answers.status.Status.{Status}
 use Rattle.mapping_run.specs.declared.answers.status.Status.TheVariants.{Done, MappingRefused, DocumentRefused}
 use Rattle.mapping_run.specs.declared.answers.command.Command.{Command}
-use Rattle.mapping_run.specs.declared.answers.command.Command.TheVariants.{Check, Views, Store, Load}
-
--- this is printed, and the program ends so
-abbrev pub Says : List ℕ → Status → Answer → Type 0
-Says text status answer = (answer.text ≡ text) × (answer.status ≡ status)
-
--- a text of this kind is printed, and the program ends so
-abbrev pub SaysSome : (List ℕ → Type 0) → Status → Answer → Type 0
-SaysSome IsText status answer = IsText answer.text × (answer.status ≡ status)
+use Rattle.mapping_run.specs.declared.answers.command.Command.TheVariants.{Check, Views, Store, Load, Save}
+use Rattle.mapping_run.specs.answers.Loading.{GivesLoaded}
+use Rattle.mapping_run.specs.answers.Saving.{GivesSaving}
+use Rattle.mapping_run.specs.answers.Says.{Says, SaysSome}
 
 -- the documents of a mapping, which are the first three of some contents, and of which this holds
 pub record HasDocuments (contents : List (List ℕ)) (Holds : List ℕ → List ℕ → List ℕ → Type 0) : Type 0 where
@@ -55,34 +47,13 @@ GivesStored entities schema answer =
     ((pointer : List ℕ) × HoldsNoState schema.model entities pointer × Says (entity_shape_text pointer) DocumentRefused answer)
     ⊎ ((state : State) × HoldsState schema.model entities state × GivesTables schema state answer)
 
--- the text tells why legal tables are those of no legal state
-abbrev pub TellsNoState : Schema → LoadFault → List ℕ → Type 0
-TellsNoState schema (load.NoCase place) told = told ≡ no_case_text place
-TellsNoState schema (load.Illegal breach) told = told ≡ illegal_text breach
-TellsNoState schema (load.Differs place held demanded) told = IsDiffersText schema.store place held demanded told
-TellsNoState schema (load.Breach breach) told = ⊥
-TellsNoState schema load.Memory told = ⊥
-
--- what is given on tables: the first breach of their rules; or, where they are legal, why no legal state has them, or the state that they tell
-abbrev pub GivesState : Schema → Tables → Answer → Type 0
-GivesState schema tables answer =
-    ((breach : Breach) × IsBreachOfTables schema.store tables breach × Says (table_breach_text breach) DocumentRefused answer)
-    ⊎ (AreLegalTables schema.store tables
-    × (((fault : LoadFault) × LoadsLegal schema tables (Err fault) × SaysSome (TellsNoState schema fault) DocumentRefused answer)
-    ⊎ ((state : State) × IsLoaded schema tables state × SaysSome (IsStateText schema state) Done answer)))
-
--- what is given on a table document: the first place where it is of another shape; or what is given on the tables that it tells
-abbrev pub GivesLoaded : List ℕ → Schema → Answer → Type 0
-GivesLoaded document schema answer =
-    ((pointer : List ℕ) × HoldsNoTables schema.store document pointer × Says (table_shape_text pointer) DocumentRefused answer)
-    ⊎ ((tables : Tables) × HoldsTables schema.store document tables × GivesState schema tables answer)
-
 -- what a command gives by an accepted mapping, on the contents of its input files
 abbrev pub GivesBy : Command → List (List ℕ) → Schema → Answer → Type 0
 GivesBy Check contents schema answer = Says accepted_text Done answer
 GivesBy Views contents schema answer = SaysSome (IsViewsText schema) Done answer
 GivesBy Store contents schema answer = (entities : List ℕ) × At contents 3 entities × GivesStored entities schema answer
 GivesBy Load contents schema answer = (document : List ℕ) × At contents 3 document × GivesLoaded document schema answer
+GivesBy Save contents schema answer = (document : List ℕ) × (list : List ℕ) × At contents 3 document × At contents 4 list × GivesSaving document list schema answer
 
 -- What every command gives on the contents of its input files, of which the first three are the documents of a mapping: why they aren't accepted; or, where
 -- they are, what it gives by the mapping that they mean, which is sound, and then every legal state is kept.

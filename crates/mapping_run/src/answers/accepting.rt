@@ -1,7 +1,7 @@
 ghost use Rattle.std.specs.Prelude.{◌≤◌, IfOk, length};
 ghost use Rattle.mapping_core.specs.Words.{IsRead};
 ghost use Rattle.mapping_run.specs.answers.Answers.{Accepts, AcceptsSchema, IsRefusal, ShowsFailure, HaltsRefused};
-ghost use Rattle.mapping_run.specs.answers.Gives.{Says};
+ghost use Rattle.mapping_run.specs.answers.Says.{Says};
 ghost use Rattle.mapping_run.specs.declared.answers.status.Status.TheVariants.{MappingRefused};
 
 use crate::answers::answer::{Answer, Halt};
@@ -59,7 +59,12 @@ fn refusal_answer(alloc: Global, refusal: &Refusal) -> Result<Answer, Memory>
         Refusal::Fails(schema, failure) => {
             let text = fail_text(alloc, schema, failure)?;
             let status = Status::MappingRefused;
-            Ok(Answer { text, status })
+            let saved = None;
+            Ok(Answer {
+                text,
+                status,
+                saved,
+            })
         }
         Refusal::Memory => Err(Memory),
     }

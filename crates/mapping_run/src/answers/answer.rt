@@ -1,16 +1,18 @@
-ghost use Rattle.mapping_run.specs.answers.Gives.{Says};
-ghost use Rattle.mapping_run.specs.declared.answers.status.Status.TheVariants.{DocumentRefused};
+ghost use Rattle.mapping_run.specs.answers.Says.{Says};
+ghost use Rattle.mapping_run.specs.declared.answers.status.Status.TheVariants.{Done, DocumentRefused};
 
 use crate::answers::status::Status;
 use emc_base::{Bin, Txt};
 
-/// What a run prints, and how it ends where that is written.
+/// What a run prints, how it ends where that is written, and what it saves.
 #[derive(Drop)]
 pub struct Answer {
     /// What is printed.
     pub text: Bin,
     /// How the run ends.
     pub status: Status,
+    /// What the file that the command writes is to hold; `None` where it is left as it is.
+    pub saved: Option<Bin>,
 }
 
 impl Answer {
@@ -19,7 +21,25 @@ impl Answer {
         ensures { Says text status result }
     {
         let text = Bin::from_vec(text.into_string().into_bytes());
-        Answer { text, status }
+        let saved = None;
+        Answer {
+            text,
+            status,
+            saved,
+        }
+    }
+
+    /// The answer that prints the result of an accepted mapping.
+    pub fn done(text: Bin) -> Answer
+        ensures { Says text Done result }
+    {
+        let status = Status::Done;
+        let saved = None;
+        Answer {
+            text,
+            status,
+            saved,
+        }
     }
 
     /// The answer that a document which holds data isn't taken, for the reason that the text tells.

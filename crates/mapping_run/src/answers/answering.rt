@@ -1,6 +1,7 @@
 ghost use Rattle.std.specs.Prelude.{◌≡◌, IfOk, length};
 ghost use Rattle.mapping_run.specs.answers.Commands.{input_count};
-ghost use Rattle.mapping_run.specs.answers.Gives.{GivesBy, GivesOn, Says};
+ghost use Rattle.mapping_run.specs.answers.Gives.{GivesBy, GivesOn};
+ghost use Rattle.mapping_run.specs.answers.Says.{Says};
 ghost use Rattle.mapping_run.specs.declared.answers.status.Status.TheVariants.{Done};
 ghost use Rattle.texts.specs.command_texts.Texts.{accepted_text};
 
@@ -8,6 +9,7 @@ use crate::answers::accepting::accepted;
 use crate::answers::answer::{Answer, Halt};
 use crate::answers::command::Command;
 use crate::answers::load::loaded;
+use crate::answers::save::saved;
 use crate::answers::status::Status;
 use crate::answers::store::stored;
 use crate::answers::views::viewed;
@@ -64,6 +66,7 @@ fn answer_with(
         Command::Views => viewed(alloc, compiled),
         Command::Store => stored(alloc, compiled, contents.at(3)),
         Command::Load => loaded(alloc, compiled, contents.at(3)),
+        Command::Save => saved(alloc, compiled, contents.at(3), contents.at(4)),
     }
 }
 

@@ -1,11 +1,11 @@
 ghost use Rattle.std.specs.Prelude.{IfOk};
 ghost use Rattle.mapping_core.specs.Words.{AreTables, IsState, IsStateText};
-ghost use Rattle.mapping_run.specs.answers.Answers.{NamesTable, RefusesTables};
-ghost use Rattle.mapping_run.specs.answers.Gives.{GivesLoaded, GivesState, SaysSome};
+ghost use Rattle.mapping_run.specs.answers.Answers.{NamesTable};
+ghost use Rattle.mapping_run.specs.answers.Loading.{GivesLoaded, GivesState, RefusesTables};
+ghost use Rattle.mapping_run.specs.answers.Says.{SaysSome};
 ghost use Rattle.mapping_run.specs.declared.answers.status.Status.TheVariants.{Done};
 
 use crate::answers::answer::Answer;
-use crate::answers::status::Status;
 use emc_base::{Bin, Memory};
 use mapping_core::{Compiled, EntityState, LoadFault, ShapeFault, Tables, load, read_tables};
 use std::alloc::Global;
@@ -42,13 +42,15 @@ fn printed(alloc: Global, compiled: &Compiled, state: &EntityState) -> Result<An
     ensures { IfOk result (SaysSome (IsStateText compiled.now state.now) Done) }
 {
     let document = state.to_doc(alloc, &compiled.schema().model)?;
-    let text = document.bytes(alloc)?;
-    let status = Status::Done;
-    Ok(Answer { text, status })
+    Ok(Answer::done(document.bytes(alloc)?))
 }
 
-// Why tables tell no state.
-fn refused(alloc: Global, compiled: &Compiled, fault: &LoadFault) -> Result<Answer, Memory>
+/// Why tables tell no state.
+pub(crate) fn refused(
+    alloc: Global,
+    compiled: &Compiled,
+    fault: &LoadFault,
+) -> Result<Answer, Memory>
     requires { NamesTable compiled.now fault.now }
     ensures { IfOk result (RefusesTables compiled.now fault.now) }
 {

@@ -3,7 +3,6 @@ ghost use Rattle.mapping_core.specs.Words.{IsState};
 ghost use Rattle.mapping_run.specs.answers.Gives.{GivesStored, GivesTables};
 
 use crate::answers::answer::Answer;
-use crate::answers::status::Status;
 use emc_base::{Bin, Memory};
 use mapping_core::{Compiled, EntityState, ShapeFault, StoreFault, read_entities, store_all};
 use std::alloc::Global;
@@ -30,9 +29,7 @@ fn tables_of(alloc: Global, compiled: &Compiled, state: &EntityState) -> Result<
     match store_all(alloc, compiled, state) {
         Ok(tables) => {
             let document = tables.to_doc(alloc, &compiled.schema().store)?;
-            let text = document.bytes(alloc)?;
-            let status = Status::Done;
-            Ok(Answer { text, status })
+            Ok(Answer::done(document.bytes(alloc)?))
         }
         Err(StoreFault::Breach(breach)) => Ok(Answer::refusal(entity_breach_text(alloc, &breach)?)),
         Err(StoreFault::Memory) => Err(Memory),

@@ -1,10 +1,9 @@
 ghost use Rattle.std.specs.Prelude.{IfOk};
 ghost use Rattle.mapping_core.specs.Words.{IsViewsText};
-ghost use Rattle.mapping_run.specs.answers.Gives.{SaysSome};
+ghost use Rattle.mapping_run.specs.answers.Says.{SaysSome};
 ghost use Rattle.mapping_run.specs.declared.answers.status.Status.TheVariants.{Done};
 
 use crate::answers::answer::Answer;
-use crate::answers::status::Status;
 use emc_base::Memory;
 use mapping_core::{Compiled, views_all};
 use std::alloc::Global;
@@ -13,7 +12,5 @@ use std::alloc::Global;
 pub(crate) fn viewed(alloc: Global, compiled: &Compiled) -> Result<Answer, Memory>
     ensures { IfOk result (SaysSome (IsViewsText compiled.now) Done) }
 {
-    let text = views_all(alloc, compiled)?;
-    let status = Status::Done;
-    Ok(Answer { text, status })
+    Ok(Answer::done(views_all(alloc, compiled)?))
 }
