@@ -1,24 +1,32 @@
 -- What was answered and what was written make a run.
-use Rattle.std.proofs.Common.{◌≡◌, ◌≢◌, ◌⊎◌, ℕ, List, [], ◌∷◌, ◌++◌, Option, Some, None, MatchOption, Err, option_map, inl, inr, refl, sym, ap, ◌∙◌, subst, ◌==◌, length, take, true, false, arith}
+use Rattle.std.proofs.Common.{◌≡◌, ◌≢◌, ◌⊎◌, ℕ, List, [], ◌∷◌, ◌++◌, Option, Some, None, MatchOption, Result, Ok, Err, option_map, inl, inr, refl, sym, ap, ◌∙◌, subst, ◌==◌, length, take, true, false, arith}
 use Rattle.std.proofs.lemmas.Bool.Decides.{nat_tests}
 use Rattle.std.specs.Bool.{⊤}
 use Rattle.std.proofs.lemmas.List.{append-nil}
 use Rattle.emc_files.specs.Sink.{CountsPut, Puts}
 use Rattle.emc_files.specs.declared.sink.SinkFault.{SinkFault as SinkError}
 use Rattle.emc_files.specs.declared.sink.SinkFault.TheVariants.{Failed}
-use Rattle.emc_files.specs.Files.{FileMap}
+use Rattle.emc_files.specs.Files.{FileMap, Replaces}
+use Rattle.emc_files.specs.declared.files.ReplaceFault.TheVariants as replace
 use Rattle.mapping_core.specs.Rules.{IsReadSchema}
-use Rattle.mapping_core.specs.Words.{IsAccepted, Schema, State, Tables}
+use Rattle.mapping_core.specs.Words.{Change, IsAccepted, Schema, State, Tables}
+use Rattle.mapping_core.specs.declared.saving.saved.Saved.{Saved}
+use Rattle.mapping_core.specs.declared.saving.fault.SaveFault.{SaveFault}
+use Rattle.mapping_core.specs.declared.loading.LoadFault.{LoadFault}
+use Rattle.mapping_core.specs.declared.loading.LoadFault.TheVariants as load
+use Rattle.mapping_core.specs.declared.saving.fault.SaveFault.TheVariants as save
 use Rattle.mapping_run.specs.declared.answers.answer.Answer.{Answer}
 use Rattle.mapping_run.specs.declared.answers.status.Status.{Status}
 use Rattle.mapping_run.specs.declared.answers.status.Status.TheVariants.{Done, MappingRefused, DocumentRefused, Usage, FileFault, SinkFault, Memory}
 use Rattle.mapping_run.specs.declared.answers.command.Command.{Command}
-use Rattle.mapping_run.specs.declared.answers.command.Command.TheVariants.{Check, Views, Store, Load}
-use Rattle.mapping_run.specs.Commands.{command_of, inputs_of}
-use Rattle.mapping_run.specs.answers.Gives.{GivesBy, GivesLoaded, GivesOn, GivesState, GivesStored, GivesTables, RefusesMapping, RefusesSchema, Says, SaysSome}
-use Rattle.mapping_run.specs.Gives.{GivesInputs}
-use Rattle.mapping_run.specs.Inputs.{FailsToRead}
-use Rattle.mapping_run.specs.Runs.{BreaksOff, Ends, Finishes, Runs}
+use Rattle.mapping_run.specs.declared.answers.command.Command.TheVariants.{Check, Views, Store, Load, Save}
+use Rattle.mapping_run.specs.Commands.{command_of, inputs_of, output_of}
+use Rattle.mapping_run.specs.answers.Gives.{GivesBy, GivesOn, GivesStored, GivesTables, RefusesMapping, RefusesSchema}
+use Rattle.mapping_run.specs.answers.Loading.{GivesLoaded, GivesState, RefusesTables}
+use Rattle.mapping_run.specs.answers.Saving.{GivesChanged, GivesSaved, GivesSaving, SavesSo}
+use Rattle.mapping_run.specs.answers.Says.{Says}
+use Rattle.mapping_run.specs.Gives.{Gives, GivesInputs}
+use Rattle.mapping_run.specs.Runs.{BreaksOff, Ends, FailsToGive, FailsToSave, Finishes, GivesUp, LeavesAt, LeavesGiven, Runs}
 use Rattle.texts.specs.command_texts.Texts.{usage_text}
 use Rattle.mapping_run.specs.World.{World}
 
@@ -58,11 +66,36 @@ module _ (answer : Answer) where
   of_loaded document schema (inl shape) = subst IsOfText (sym shape.2.1) cc
   of_loaded document schema (inr told) = of_state schema told.0 told.2
 
+  of_refused : (schema : Schema) (fault : LoadFault) → RefusesTables schema fault answer → IsOfText answer.status
+  of_refused schema (load.Breach breach) says = subst IsOfText (sym says.1) cc
+  of_refused schema (load.NoCase place) says = subst IsOfText (sym says.1) cc
+  of_refused schema (load.Illegal breach) says = subst IsOfText (sym says.1) cc
+  of_refused schema (load.Differs place held demanded) says = subst IsOfText (sym says.1) cc
+  of_refused schema load.Memory says = absurd says
+
+  of_saved : (schema : Schema) (result : Result Saved SaveFault) → SavesSo schema result answer → IsOfText answer.status
+  of_saved schema (Ok saved) says = subst IsOfText (sym says.status) cc
+  of_saved schema (Err (save.Load fault)) says = of_refused schema fault says
+  of_saved schema (Err (save.Refused index why)) says = subst IsOfText (sym says.1) cc
+  of_saved schema (Err (save.Breach breach)) says = subst IsOfText (sym says.1) cc
+  of_saved schema (Err (save.FreeReference place)) says = subst IsOfText (sym says.1) cc
+  of_saved schema (Err (save.Circular ring)) says = subst IsOfText (sym says.1) cc
+  of_saved schema (Err save.Memory) says = absurd says
+
+  of_changed : (list : List ℕ) (schema : Schema) (tables : Tables) → GivesChanged list schema tables answer → IsOfText answer.status
+  of_changed list schema tables (inl shape) = subst IsOfText (sym shape.2.1) cc
+  of_changed list schema tables (inr told) = of_saved schema told.2.0 told.2.2
+
+  of_saving : (document list : List ℕ) (schema : Schema) → GivesSaving document list schema answer → IsOfText answer.status
+  of_saving document list schema (inl shape) = subst IsOfText (sym shape.2.1) cc
+  of_saving document list schema (inr told) = of_changed list schema told.0 told.2
+
   of_accepted : (command : Command) (contents : List (List ℕ)) (schema : Schema) → GivesBy command contents schema answer → IsOfText answer.status
   of_accepted Check contents schema gives = subst IsOfText (sym gives.1) cc
   of_accepted Views contents schema gives = subst IsOfText (sym gives.1) cc
   of_accepted Store contents schema gives = of_stored gives.0 schema gives.2
   of_accepted Load contents schema gives = of_loaded gives.0 schema gives.2
+  of_accepted Save contents schema gives = of_saving gives.0 gives.1 schema gives.4
 
   of_documents : (command : Command) (contents : List (List ℕ)) (csdl ssdl msl : List ℕ)
       → RefusesMapping csdl ssdl msl answer ⊎ ((schema : Schema) × IsReadSchema csdl ssdl msl schema × IsAccepted schema × GivesBy command contents schema answer)
@@ -82,21 +115,67 @@ module _ (answer : Answer) where
   of_words words held None says = subst IsOfText (sym says.1) cc
   of_words words held (Some command) gives = of_inputs held command (inputs_of command words) gives
 
-  of_break : (may_fail : List ℕ → Type 0) (words : List (List ℕ)) (held : Option FileMap) (command : Option Command)
-      → MatchOption command ⊥ (λ one. SaysSome (FailsToRead may_fail held (inputs_of one words)) FileFault answer) → IsOfText answer.status
-  of_break may_fail words held None breaks = absurd breaks
-  of_break may_fail words held (Some command) breaks = subst IsOfText (sym breaks.1) cc
+  of_break : (may_fail : List ℕ → Type 0) (words : List (List ℕ)) (held left : Option FileMap) (command : Option Command)
+      → MatchOption command ⊥ (λ one. FailsToGive may_fail words held left one answer ⊎ FailsToSave may_fail words held left one answer) → IsOfText answer.status
+  of_break may_fail words held left None breaks = absurd breaks
+  of_break may_fail words held left (Some command) (inl fails) = subst IsOfText (sym fails.0.1) cc
+  of_break may_fail words held left (Some command) (inr fails) = subst IsOfText (sym fails.says.1) cc
 
   -- what ends, ends with a text
-  of_ends : (may_fail : List ℕ → Type 0) (words : List (List ℕ)) (held : Option FileMap) (before now : ℕ) → Ends may_fail words held before now answer → IsOfText answer.status
-  of_ends may_fail words held before now (inl gives) = of_words words held (command_of words) gives.1
-  of_ends may_fail words held before now (inr breaks) = of_break may_fail words held (command_of words) breaks.1
+  of_ends : (may_fail : List ℕ → Type 0) (words : List (List ℕ)) (held : Option FileMap) (before now : ℕ) (left : Option FileMap)
+      → Ends may_fail words held before now left answer → IsOfText answer.status
+  of_ends may_fail words held before now left (inl gives) = of_words words held (command_of words) gives.1
+  of_ends may_fail words held before now left (inr breaks) = of_break may_fail words held left (command_of words) breaks.1
+
+-- a file that could not be replaced is as it was, or as if it had been
+failed_left : (held left : Option FileMap) (name text : List ℕ) → Replaces held left name text (Err replace.Failed) → (left ≡ held) ⊎ Replaces held left name text (Ok tt)
+failed_left None left name text same = inl same
+failed_left (Some old) left name text (inl same) = inl same
+failed_left (Some old) left name text (inr put) = inr put
+
+module _ (may_fail : List ℕ → Type 0) (words : List (List ℕ)) (held left : Option FileMap) (answer : Answer) where
+  -- so the files are as they were, or as what was given leaves them
+  left_failed : (command : Command) → command_of words ≡ Some command → FailsToSave may_fail words held left command answer → LeavesGiven words held left
+  left_failed command is fails = by (failed_left held left fails.name fails.text fails.leaves)
+    where
+      gives : Gives words held fails.given
+      gives =
+          let P : Option Command → Type 0 = λ found. MatchOption found (Says usage_text Usage fails.given) (λ one. GivesInputs held one (inputs_of one words) fails.given) in
+          subst P (sym is) fails.gives
+
+      by : (left ≡ held) ⊎ Replaces held left fails.name fails.text (Ok tt) → LeavesGiven words held left
+      by (inl same) = inl same
+      by (inr put) =
+          let Text : Option (List ℕ) → Type 0 = λ text. MatchOption text (left ≡ held) (λ bytes. Replaces held left fails.name bytes (Ok tt)) in
+          let At : Option (List ℕ) → Type 0 = λ name. LeavesAt name fails.given held left in
+          let By : Option Command → Type 0 = λ found. MatchOption found (left ≡ held) (λ one. LeavesAt (output_of one words) fails.given held left) in
+          inr (fails.given, gives, subst By (sym is) (subst At (sym fails.named) (subst Text (sym fails.saves) put)))
+
+  left_broken : (found : Option Command) → command_of words ≡ found
+      → MatchOption found ⊥ (λ command. FailsToGive may_fail words held left command answer ⊎ FailsToSave may_fail words held left command answer) → LeavesGiven words held left
+  left_broken None is breaks = absurd breaks
+  left_broken (Some command) is (inl fails) = inl fails.1
+  left_broken (Some command) is (inr fails) = left_failed command is fails
+
+  left_given : (before now : ℕ) → Ends may_fail words held before now left answer → LeavesGiven words held left
+  left_given before now (inl ends) = inr (answer, ends.1, ends.2)
+  left_given before now (inr broken) = left_broken (command_of words) refl broken.1
+
+module _ (may_fail : List ℕ → Type 0) (words : List (List ℕ)) (before after : World) where
+  -- nothing was written, since memory ran out before anything was done to the files, or in the sink
+  pub stopped : after.held ≡ before.held → after.written ≡ before.written → after.sink_faults ≡ before.sink_faults → GivesUp may_fail words before after
+  stopped same written quiet = record { written = written; quiet = quiet; leaves = inl same }
+
+  pub unwritten : (answer : Answer) → Ends may_fail words before.held before.file_faults after.file_faults after.held answer
+      → after.written ≡ before.written → after.sink_faults ≡ before.sink_faults → GivesUp may_fail words before after
+  unwritten answer ends written quiet =
+      record { written = written; quiet = quiet; leaves = left_given may_fail words before.held after.held answer before.file_faults after.file_faults ends }
 
 module _ (may_fail : List ℕ → Type 0) (words : List (List ℕ)) (before after : World) where
   -- what finishes, finishes with a text
   of_finish : (status : Status) → Finishes may_fail words before after status → IsOfText status
   of_finish status finishes =
-      subst IsOfText finishes.status_is (of_ends finishes.answer may_fail words before.held before.file_faults after.file_faults finishes.ends)
+      subst IsOfText finishes.status_is (of_ends finishes.answer may_fail words before.held before.file_faults after.file_faults after.held finishes.ends)
 
   -- a whole text was written
   runs_whole : (status : Status) → Finishes may_fail words before after status → Runs may_fail words before after status
@@ -124,8 +203,7 @@ not_nothing [] some empty = cc
 not_nothing (byte ∷ rest) some empty = cc
 
 module _ (may_fail : List ℕ → Type 0) (words : List (List ℕ)) (before after : World) (answer : Answer) (printed : List ℕ)
-    (ends : Ends may_fail words before.held before.file_faults after.file_faults answer)
-    (printed_is : printed ≡ answer.text) (leaves : after.held ≡ before.held) where
+    (ends : Ends may_fail words before.held before.file_faults after.file_faults after.held answer) (printed_is : printed ≡ answer.text) where
   -- the text that was printed is the answer's
   pub all_written : after.sink_faults ≡ before.sink_faults → after.written ≡ option_map (λ bytes. bytes ++ printed) before.written
       → Runs may_fail words before after answer.status
@@ -133,7 +211,6 @@ module _ (may_fail : List ℕ → Type 0) (words : List (List ℕ)) (before afte
     answer = answer;
     status_is = refl;
     ends = ends;
-    leaves = leaves;
     written = written ∙ ap (λ more. option_map (λ bytes. bytes ++ more) before.written) printed_is;
     quiet = quiet;
   })
@@ -144,7 +221,6 @@ module _ (may_fail : List ℕ → Type 0) (words : List (List ℕ)) (before afte
     answer = answer;
     status_is = refl;
     ends = ends;
-    leaves = leaves;
     written = same ∙ nothing_more before.written answer.text (sym printed_is ∙ is_nothing printed empty);
     quiet = quiet;
   })
@@ -160,7 +236,6 @@ module _ (may_fail : List ℕ → Type 0) (words : List (List ℕ)) (before afte
         count = failed.0.0;
         not_empty = some;
         ends = ends;
-        leaves = leaves;
-        written = failed.0.1 ∙ ap (λ text. option_map (λ bytes. bytes ++ take failed.0.0 text) before.written) printed_is;
+            written = failed.0.1 ∙ ap (λ text. option_map (λ bytes. bytes ++ take failed.0.0 text) before.written) printed_is;
         cause = failed.1;
       }

@@ -40,10 +40,10 @@ module _ (may_fail : List ℕ → Type 0) (held : Option FileMap) (before now : 
   -- what is told of a read that didn't succeed
   pub reads_fault : (name : List ℕ) (why : ReadFault) (told : Halt) → Tells held name largest_file (Err why) → CountsRead before now (Err why)
       → (why ≡ fault.Failed → may_fail name) → TellsReadFault name why told → ReadsInput may_fail held before now name (Err told)
-  reads_fault name fault.Missing (halt.Tells answer) tells counts fails says = inl (counts, (inl (missing_at held name tells, says.0), says.1))
+  reads_fault name fault.Missing (halt.Tells answer) tells counts fails says = inl (counts, (inl (missing_at held name tells, says.0), says.1, says.2))
   reads_fault name fault.Missing halt.Memory tells counts fails says = cc
   reads_fault name fault.TooLarge (halt.Tells answer) tells counts fails says =
-      let large = large_at held name tells in inl (counts, (inr (large.0, large.1, large.2, says.0), says.1))
+      let large = large_at held name tells in inl (counts, (inr (large.0, large.1, large.2, says.0), says.1, says.2))
   reads_fault name fault.TooLarge halt.Memory tells counts fails says = cc
   reads_fault name fault.Failed (halt.Tells answer) tells counts fails says = inr (counts, fails refl, says)
   reads_fault name fault.Failed halt.Memory tells counts fails says = cc
@@ -54,8 +54,8 @@ module _ (may_fail : List ℕ → Type 0) (held : Option FileMap) (before now : 
   pub stopped : (names : List (List ℕ)) (name : List ℕ) (told : Halt) → IsFirstUnread held names name → ReadsInput may_fail held before now name (Err told)
       → ReadsInputs may_fail held before now names (Err told)
   stopped names name halt.Memory first reads = cc
-  stopped names name (halt.Tells answer) first (inl lacking) = inl (lacking.0, ((name, first, lacking.1.0), lacking.1.1))
-  stopped names name (halt.Tells answer) first (inr failed) = inr (failed.0, ((name, first, failed.1, failed.2.0), failed.2.1))
+  stopped names name (halt.Tells answer) first (inl lacking) = inl (lacking.0, ((name, first, lacking.1.0), lacking.1.1, lacking.1.2))
+  stopped names name (halt.Tells answer) first (inr failed) = inr (failed.0, ((name, first, failed.1, failed.2.0), failed.2.1, failed.2.2))
 
   -- and it is what the command answers
   pub handed_on : (names : List (List ℕ)) (told : Halt) (result : Result (List (List ℕ)) Halt) → IsErrAnd result (λ halt. halt ≡ told)

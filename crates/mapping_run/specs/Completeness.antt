@@ -5,7 +5,8 @@ use Rattle.emc_base.specs.Faults.{RoseOrStands}
 use Rattle.emc_base.specs.Lists.{At}
 use Rattle.emc_files.specs.Files.{FileMap}
 use Rattle.round_trip.specs.Words.{EntityModel, IsSameState, RoundTrips}
-use Rattle.mapping_core.specs.Words.{AreLegalTables, AreSaved, CanBeSaved, Change, HasStateTables, HoldsChanges, HoldsState, HoldsTables, IsLegal, IsStateText, IsTablesText, IsViewsText, Means, PassesNoLimit, Saved, Schema, State, Tables}
+use Rattle.mapping_core.specs.Words.{AreLegalTables, AreSaved, CanBeSaved, Change, HasStateTables, HoldsChanges, HoldsState, HoldsTables, IsLegal, IsStateText, IsTablesText, IsViewsText, Means, PassesNoLimit, Schema, State, Tables}
+use Rattle.mapping_core.specs.declared.saving.saved.Saved.{Saved}
 use Rattle.texts.specs.command_texts.Texts.{accepted_text}
 use Rattle.mapping_run.specs.declared.answers.answer.Answer.{Answer}
 use Rattle.mapping_run.specs.declared.answers.command.Command.{Command}

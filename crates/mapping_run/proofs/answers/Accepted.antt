@@ -12,7 +12,8 @@ use Rattle.mapping_run.specs.declared.answers.answer.Answer.{Answer}
 use Rattle.mapping_run.specs.declared.answers.answer.Halt.{Halt}
 use Rattle.mapping_run.specs.declared.answers.answer.Halt.TheVariants.{Tells, Memory}
 use Rattle.mapping_run.specs.declared.answers.status.Status.TheVariants.{MappingRefused}
-use Rattle.mapping_run.specs.answers.Gives.{HasDocuments, RefusesSchema, SaysSome}
+use Rattle.mapping_run.specs.answers.Gives.{HasDocuments, RefusesSchema}
+use Rattle.mapping_run.specs.answers.Says.{SaysSome}
 use Rattle.mapping_run.specs.answers.Answers.{Accepts, AcceptsSchema, IsRefusal, ShowsFailure, HaltsRefused}
 
 module _ (contents : List (List ℕ)) (csdl ssdl msl : List ℕ) (at_csdl : At contents 0 csdl) (at_ssdl : At contents 1 ssdl) (at_msl : At contents 2 msl) where

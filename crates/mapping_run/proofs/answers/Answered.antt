@@ -7,9 +7,12 @@ use Rattle.mapping_core.specs.Words.{HoldsState, HoldsTables, IsAccepted, IsView
 use Rattle.texts.specs.command_texts.Texts.{accepted_text}
 use Rattle.mapping_run.specs.declared.answers.answer.Answer.{Answer}
 use Rattle.mapping_run.specs.declared.answers.command.Command.{Command}
-use Rattle.mapping_run.specs.declared.answers.command.Command.TheVariants.{Check, Views, Store, Load}
+use Rattle.mapping_run.specs.declared.answers.command.Command.TheVariants.{Check, Views, Store, Load, Save}
 use Rattle.mapping_run.specs.declared.answers.status.Status.TheVariants.{Done}
-use Rattle.mapping_run.specs.answers.Gives.{GivesBy, GivesLoaded, GivesOn, GivesState, GivesStored, GivesTables, HasDocuments, RefusesMapping, Says, SaysSome}
+use Rattle.mapping_run.specs.answers.Gives.{GivesBy, GivesOn, GivesStored, GivesTables, HasDocuments, RefusesMapping}
+use Rattle.mapping_run.specs.answers.Loading.{GivesLoaded, GivesState}
+use Rattle.mapping_run.specs.answers.Saving.{GivesSaving}
+use Rattle.mapping_run.specs.answers.Says.{Says, SaysSome}
 
 -- what holds of the documents of a mapping, and gives something else of them
 documents_give : {contents : List (List ℕ)} {Holds Given : List ℕ → List ℕ → List ℕ → Type 0} → HasDocuments contents Holds
@@ -58,6 +61,12 @@ pub load_result : (contents : List (List ℕ)) (document : List ℕ) → At cont
     → IfOk result (GivesLoaded document schema) → IfOk result (GivesBy Load contents schema)
 load_result contents document at_document schema (Ok answer) given = (document, at_document, given)
 load_result contents document at_document schema (Err memory) given = tt
+
+-- and on that with a change document
+pub save_result : (contents : List (List ℕ)) (document list : List ℕ) → At contents 3 document → At contents 4 list → (schema : Schema) (result : Result Answer Memory)
+    → IfOk result (GivesSaving document list schema) → IfOk result (GivesBy Save contents schema)
+save_result contents document list at_document at_list schema (Ok answer) given = (document, list, at_document, at_list, given)
+save_result contents document list at_document at_list schema (Err memory) given = tt
 
 -- what is answered on a state is answered on the document that tells it
 pub stored_result : (entities : List ℕ) (lent schema : Schema) → lent ≡ schema → (state : State) → HoldsState lent.model entities state

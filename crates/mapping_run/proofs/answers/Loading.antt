@@ -10,8 +10,9 @@ use Rattle.mapping_core.specs.declared.loading.LoadFault.{LoadFault}
 use Rattle.mapping_core.specs.declared.loading.LoadFault.TheVariants as load
 use Rattle.mapping_run.specs.declared.answers.answer.Answer.{Answer}
 use Rattle.mapping_run.specs.declared.answers.status.Status.TheVariants.{Done}
-use Rattle.mapping_run.specs.answers.Answers.{NamesTable, RefusesTables}
-use Rattle.mapping_run.specs.answers.Gives.{GivesState, SaysSome}
+use Rattle.mapping_run.specs.answers.Answers.{NamesTable}
+use Rattle.mapping_run.specs.answers.Loading.{GivesState, RefusesTables}
+use Rattle.mapping_run.specs.answers.Says.{SaysSome}
 
 module _ (schema : Schema) (tables : Tables) where
   -- the state that they tell is printed

@@ -1,7 +1,8 @@
 -- What the steps of answering a command give: whether the mapping is accepted, and by which names tables are refused.
 use Rattle.std.specs.Prelude.{◌≡◌, ℕ, List, Any, Result, Ok, Err, ⊤}
 use Rattle.mapping_core.specs.Rules.{IsReadSchema}
-use Rattle.mapping_core.specs.Words.{IsAccepted, IsFailureOf, SaveFault, Schema}
+use Rattle.mapping_core.specs.Words.{IsAccepted, IsFailureOf, Schema}
+use Rattle.mapping_core.specs.declared.saving.fault.SaveFault.{SaveFault}
 use Rattle.mapping_core.specs.declared.loading.LoadFault.{LoadFault}
 use Rattle.mapping_core.specs.declared.loading.LoadFault.TheVariants as load
 use Rattle.mapping_core.specs.declared.saving.fault.SaveFault.TheVariants as save

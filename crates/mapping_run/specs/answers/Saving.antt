@@ -1,6 +1,8 @@
 -- What is given on tables and changes by an accepted mapping: the row changes and the tables afterwards, or why the changes aren't saved.
 use Rattle.std.specs.Prelude.{◌≡◌, ◌⊎◌, ℕ, List, Result, Ok, Err, IsSomeAnd, flat_map}
-use Rattle.mapping_core.specs.Words.{Change, HoldsChanges, HoldsNoChanges, HoldsNoTables, HoldsTables, IsPrintedTables, Saved, SaveFault, Saves, Schema, Tables}
+use Rattle.mapping_core.specs.Words.{Change, HoldsChanges, HoldsNoChanges, HoldsNoTables, HoldsTables, IsPrintedTables, Saves, Schema, Tables}
+use Rattle.mapping_core.specs.declared.saving.saved.Saved.{Saved}
+use Rattle.mapping_core.specs.declared.saving.fault.SaveFault.{SaveFault}
 use Rattle.mapping_core.specs.declared.saving.fault.SaveFault.TheVariants.{Load, Refused, Breach, FreeReference, Circular, Memory}
 use Rattle.texts.specs.change_texts.Texts.{change_shape_text, circular_text, free_reference_text, new_breach_text, refused_text, row_change_text}
 use Rattle.texts.specs.command_texts.Texts.{table_shape_text}
