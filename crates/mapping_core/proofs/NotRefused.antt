@@ -6,6 +6,8 @@ use Rattle.serde_json.specs.Data.{Data}
 use Rattle.json_form.specs.TreeParts.{tree_at}
 use Rattle.data_documents.specs.entity_documents.DocShapes.{IsDocFault}
 use Rattle.data_documents.specs.entity_documents.States.{state_in}
+use Rattle.data_documents.specs.change_documents.Changes.{changes_in}
+use Rattle.data_documents.specs.change_documents.Shapes as changes
 use Rattle.data_documents.specs.table_documents.Shapes as tables
 use Rattle.data_documents.specs.table_documents.Tables.{tables_in}
 use Rattle.round_trip.specs.Words.{AreLegalTables, Breach, EntityModel, IsBreachOf, IsLegal, RoundTrips, RuleFault, Schema, State, StoreModel, Tables}
@@ -14,7 +16,8 @@ use Rattle.table_files.proofs.table_legality.Kept.{no_breach as unbroken}
 use Rattle.state_legality.proofs.Joined.{no_first_breach}
 use Rattle.mapping_core.specs.mapping_verdict.Words.{Failure, IsFailureOf}
 use Rattle.mapping_core.specs.Rules.{IsToldRule, Means}
-use Rattle.mapping_core.specs.states.Documents.{HoldsNoState, HoldsNoTables, HoldsState, HoldsTables}
+use Rattle.entity_changes.specs.declared.change.Change.{Change}
+use Rattle.mapping_core.specs.states.Documents.{HoldsChanges, HoldsNoChanges, HoldsNoState, HoldsNoTables, HoldsState, HoldsTables}
 
 -- documents mean one schema
 pub one_meaning : (csdl ssdl msl : List ℕ) (one two : Schema) → Means csdl ssdl msl one → Means csdl ssdl msl two → one ≡ two
@@ -53,6 +56,17 @@ module _ (store : StoreModel) (bytes : List ℕ) (held_tables : Tables) (holds :
   has_tables pointer (inl none) = none-some holds.0 (sym none.0 ∙ holds.1)
   has_tables pointer (inr (d, held, fails)) =
       holds.2.shape fails.place (subst (λ (tree : Data). tables.IsDocFault store tree fails.place) (same_tree bytes d holds.0 held holds.1) fails.first.0)
+
+module _ (model : EntityModel) (bytes : List ℕ) (held_changes : List Change) (holds : HoldsChanges model bytes held_changes) where
+  -- a change document holds one list of changes
+  pub one_list : (other : List Change) → HoldsChanges model bytes other → held_changes ≡ other
+  one_list other also = holds.2.meant.is ∙ ap (changes_in model) (same_tree bytes holds.0 also.0 holds.1 also.1) ∙ sym also.2.meant.is
+
+  -- and has the right shape
+  pub has_list : (pointer : List ℕ) → ¬ HoldsNoChanges model bytes pointer
+  has_list pointer (inl none) = none-some holds.0 (sym none.0 ∙ holds.1)
+  has_list pointer (inr (d, held, fails)) =
+      holds.2.shape fails.place (subst (λ (tree : Data). changes.IsDocFault model tree fails.place) (same_tree bytes d holds.0 held holds.1) fails.first.0)
 
 -- no breach is told of a legal state
 pub no_breach : (model : EntityModel) (state : State) → IsLegal model state → (breach : Breach) → ¬ IsBreachOf model state breach

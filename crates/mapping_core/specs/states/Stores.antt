@@ -21,3 +21,7 @@ pub record IsTablesText (schema : Schema) (state : State) (text : List ℕ) : Ty
   pub tree : Data
   pub order : IsTreeInKeyOrder schema.store tables tree
   pub is : text ≡ printed tree
+
+-- the printed document of these tables, with the rows of each in the order of their primary keys
+abbrev pub IsPrintedTables : Schema → Tables → List ℕ → Type 0
+IsPrintedTables schema tables text = (tree : Data) × IsTreeInKeyOrder schema.store tables tree × (text ≡ printed tree)
