@@ -1,0 +1,28 @@
+ghost use Rattle.std.specs.Prelude.{◌≡◌, IfOk, false};
+ghost use Rattle.serde_json.specs.View.{view};
+ghost use Rattle.json_form.specs.Documents.{tree_of};
+ghost use Rattle.drill_documents.specs.Documents.{entities_tree};
+
+use crate::links::links;
+use crate::lists::{documents, people};
+use emc_base::Memory;
+use json_form::{Doc, array_tree};
+use serde_json::{Value as Tree, json};
+use std::alloc::Global;
+
+/// The entity document of a seed and a count. `Memory` comes where memory ran out.
+pub fn entities_document(alloc: Global, seed: u64, count: u32) -> Result<Doc, Memory>
+    ensures { IfOk result (λ doc. tree_of doc ≡ entities_tree seed count) }
+{
+    let tree = entities_tree(alloc, seed, count)?;
+    Ok(Doc::of_tree(tree))
+}
+
+fn entities_tree(alloc: Global, seed: u64, count: u32) -> Result<Tree, Memory>
+    ensures { IfOk result (λ tree. view tree ≡ entities_tree seed count) }
+{
+    let links = array_tree(links(alloc, seed, count)?);
+    let documents = array_tree(documents(alloc, seed, count)?);
+    let people = array_tree(people(alloc, seed, count)?);
+    Ok(json!(in alloc; {"Boss": links, "Documents": documents, "People": people})?)
+}
