@@ -5,9 +5,13 @@ use Rattle.serde_json.specs.Data.{Data}
 use Rattle.json_form.specs.Trees.{array_of, object_of}
 use Rattle.drill_documents.specs.Lists.{changes, documents, links, people}
 
--- the entity document: the links of the association set, and the entities of the two sets
+-- an entity document of this mapping: the links of the association set, and the entities of the two sets
+abbrev pub tree_of_lists : Data → Data → Data → Data
+tree_of_lists links documents people = object_of ((codes "Boss", links) ∷ (codes "Documents", documents) ∷ (codes "People", people) ∷ [])
+
+-- the entity document
 abbrev pub entities_tree : ℕ → ℕ → Data
-entities_tree seed count = object_of ((codes "Boss", array_of (links seed count)) ∷ (codes "Documents", array_of (documents seed count)) ∷ (codes "People", array_of (people seed count)) ∷ [])
+entities_tree seed count = tree_of_lists (array_of (links seed count)) (array_of (documents seed count)) (array_of (people seed count))
 
 -- the change document
 abbrev pub changes_tree : ℕ → ℕ → Data

@@ -1,7 +1,7 @@
 ghost use Rattle.std.specs.Prelude.{◌≡◌, IfOk, false};
 ghost use Rattle.serde_json.specs.View.{view};
 ghost use Rattle.json_form.specs.Documents.{tree_of};
-ghost use Rattle.drill_documents.specs.Documents.{entities_tree};
+ghost use Rattle.drill_documents.specs.Documents.{entities_tree, tree_of_lists};
 
 use crate::links::links;
 use crate::lists::{documents, people};
@@ -24,5 +24,12 @@ fn entities_tree(alloc: Global, seed: u64, count: u32) -> Result<Tree, Memory>
     let links = array_tree(links(alloc, seed, count)?);
     let documents = array_tree(documents(alloc, seed, count)?);
     let people = array_tree(people(alloc, seed, count)?);
+    tree_of_lists(alloc, links, documents, people)
+}
+
+// The entity document of its three lists.
+fn tree_of_lists(alloc: Global, links: Tree, documents: Tree, people: Tree) -> Result<Tree, Memory>
+    ensures { IfOk result (λ tree. view tree ≡ tree_of_lists (view links) (view documents) (view people)) }
+{
     Ok(json!(in alloc; {"Boss": links, "Documents": documents, "People": people})?)
 }

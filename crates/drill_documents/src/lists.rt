@@ -43,9 +43,10 @@ pub fn renamings(alloc: Global, seed: u64, count: u32) -> Result<Vec<Tree>, Memo
     for before in 0..count {
         draw = next_draw(draw);
         let id = before as u64 + 1;
-        if id % 2 == 0 {
-            trees.push(renamed(alloc, id, draw)?)?;
+        if id % 2 != 0 {
+            continue;
         }
+        trees.push(renamed(alloc, id, draw)?)?;
     }
     Ok(trees)
 }
