@@ -1,5 +1,5 @@
-ghost use Rattle.std.specs.Prelude.{◌≡◌, IfOk, string_bytes};
-ghost use Rattle.drill_documents.specs.Line.{drill_line, state_counts};
+ghost use Rattle.std.specs.Prelude.{◌≡◌, IfOk};
+ghost use Rattle.drill_documents.specs.Line.{drill_line};
 
 use emc_base::{Memory, Txt};
 use std::alloc::Global;
@@ -17,15 +17,8 @@ pub fn drill_line(
 ) -> Result<Txt, Memory>
     ensures { IfOk result (λ text. text ≡ drill_line entities links rows changes row_changes) }
 {
-    let state = state_counts(alloc, entities, links, rows)?;
-    let text = format!(in alloc; "{state} changes={changes} rowchanges={row_changes}\n")?;
+    let text = format!(in alloc;
+        "drill entities={entities} links={links} rows={rows} changes={changes} rowchanges={row_changes}\n"
+    )?;
     Ok(Txt::from_string(text))
-}
-
-// What the state holds.
-#[tactic(auto, unfolding(crate::specs::Line::state_counts))]
-fn state_counts(alloc: Global, entities: u64, links: u64, rows: u64) -> Result<String, Memory>
-    ensures { IfOk result (λ text. string_bytes text ≡ state_counts entities links rows) }
-{
-    Ok(format!(in alloc; "drill entities={entities} links={links} rows={rows}")?)
 }
