@@ -2,10 +2,11 @@
 use Rattle.std.specs.Prelude.{◌≡◌, ℕ, ◌+◌, ◌*◌, ◌/◌, ◌==◌, if◌then◌else◌, length}
 use Rattle.drill_documents.specs.Lists.{changes, documents, people}
 
--- as many people and as many documents as the count says, so twice as many entities
+-- as many people and as many documents as the count says, together twice as many entities
 pub record HasTwiceAsManyEntities (seed count : ℕ) : Type 0 where
-  pub people : length (people seed count) ≡ count
-  pub documents : length (documents seed count) ≡ count
+  pub as_many_people : length (people seed count) ≡ count
+  pub as_many_documents : length (documents seed count) ≡ count
+  pub twice_as_many : length (people seed count) + length (documents seed count) ≡ 2 * count
 
 -- half of the count, rounded down, one for who comes, and one for the document that goes, where there is one
 abbrev pub change_count : ℕ → ℕ

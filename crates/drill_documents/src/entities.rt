@@ -1,5 +1,6 @@
 ghost use Rattle.std.specs.Prelude.{◌≡◌, IfOk, false};
 ghost use Rattle.serde_json.specs.View.{view};
+ghost use Rattle.serde_json.specs.Written.{has_float};
 ghost use Rattle.json_form.specs.Documents.{tree_of};
 ghost use Rattle.drill_documents.specs.Documents.{entities_tree, tree_of_lists};
 
@@ -12,7 +13,8 @@ use std::alloc::Global;
 
 /// The entity document of a seed and a count. `Memory` comes where memory ran out.
 pub fn entities_document(alloc: Global, seed: u64, count: u32) -> Result<Doc, Memory>
-    ensures { IfOk result (λ doc. tree_of doc ≡ entities_tree seed count) }
+    ensures tree { IfOk result (λ doc. tree_of doc ≡ entities_tree seed count) }
+    ensures plain { IfOk result (λ doc. has_float (tree_of doc) ≡ false) }
 {
     let tree = entities_tree(alloc, seed, count)?;
     Ok(Doc::of_tree(tree))
