@@ -1,16 +1,15 @@
 -- How many objects there are, and whom a manager is.
-use Rattle.std.proofs.Common.{◌≡◌, ◌<◌, ◌≤◌, ◌++◌, ◌∷◌, ◌+◌, ◌/◌, ◌%◌, ◌==◌, ℕ, zero, suc, List, [], Bool, Option, None, Some, true, false, arith, ap, sym, refl, subst, ◌∙◌, cond, filter, length, map, if◌then◌else◌, nat_lt, rules}
+use Rattle.std.proofs.Common.{◌≡◌, ◌<◌, ◌≤◌, ◌++◌, ◌∷◌, ◌+◌, ◌/◌, ◌%◌, ◌==◌, ℕ, zero, suc, List, [], Bool, Option, None, Some, true, false, arith, ap, sym, refl, subst, ◌∙◌, cond, filter, length, if◌then◌else◌, nat_lt, rules}
 use Rattle.std.proofs.lemmas.List.{append-nil, length-append, length-map}
 use Rattle.std.proofs.lemmas.List.Elements.{filter-append}
 use Rattle.std.proofs.lemmas.List.FromFn.{length-range_with_len}
-use Rattle.json_form.specs.TreeParts.{items_in, list_of_items}
+use Rattle.json_form.specs.TreeParts.{items_in}
 use Rattle.json_form.specs.Trees.{array_of}
 use Rattle.serde_json.specs.Data.{Data}
-use Rattle.serde_json.specs.View.{items_of}
-use Rattle.drill_documents.specs.Counts.{HasTwiceAsManyEntities, change_count}
+use Rattle.drill_documents.specs.Counts.{change_count}
 use Rattle.drill_documents.specs.Draws.{draw}
 use Rattle.drill_documents.specs.Lists.{changes, documents, ids, last_employee, people, renamings}
-use Rattle.drill_documents.specs.Nearest.{IsNearest, IsNearestIfAny, NoEmployeeBetween}
+use Rattle.drill_documents.specs.Nearest.{IsNearestIfAny, NoEmployeeBetween}
 use Rattle.drill_documents.specs.Objects.{document, first_document_gone, hired, is_employee, person, renamed}
 use Rattle.drill_documents.proofs.Runs.{ids_more, last_employee_more}
 

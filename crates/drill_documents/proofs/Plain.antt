@@ -1,15 +1,14 @@
 -- The generated documents hold no float, so that their text is known.
-use Rattle.std.proofs.Common.{◌≡◌, ◌++◌, ◌∷◌, ◌==◌, ◌%◌, ◌+◌, ◌-◌, ◌||◌, codes, decimal, ℕ, List, [], Bool, Option, None, Some, true, false, refl, filter, filter_map, map, option_map, if◌then◌else◌}
+use Rattle.std.proofs.Common.{◌≡◌, ◌++◌, ◌∷◌, ◌==◌, ◌%◌, ◌+◌, ◌-◌, ◌||◌, codes, decimal, ℕ, List, [], Bool, Option, None, Some, true, false, refl, filter, filter_map, option_map, if◌then◌else◌}
 use Rattle.std.specs.Prelude.{⊤}
 use Rattle.std.specs.List.{cons_option}
 use Rattle.json_form.proofs.Objects.{array_of-plain}
 use Rattle.json_form.specs.Trees.{array_of}
-use Rattle.serde_json.specs.Data.{Data, null}
-use Rattle.serde_json.specs.View.{items_of}
-use Rattle.serde_json.specs.Written.{has_float, items_have_float}
+use Rattle.serde_json.specs.Data.{Data}
+use Rattle.serde_json.specs.Written.{has_float}
 use Rattle.drill_documents.specs.Documents.{changes_tree, entities_tree}
 use Rattle.drill_documents.specs.Draws.{draw}
-use Rattle.drill_documents.specs.Lists.{changes, documents, ids, last_employee, link_of, links, people, renamings, seeks_manager}
+use Rattle.drill_documents.specs.Lists.{documents, ids, last_employee, link_of, renamings, seeks_manager}
 use Rattle.drill_documents.specs.Objects.{document, employee, first_document_gone, hired, is_employee, link, person, person_named, plain_person, renamed, whole, change_of_person}
 
 named_by : (i d : ℕ) (name : List ℕ) (b : Bool) → has_float (if b then employee i name (whole d) else plain_person i name) ≡ false
@@ -62,10 +61,11 @@ last_by i true = refl
 last_by i false = refl
 
 pub entities_plain : (seed count : ℕ) → has_float (entities_tree seed count) ≡ false
-entities_plain seed count = rw
-    (links_by seed (ids count)
-    , array_of-plain (λ i. document i (draw seed i)) (ids count) (λ i. document_by i (draw seed i) (draw seed i % 5 == 0) refl)
-    , array_of-plain (λ i. person i (draw seed i)) (ids count) (λ i. person_plain i (draw seed i) (codes "n" ++ decimal (draw seed i)))) refl
+entities_plain seed count = rw (
+  links_by seed (ids count),
+  array_of-plain (λ i. document i (draw seed i)) (ids count) (λ i. document_by i (draw seed i) (draw seed i % 5 == 0) refl),
+  array_of-plain (λ i. person i (draw seed i)) (ids count) (λ i. person_plain i (draw seed i) (codes "n" ++ decimal (draw seed i))),
+) refl
 
 pub changes_plain : (seed count : ℕ) → has_float (changes_tree seed count) ≡ false
 changes_plain seed count =

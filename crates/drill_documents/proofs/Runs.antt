@@ -1,14 +1,12 @@
 -- Draws and lists by one Id more.
-use Rattle.std.proofs.Common.{◌≡◌, ◌<◌, ◌++◌, ◌∷◌, ◌+◌, ◌-◌, ◌%◌, ◌==◌, ℕ, zero, suc, List, [], Bool, Option, None, Some, arith, ap, sym, refl, ◌∙◌, cond, filter, filter_map, map, option_map, option_to_list, true, false, if◌then◌else◌}
+use Rattle.std.proofs.Common.{◌≡◌, ◌<◌, ◌++◌, ◌∷◌, ◌+◌, ◌-◌, ℕ, zero, suc, List, [], Bool, Option, None, Some, arith, ap, sym, refl, ◌∙◌, cond, filter, filter_map, map, option_map, option_to_list, true, false, if◌then◌else◌}
 use Rattle.std.proofs.lemmas.List.{append-nil, map-id, map-append}
 use Rattle.std.proofs.lemmas.List.Elements.{filter-append, filter_map-append}
 use Rattle.std.proofs.lemmas.List.FromFn.{map-range_with_len_more}
-use Rattle.std.proofs.lemmas.Nat.{mod_below}
 use Rattle.std.specs.List.{cons_option, last_or}
-use Rattle.serde_json.specs.Data.{Data}
 use Rattle.drill_documents.specs.Draws.{draw, draw_after}
-use Rattle.drill_documents.specs.Objects.{document, is_employee, link, person, renamed}
-use Rattle.drill_documents.specs.Lists.{documents, ids, last_employee, link_of, links, people, renamings, seeks_manager}
+use Rattle.drill_documents.specs.Objects.{document, is_employee, link, person}
+use Rattle.drill_documents.specs.Lists.{documents, ids, last_employee, link_of, links, people, seeks_manager}
 
 -- a draw is below the modulus
 pub draw_small : (seed i : ℕ) → draw seed i < 65537

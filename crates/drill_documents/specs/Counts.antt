@@ -1,6 +1,6 @@
 -- How many objects the generated documents hold.
 use Rattle.std.specs.Prelude.{◌≡◌, ℕ, ◌+◌, ◌*◌, ◌/◌, ◌==◌, if◌then◌else◌, length}
-use Rattle.drill_documents.specs.Lists.{changes, documents, people}
+use Rattle.drill_documents.specs.Lists.{documents, people}
 
 -- as many people and as many documents as the count says, together twice as many entities
 pub record HasTwiceAsManyEntities (seed count : ℕ) : Type 0 where

@@ -1,5 +1,5 @@
--- The manager of an employee.
-use Rattle.std.specs.Prelude.{◌≡◌, ◌<◌, ◌≤◌, ℕ, ⊤, Option, Some, None, true, false}
+-- Who the manager of an Employee is.
+use Rattle.std.specs.Prelude.{◌≡◌, ◌<◌, ◌≤◌, ℕ, Option, Some, None, true, false}
 use Rattle.drill_documents.specs.Draws.{draw}
 use Rattle.drill_documents.specs.Objects.{is_employee}
 

@@ -28,11 +28,15 @@ person_named i d name = if is_employee d then employee i name (whole d) else pla
 abbrev pub person : ℕ → ℕ → Data
 person i d = person_named i d (codes "n" ++ decimal d)
 
--- document i: the title is the letter t and the Id; a Report, whose pages are the draw, where the draw is a multiple of 5
+-- whether the document of a draw is a Report: where it is a multiple of 5
+abbrev pub is_report : ℕ → Bool
+is_report d = d % 5 == 0
+
+-- document i: the title is the letter t and the Id; a Report, whose pages are the draw, or a plain Document
 abbrev pub document : ℕ → ℕ → Data
-document i d = if d % 5 == 0
-    then object_of ((codes "$type", string (codes "N.Report")) ∷ (codes "Id", whole i) ∷ (codes "Pages", whole d) ∷ (codes "Title", string (codes "t" ++ decimal i)) ∷ [])
-    else object_of ((codes "$type", string (codes "N.Document")) ∷ (codes "Id", whole i) ∷ (codes "Title", string (codes "t" ++ decimal i)) ∷ [])
+document i d = let title = string (codes "t" ++ decimal i) in if is_report d
+    then object_of ((codes "$type", string (codes "N.Report")) ∷ (codes "Id", whole i) ∷ (codes "Pages", whole d) ∷ (codes "Title", title) ∷ [])
+    else object_of ((codes "$type", string (codes "N.Document")) ∷ (codes "Id", whole i) ∷ (codes "Title", title) ∷ [])
 
 -- the link of Employee i to a manager
 abbrev pub link : ℕ → ℕ → Data

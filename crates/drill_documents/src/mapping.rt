@@ -1,4 +1,4 @@
-ghost use Rattle.std.specs.Prelude.{◌≡◌, IfOk};
+ghost use Rattle.std.specs.Prelude.{IfOk};
 ghost use Rattle.drill_documents.specs.Mapping.{IsDrillMapping};
 
 use emc_base::{Bin, Memory};
