@@ -2,13 +2,13 @@
 #![tactic(auto)]
 
 mod asked;
+mod changes;
 mod conditions;
 mod conflicts;
 mod dangling;
 mod data;
 mod mappings;
 mod models;
-mod nodes;
 mod owners;
 mod printing;
 mod region_counts;

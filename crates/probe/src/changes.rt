@@ -1,0 +1,5 @@
+mod changed;
+mod planned;
+
+pub use changed::put_changed;
+pub use planned::put_planned;
