@@ -16,15 +16,15 @@ pub const CSDL: &str = r#"{
     {
       "Name": "Person",
       "Key": ["Id"],
-      "Property": [{"Name": "Id", "Type": "Int32", "Nullable": false}, {"Name": "Name", "Type": "String", "MaxLength": 20}]
+      "Property": [{"Name": "Id", "Type": "Int32", "Nullable": false}, {"Name": "Name", "Type": "String", "Nullable": false, "MaxLength": 20}]
     },
     {"Name": "Employee", "BaseType": "N.Person", "Property": [{"Name": "Level", "Type": "Int32"}]},
     {
       "Name": "Document",
       "Key": ["Id"],
-      "Property": [{"Name": "Id", "Type": "Int32", "Nullable": false}, {"Name": "Title", "Type": "String", "MaxLength": 20}]
+      "Property": [{"Name": "Id", "Type": "Int32", "Nullable": false}, {"Name": "Title", "Type": "String", "Nullable": false, "MaxLength": 20}]
     },
-    {"Name": "Report", "BaseType": "N.Document", "Property": [{"Name": "Pages", "Type": "Int32"}]}
+    {"Name": "Report", "BaseType": "N.Document", "Property": [{"Name": "Pages", "Type": "Int32", "Nullable": false}]}
   ],
   "Association": [
     {
@@ -47,8 +47,8 @@ pub const SSDL: &str = r#"{
       "Key": ["Id"],
       "Property": [
         {"Name": "Id", "Type": "int", "Nullable": false},
-        {"Name": "Name", "Type": "nvarchar", "MaxLength": 20},
-        {"Name": "Kind", "Type": "nvarchar", "MaxLength": 1},
+        {"Name": "Name", "Type": "nvarchar", "Nullable": false, "MaxLength": 20},
+        {"Name": "Kind", "Type": "nvarchar", "Nullable": false, "MaxLength": 1},
         {"Name": "Level", "Type": "int"},
         {"Name": "BossId", "Type": "int"}
       ]
@@ -56,9 +56,9 @@ pub const SSDL: &str = r#"{
     {
       "Name": "Documents",
       "Key": ["Id"],
-      "Property": [{"Name": "Id", "Type": "int", "Nullable": false}, {"Name": "Title", "Type": "nvarchar", "MaxLength": 20}]
+      "Property": [{"Name": "Id", "Type": "int", "Nullable": false}, {"Name": "Title", "Type": "nvarchar", "Nullable": false, "MaxLength": 20}]
     },
-    {"Name": "Reports", "Key": ["Id"], "Property": [{"Name": "Id", "Type": "int", "Nullable": false}, {"Name": "Pages", "Type": "int"}]}
+    {"Name": "Reports", "Key": ["Id"], "Property": [{"Name": "Id", "Type": "int", "Nullable": false}, {"Name": "Pages", "Type": "int", "Nullable": false}]}
   ],
   "Association": [
     {

@@ -53,6 +53,8 @@ pub enum Asked {
     Planned,
     /// Of M, entities and changes: the state afterwards, printed.
     Changed,
+    /// Of M, S, P, tables and changes: how many steps saving takes, the changes of rows and the tables afterwards.
+    Saved,
 }
 
 impl Asked {
@@ -123,6 +125,7 @@ impl Asked {
         match word {
             "planned" => Some(Asked::Planned),
             "changed" => Some(Asked::Changed),
+            "saved" => Some(Asked::Saved),
             _ => None,
         }
     }

@@ -3,16 +3,16 @@ ghost use Rattle.round_trip.specs.Words.{AreLegalTables};
 ghost use Rattle.round_trip.specs.soundness.Stores.{IsSoundStore};
 
 use crate::data::{DataKind, Refusal, put_judged};
+use crate::changes::lines::put_row_changes;
 use crate::printing::put_text;
 use data_documents::tables_of_doc;
 use edm_types::{Breach, StoreModel};
 use json_form::Doc;
-use row_changes::RowChange;
 use row_plans::{RowPlan, plan_rows};
 use ssdl_model::read_ssdl;
 use std::alloc::Global;
 use table_files::{Tables, first_breach};
-use texts::{circular_text, row_change_text};
+use texts::circular_text;
 
 /// Puts a line for each change of a row from old tables to new ones, in an order in which each keeps all keys; or the line of a cycle of them. Where the store
 /// breaks a rule, or tables are of another shape or not legal, it puts what is judged of the first such document.
@@ -111,7 +111,7 @@ fn put_between(
 {
     match plan_rows(alloc, store, old, new) {
         Ok(RowPlan::Steps(changes)) => {
-            let put = put_changes(alloc, text, store, changes.as_slice());
+            let put = put_row_changes(alloc, text, store, changes.as_slice());
             drop(changes);
             put
         }
@@ -122,17 +122,4 @@ fn put_between(
         }
         Err(_) => None,
     }
-}
-
-// Puts a line for each change of a row.
-fn put_changes(
-    alloc: Global,
-    text: &mut String,
-    store: &StoreModel,
-    changes: &[RowChange],
-) -> Option<()> {
-    for change in changes {
-        put_text(text, row_change_text(alloc, store, change))?;
-    }
-    Some(())
 }
