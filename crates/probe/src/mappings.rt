@@ -56,13 +56,13 @@ pub fn put_of_documents(
 }
 
 // The same of three documents: a store with tables before and afterwards, a model with entities and changes, or a mapping's.
-fn put_of_three(
+fn put_of_three<'a>(
     alloc: Global,
     text: &mut String,
     asked: Asked,
     vocabulary: &Doc,
-    one: &Doc,
-    other: &Doc,
+    one: &'a Doc,
+    other: &'a Doc,
 ) -> Option<()> {
     match asked {
         Asked::Planned => put_planned(alloc, text, vocabulary, one, other),
