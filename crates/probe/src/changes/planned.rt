@@ -2,8 +2,8 @@ ghost use Rattle.std.specs.Prelude.{IfOk};
 ghost use Rattle.round_trip.specs.Words.{AreLegalTables};
 ghost use Rattle.round_trip.specs.soundness.Stores.{IsSoundStore};
 
-use crate::data::{DataKind, Refusal, put_judged};
 use crate::changes::lines::put_row_changes;
+use crate::data::{DataKind, Refusal, put_judged};
 use crate::printing::put_text;
 use data_documents::tables_of_doc;
 use edm_types::{Breach, StoreModel};

@@ -9,9 +9,7 @@ use mapping_core::{
     Change, Compiled, SaveFault, Saved, Tables, compile, read_changes, read_tables, save,
 };
 use std::alloc::Global;
-use texts::{
-    circular_text, free_reference_text, new_breach_text, refused_text,
-};
+use texts::{circular_text, free_reference_text, new_breach_text, refused_text};
 
 /// Puts how many steps saving changes of tables takes by a mapping, the row changes and the tables afterwards; or the line of why they aren't saved. `None` where
 /// the mapping isn't accepted, a document has another shape, or the tables tell no state.
@@ -138,9 +136,17 @@ fn put_tables(alloc: Global, text: &mut String, store: &StoreModel, tables: &Tab
 }
 
 // Puts the line of why changes aren't saved.
-fn put_fault(alloc: Global, text: &mut String, store: &StoreModel, fault: &SaveFault) -> Option<()> {
+fn put_fault(
+    alloc: Global,
+    text: &mut String,
+    store: &StoreModel,
+    fault: &SaveFault,
+) -> Option<()> {
     match fault {
-        SaveFault::Refused { index, reason } => put_text(text, refused_text(alloc, *index, *reason)),
+        SaveFault::Refused { index, reason } => put_text(
+            text,
+            refused_text(alloc, *index, *reason),
+        ),
         SaveFault::Breach(breach) => put_text(text, new_breach_text(alloc, breach)),
         SaveFault::FreeReference(place) => put_text(text, free_reference_text(alloc, place)),
         SaveFault::Circular(ring) => put_text(text, circular_text(alloc, store, ring.as_slice())),
