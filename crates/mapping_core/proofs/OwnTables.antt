@@ -6,7 +6,7 @@ use Rattle.std.proofs.lemmas.List.Sorted.{All-permutation}
 use Rattle.std.proofs.lemmas.List.{map-id}
 use Rattle.emc_base.proofs.Lists.{all_from_members}
 use Rattle.emc_base.proofs.Mapped.{all_zip-map}
-use Rattle.round_trip.specs.Words.{TableId, ColId, ForeignKey, Null, Row, Schema, State, Tables, AreLegalTables, AreSameTables, AreTables, HasAllowedNullCells, HasCellsInDomain, HasDemandedCells, IsErasedRow, IsFree, IsLegal, KeepsForeignKey, TablesAre, cell_of, cells_of, row_key, rows_in}
+use Rattle.round_trip.specs.Words.{TableId, ColId, ForeignKey, Null, Row, Schema, State, StoreModel, Tables, AreLegalTables, AreSameTables, AreTables, HasAllowedNullCells, HasCellsInDomain, HasDemandedCells, IsErasedRow, IsFree, IsLegal, KeepsForeignKey, TablesAre, cell_of, cells_of, row_key, rows_in}
 use Rattle.round_trip.specs.legality.LegalTables.{FindsRow, Refers}
 use Rattle.schema_laws.proofs.state_demand.tables.SameTables.{same_tables}
 use Rattle.schema_laws.proofs.same_states.Reordered.{all_in_any_order, any_in_any_order, pairs_in_any_order}

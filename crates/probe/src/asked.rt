@@ -49,6 +49,12 @@ pub enum Asked {
     Keys,
     /// All entities of the first set, lent.
     Lent,
+    /// Of S, tables and tables: the changes of rows from the one to the others.
+    Planned,
+    /// Of M, entities and changes: the state afterwards, printed.
+    Changed,
+    /// Of M, S, P, tables and changes: how many steps saving takes, the changes of rows and the tables afterwards.
+    Saved,
 }
 
 impl Asked {
@@ -62,7 +68,11 @@ impl Asked {
         if asked.is_some() {
             return asked;
         }
-        Asked::of_data(word)
+        let asked = Asked::of_data(word);
+        if asked.is_some() {
+            return asked;
+        }
+        Asked::of_changes(word)
     }
 
     // The same of a model, or of a store and its tables.
@@ -106,6 +116,16 @@ impl Asked {
             "shown" => Some(Asked::Shown),
             "keys" => Some(Asked::Keys),
             "lent" => Some(Asked::Lent),
+            _ => None,
+        }
+    }
+
+    // The same of changes.
+    fn of_changes(word: &str) -> Option<Asked> {
+        match word {
+            "planned" => Some(Asked::Planned),
+            "changed" => Some(Asked::Changed),
+            "saved" => Some(Asked::Saved),
             _ => None,
         }
     }

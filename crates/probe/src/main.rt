@@ -2,19 +2,20 @@
 #![tactic(auto)]
 
 mod asked;
+mod changes;
 mod conditions;
 mod conflicts;
 mod dangling;
 mod data;
 mod mappings;
 mod models;
-mod nodes;
 mod owners;
 mod printing;
 mod region_counts;
 mod views;
 
 use asked::Asked;
+use changes::put_saved;
 use emc_base::{Bin, Txt};
 use emc_files::{DiskFiles, Files, OutSink, Sink};
 use json_form::Doc;
@@ -51,22 +52,51 @@ fn put_answer(rt: &HostRuntime, text: &mut String) -> Option<()> {
     let mut words = env::args(rt).ok()?;
     words.next()?;
     let asked = Asked::of(words.next()?.as_str())?;
-    let documents = documents_in(rt.alloc(), &mut DiskFiles::new(rt), words)?;
-    put_of_documents(rt.alloc(), text, asked, documents.as_slice())
+    let contents = contents_of(rt.alloc(), &mut DiskFiles::new(rt), words)?;
+    match asked {
+        Asked::Saved => put_of_contents(rt.alloc(), text, contents.as_slice()),
+        _ => put_of_parsed(rt.alloc(), text, asked, contents.as_slice()),
+    }
 }
 
-// The documents in files.
-fn documents_in<F: Files>(alloc: Global, files: &mut F, names: Args) -> Option<Vec<Doc>> {
-    let mut documents = Vec::new(alloc);
+// Puts what saving answers.
+fn put_of_contents(alloc: Global, text: &mut String, contents: &[Bin]) -> Option<()> {
+    match contents {
+        [csdl, ssdl, msl, tables, changes] => {
+            put_saved(alloc, text, csdl, ssdl, msl, tables, changes)
+        }
+        _ => None,
+    }
+}
+
+// Puts what is asked of the documents that these are.
+fn put_of_parsed(alloc: Global, text: &mut String, asked: Asked, contents: &[Bin]) -> Option<()> {
+    let documents = documents_in(alloc, contents)?;
+    let put = put_of_documents(alloc, text, asked, documents.as_slice());
+    drop(documents);
+    put
+}
+
+// The contents of files.
+fn contents_of<F: Files>(alloc: Global, files: &mut F, names: Args) -> Option<Vec<Bin>> {
+    let mut contents = Vec::new(alloc);
     for name in names {
-        documents.push(document(alloc, files, name)?).ok()?;
+        contents.push(content(alloc, files, name)?).ok()?;
+    }
+    Some(contents)
+}
+
+// The content of a file.
+fn content<F: Files>(alloc: Global, files: &mut F, name: String) -> Option<Bin> {
+    let name = Txt::from_string(name);
+    files.read(alloc, &name, LARGEST_FILE).ok()
+}
+
+// The documents that these are.
+fn documents_in(alloc: Global, contents: &[Bin]) -> Option<Vec<Doc>> {
+    let mut documents = Vec::new(alloc);
+    for content in contents {
+        documents.push(Doc::of_bytes(alloc, content).ok()?).ok()?;
     }
     Some(documents)
-}
-
-// The document in a file.
-fn document<F: Files>(alloc: Global, files: &mut F, name: String) -> Option<Doc> {
-    let name = Txt::from_string(name);
-    let bytes: Bin = files.read(alloc, &name, LARGEST_FILE).ok()?;
-    Doc::of_bytes(alloc, &bytes).ok()
 }

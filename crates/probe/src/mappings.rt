@@ -7,6 +7,7 @@ ghost use Rattle.round_trip.specs.soundness.models.Models.{IsSoundModel};
 ghost use Rattle.round_trip.specs.soundness.Stores.{IsSoundStore};
 
 use crate::asked::Asked;
+use crate::changes::{put_changed, put_planned};
 use crate::conditions::{put_selected, put_shown};
 use crate::conflicts::{put_conflicts, put_failure};
 use crate::dangling::{put_dangling, put_forced, put_forced_again};
@@ -45,20 +46,40 @@ pub fn put_of_documents(
     match documents {
         [csdl] => put_of_model(alloc, text, asked, csdl, None),
         [vocabulary, data] => put_of_data(alloc, text, asked, vocabulary, data),
-        [csdl, ssdl, msl] => {
-            let data = None;
-            put_of_three(alloc, text, asked, csdl, Above { ssdl, msl, data })
-        }
+        [vocabulary, one, other] => put_of_three(alloc, text, asked, vocabulary, one, other),
         [csdl, ssdl, msl, data] => {
             let data = Some(data);
-            put_of_three(alloc, text, asked, csdl, Above { ssdl, msl, data })
+            put_of_mapping(alloc, text, asked, csdl, Above { ssdl, msl, data })
         }
         _ => None,
     }
 }
 
+// The same of three documents: a store with tables before and afterwards, a model with entities and changes, or a mapping's.
+fn put_of_three<'a>(
+    alloc: Global,
+    text: &mut String,
+    asked: Asked,
+    vocabulary: &Doc,
+    one: &'a Doc,
+    other: &'a Doc,
+) -> Option<()> {
+    match asked {
+        Asked::Planned => put_planned(alloc, text, vocabulary, one, other),
+        Asked::Changed => put_changed(alloc, text, vocabulary, one, other),
+        _ => {
+            let above = Above {
+                ssdl: one,
+                msl: other,
+                data: None,
+            };
+            put_of_mapping(alloc, text, asked, vocabulary, above)
+        }
+    }
+}
+
 // The same of a mapping's documents.
-fn put_of_three(
+fn put_of_mapping(
     alloc: Global,
     text: &mut String,
     asked: Asked,

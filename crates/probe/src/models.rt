@@ -1,16 +1,18 @@
 ghost use Rattle.round_trip.specs.Words.{IsState};
 ghost use Rattle.round_trip.specs.soundness.models.Models.{IsSoundModel};
 
+mod nodes;
+
 use crate::asked::Asked;
-use crate::data::{DataKind, Refusal, judge_entities, judge_tables, text_of};
-use crate::nodes::put_nodes;
+use crate::data::{DataKind, judge_entities, judge_tables, put_judged};
 use crate::printing::{put, put_bytes};
 use csdl_model::read_csdl;
 use data_documents::state_of_doc;
-use edm_types::{Breach, EntityModel, Link, subtree};
+use edm_types::{EntityModel, Link, subtree};
 use emc_base::{AssocId, Seq, TypeId};
 use entity_state::EntityState;
 use json_form::Doc;
+use nodes::put_nodes;
 use std::alloc::Global;
 
 /// Puts what is asked of a document of data.
@@ -32,18 +34,6 @@ pub fn put_of_data(
         }
         _ => put_of_model(alloc, text, asked, vocabulary, Some(data)),
     }
-}
-
-// Puts what is judged of a document of data.
-fn put_judged(
-    alloc: Global,
-    text: &mut String,
-    kind: DataKind,
-    judged: Result<Option<Breach>, Refusal>,
-) -> Option<()> {
-    let told = text_of(alloc, kind, &judged);
-    drop(judged);
-    text.push_str(told.ok()?.as_str()).ok()
 }
 
 /// Puts what is asked of a model, and of a document of data where there is one.

@@ -1,5 +1,5 @@
 use edm_types::Entity;
-use emc_base::{Key, Value};
+use emc_base::{Key, Memory, Txt, Value};
 use json_form::{key_tree, value_tree};
 use std::alloc::Global;
 
@@ -28,6 +28,14 @@ pub fn put_value(alloc: Global, text: &mut String, value: &Value) -> Option<()> 
     let tree = value_tree(alloc, value).ok()?;
     let shown = tree.to_string(alloc).ok()?;
     text.push_str(shown.as_str()).ok()
+}
+
+/// Puts a text that is told; `None` where memory ran out, also before.
+pub fn put_text(text: &mut String, told: Result<Txt, Memory>) -> Option<()> {
+    let told = told.ok()?;
+    let put = text.push_str(told.as_str()).ok();
+    drop(told);
+    put
 }
 
 /// Puts bytes, which are those of a text.

@@ -1,9 +1,9 @@
 -- Lists whose items stand beside one another, of which one is put into another order.
-use Rattle.std.proofs.Common.{◌≡◌, ◌<◌, ℕ, zero, suc, List, [], ◌∷◌, length, get_or, IsPermutation, refl, sym, subst, ap, ◌∙◌, tt, arith}
+use Rattle.std.proofs.Common.{◌≡◌, ◌<◌, ℕ, zero, suc, List, [], ◌∷◌, length, get_or, IsPermutation, refl, sym, subst, ap, arith}
 use Rattle.std.proofs.Math.ListN.{set}
 use Rattle.std.specs.List.{AllZip, swap}
 use Rattle.std.proofs.lemmas.List.Edits.{swap_is}
-use Rattle.std.proofs.lemmas.List.Sorted.{IsPermutation-keeps, IsPermutation-refl, IsPermutation-swap, IsPermutation-trans}
+use Rattle.std.proofs.lemmas.List.Sorted.{IsPermutation-keeps, IsPermutation-refl, IsPermutation-trans}
 
 module _ {X Y : Type 0} (R : X → Y → Type 0) where
   as_long : (xs : List X) (ys : List Y) → AllZip R xs ys → length xs ≡ length ys

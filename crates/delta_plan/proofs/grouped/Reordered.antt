@@ -1,5 +1,5 @@
 -- Fresh tables in the order of the kept ones.
-use Rattle.std.proofs.Common.{◌≡◌, ◌<◌, ◌≤◌, ℕ, List, [], All, length, ⊎_elim, subst, sym}
+use Rattle.std.proofs.Common.{◌≡◌, ◌<◌, ◌≤◌, ℕ, List, [], length, ⊎_elim, subst, sym}
 use Rattle.std.proofs.lemmas.Bool.{cases_lt}
 use Rattle.std.proofs.lemmas.List.Sorted.{All-permutation, IsPermutation-refl}
 use Rattle.std.proofs.lemmas.Option.{slice_get_within}
@@ -12,7 +12,6 @@ use Rattle.cells.specs.declared.cells.Cells.{Cells}
 use Rattle.delta_plan.specs.Keeping.{AreKeptInOrder, Free}
 use Rattle.delta_plan.proofs.grouped.Beside.{moved_beside}
 use Rattle.delta_plan.proofs.grouped.Chosen.{chosen}
-use Rattle.delta_plan.proofs.grouped.Tabled.{IsMade}
 
 module _ (store : StoreModel) (cells : Cells) (tables fresh kept : Tables) (in_order : AreKeptInOrder store cells tables fresh kept) (are : AreTables store fresh) where
   abbrev Keeps : TableId → Table → Row → Row → Type 0
@@ -26,7 +25,7 @@ module _ (store : StoreModel) (cells : Cells) (tables fresh kept : Tables) (in_o
       let found = item_at store.tables t.index within in
       let beside = moved_beside (Keeps t found.0) (rows_in fresh t) (rows_in in_order.paired t) (rows_in kept t) (in_order.keeps.rows t found.0 found.1) (in_order.same t) in
       let Beside : Table → Type 0 = λ table. AllZip (Keeps t table) beside.others (rows_in kept t) in
-      (beside.others, beside.moved, λ table at. subst Beside (at_once store.tables t.index found.0 table found.1 at) beside.beside)
+      (beside.others, (beside.moved, λ table at. subst Beside (at_once store.tables t.index found.0 table found.1 at) beside.beside))
 
   -- the fresh tables in the order of the kept ones
   pub record AreInOrderOfKept : Type 0 where

@@ -1,6 +1,6 @@
 -- What is accepted is saved.
-use Rattle.std.proofs.Common.{◌≡◌, List, Result, Ok, Err, refl, sym, subst, absurd}
-use Rattle.round_trip.specs.Words.{AreKept, AreSameTables, IsLegal, IsSameState, IsState, Schema, State, Tables}
+use Rattle.std.proofs.Common.{List, Result, Ok, Err, refl, sym, subst}
+use Rattle.round_trip.specs.Words.{AreSameTables, IsSameState, IsState, Schema, State, Tables}
 use Rattle.schema_laws.proofs.same_states.SameState.{as_legal}
 use Rattle.state_legality.proofs.Joined.{no_first_breach}
 use Rattle.table_files.proofs.table_legality.Kept.{no_breach}

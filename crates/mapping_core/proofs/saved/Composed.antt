@@ -1,8 +1,7 @@
 -- What is told of saving, by what its parts told.
-use Rattle.std.proofs.Common.{◌≡◌, ◌⊎◌, ◌∙◌, ℕ, List, Result, Ok, Err, IsErrAnd, inl, refl, sym, subst, absurd}
-use Rattle.round_trip.specs.Words.{AreKept, AreLegalTables, IsLegal, Schema, State, Tables}
+use Rattle.std.proofs.Common.{◌≡◌, ℕ, List, Ok, Err, inl, refl, sym, subst}
+use Rattle.round_trip.specs.Words.{Schema, State, Tables}
 use Rattle.entity_changes.specs.Changes.{after}
-use Rattle.entity_changes.specs.Refusals.{AreAccepted}
 use Rattle.entity_changes.specs.declared.change.Change.{Change}
 use Rattle.row_changes.specs.Differences.{AreBothLegal}
 use Rattle.row_changes.specs.declared.change.RowChange.{RowChange}
@@ -12,7 +11,6 @@ use Rattle.mapping_core.specs.declared.loading.LoadFault.{LoadFault}
 use Rattle.mapping_core.specs.declared.loading.LoadFault.TheVariants as load
 use Rattle.mapping_core.specs.declared.saving.fault.SaveFault.{SaveFault}
 use Rattle.mapping_core.specs.declared.saving.fault.SaveFault.TheVariants.{Load, Refused, Breach, FreeReference, Circular, Memory}
-use Rattle.mapping_core.specs.declared.saving.saved.Saved.{Saved}
 use Rattle.mapping_core.specs.states.Loads.{Loads}
 use Rattle.mapping_core.specs.states.Saves.{AreKeptAfter, AreSaved, LeadTo, Saves, Tell}
 use Rattle.mapping_core.specs.states.SaveParts.{AreKeptInKeyOrder, CanBePlannedFor, ChangesTo, CountsPlanned, IsOfLoad, KeepsTables, PlansForKept}

@@ -1,8 +1,8 @@
 -- Kept tables whose rows follow those of fresh tables in another order, and free columns that are told in two ways.
-use Rattle.std.proofs.Common.{◌≡◌, ◌<◌, ◌≤◌, List, [], All, IsPermutation, length, ⊎_elim, subst, sym}
+use Rattle.std.proofs.Common.{◌≡◌, ◌<◌, ◌≤◌, List, [], ◌∷◌, IsPermutation, length, ⊎_elim, subst, sym}
 use Rattle.std.proofs.lemmas.Bool.{cases_lt}
-use Rattle.std.proofs.lemmas.List.Elements.{All-permutation, All-weaker}
-use Rattle.std.proofs.lemmas.List.Sorted.{IsPermutation-refl}
+use Rattle.std.proofs.lemmas.List.Elements.{All-weaker}
+use Rattle.std.proofs.lemmas.List.Sorted.{All-permutation, IsPermutation-refl}
 use Rattle.std.proofs.lemmas.Option.{slice_get_within}
 use Rattle.std.specs.List.{AllZip}
 use Rattle.edm_types.proofs.Lookups.{rows_beyond}
@@ -54,8 +54,7 @@ module _ (store : StoreModel) (Free : TableId → ColId → Type 0) (old fresh k
       (flipped (Keeps t found.0) (rows_in fresh t) (rows_in kept t) (keeps.rows t found.0 found.1)) (same t) in
       let Follows : Table → Type 0 = λ table. AllZip (Keeps t table) (rows_in others t) beside.others in (
         beside.others,
-        beside.moved,
-        λ table at. subst Follows (at_once store.tables t.index found.0 table found.1 at) (flipped Back beside.others (rows_in others t) beside.beside),
+        (beside.moved, λ table at. subst Follows (at_once store.tables t.index found.0 table found.1 at) (flipped Back beside.others (rows_in others t) beside.beside)),
       )
 
   pub record Followers : Type 0 where

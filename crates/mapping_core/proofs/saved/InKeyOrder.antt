@@ -1,6 +1,5 @@
 -- The tables of a state with free columns kept, in the order of keys.
 use Rattle.round_trip.specs.Words.{ColId, IsFree, State, TableId, Tables, TablesAre}
-use Rattle.cells.specs.Cells.{is_free_in}
 use Rattle.cells.specs.Parts.{AreParts, schema_in}
 use Rattle.cells.specs.declared.parts.Parts.{Parts}
 use Rattle.schema_laws.proofs.same_states.SameTables.{tables_moved}

@@ -1,12 +1,12 @@
 -- The rows of kept tables of a legal state break no rule but that of foreign keys.
-use Rattle.std.proofs.Common.{◌≡◌, ◌≢◌, ◌⊎◌, ◌<◌, ⊎_elim, ℕ, List, All, AllPairs, Contains, false, true, IsTrue, refl, sym, subst, ◌∙◌}
+use Rattle.std.proofs.Common.{◌≡◌, ◌≢◌, ◌⊎◌, ⊎_elim, ℕ, List, AllPairs, Contains, IsTrue, sym, ap, subst, ◌∙◌}
 use Rattle.std.proofs.lemmas.Bool.{true≢false}
 use Rattle.std.proofs.lemmas.List.Elements.{All-contains}
 use Rattle.std.proofs.lemmas.Option.{get_or_from_slice_get, slice_get_within}
 use Rattle.emc_base.proofs.Lists.{all_from_members}
 use Rattle.emc_base.proofs.Mapped.{contains_at}
 use Rattle.round_trip.specs.Words.{AreLegalTables, At, Breach, ColId, Column, InDomain, IsKeptRow, KeepsFree, Null, Place, Row, StoreModel, Table, TableId, Tables, Value, cell_of, row_key, rows_in}
-use Rattle.round_trip.specs.legality.TableBreaches.{BreaksCellDomain, BreaksForeignKey, BreaksNullCell, BreaksRowKey, BreaksTableRule, IsBreachOfTables, StandsAtColumn}
+use Rattle.round_trip.specs.legality.TableBreaches.{BreaksCellDomain, BreaksForeignKey, BreaksNullCell, BreaksRowKey, IsBreachOfTables}
 use Rattle.delta_plan.proofs.grouped.Keyed.{rising_apart}
 use Rattle.delta_plan.proofs.resting.Alike.{beside_right}
 use Rattle.mapping_core.specs.states.Saves.{AreInKeyOrder}
@@ -61,7 +61,8 @@ module _ (store : StoreModel) (Free : TableId → ColId → Type 0) (tables fres
       let rows : List Row = rows_in kept t in
       let apart : AllPairs (λ row other. row_key two.table row ≢ row_key two.table other) rows = rising_apart two.table.key rows (in_order t two.table two.stands.is_table) in
       apart two.earlier two.i two.row two.before (slice_get_within rows two.i two.row two.stands.is_row)
-      (λ i. row_key two.table ((get_or_from_slice_get rows two.earlier two.other two.row two.other_stands.is_row ∙ refl) i))
+      (ap (row_key two.table) (get_or_from_slice_get rows two.earlier two.other two.row two.other_stands.is_row) ∙ two.same
+      ∙ sym (ap (row_key two.table) (get_or_from_slice_get rows two.i two.row two.row two.stands.is_row)))
 
   -- the first rule that they break is that of foreign keys
   pub only_references : (breach : Breach) → IsBreachOfTables store kept breach → IsBreachOfTables store kept (record { rule = 4; place = breach.place })

@@ -1,5 +1,5 @@
 -- Faults that are handed on.
-use Rattle.std.proofs.Common.{◌≡◌, Result, Ok, Err, IsErrAnd, List, sym, subst, absurd}
+use Rattle.std.proofs.Common.{◌≡◌, Result, Ok, Err, IsErrAnd, List, sym, subst}
 use Rattle.round_trip.specs.Words.{EntityModel, State}
 use Rattle.entity_changes.specs.Applying.{TellsApplied}
 use Rattle.entity_changes.specs.declared.change.Change.{Change}

@@ -1,12 +1,12 @@
 -- Tables with free columns kept are the same in whatever order those were that are kept.
-use Rattle.std.proofs.Common.{◌≡◌, ◌≢◌, ◌⊎◌, ⊎_elim, ◌<◌, ◌≤◌, List, [], ◌∷◌, All, Bool, Contains, IsPermutation, IsTrue, length, refl, sym, subst, ap, ◌∙◌, arith}
+use Rattle.std.proofs.Common.{◌≡◌, ◌≢◌, ⊎_elim, ◌<◌, ◌≤◌, List, [], ◌∷◌, All, Bool, Contains, IsPermutation, IsTrue, length, refl, sym, subst, ◌∙◌}
 use Rattle.std.specs.List.{AllZip}
 use Rattle.std.proofs.lemmas.Bool.{cases_lt}
 use Rattle.std.proofs.lemmas.List.Elements.{All-contains, All-head, All-tail}
-use Rattle.std.proofs.lemmas.List.Sorted.{All-permutation, IsPermutation-refl, IsPermutation-trans, IsPermutation-sym}
+use Rattle.std.proofs.lemmas.List.Sorted.{IsPermutation-refl}
 use Rattle.edm_types.proofs.Lookups.{rows_beyond}
 use Rattle.emc_base.proofs.Lists.{all_from_members, item_at}
-use Rattle.round_trip.specs.Words.{AreKept, AreSameTables, AreTables, At, ColId, IsFree, IsKeptRow, IsSameState, KeepsFree, Row, Schema, State, StoreModel, Table, TableId, Tables, TablesAre, cell_of, row_key, rows_in}
+use Rattle.round_trip.specs.Words.{AreKept, AreSameTables, ColId, IsFree, IsKeptRow, IsSameState, KeepsFree, Row, Schema, State, StoreModel, Table, TableId, Tables, cell_of, row_key, rows_in}
 use Rattle.schema_laws.proofs.same_states.SameTables.{tables_too}
 use Rattle.schema_laws.proofs.state_demand.tables.SameTables.{same_tables}
 use Rattle.delta_plan.proofs.grouped.KeptRows.{held_or_not}

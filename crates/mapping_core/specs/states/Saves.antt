@@ -2,7 +2,7 @@
 -- Source: update views that are maintained as those of Melnik, Adya and Bernstein, SIGMOD 2007; foreign keys that are checked at each statement. What a free column holds
 -- in a row that stays is kept.
 use Rattle.std.specs.Prelude.{◌≡◌, ◌≢◌, ℕ, List, All, Result, Ok, Err, ⊤}
-use Rattle.round_trip.specs.Words.{AreKept, AreLegalTables, AreSameTables, At, IsBreachOf, IsLegal, Place, Schema, State, StoreModel, Table, TableId, Tables, rows_in}
+use Rattle.round_trip.specs.Words.{AreKept, AreLegalTables, AreSameTables, At, Breach, IsBreachOf, IsLegal, Place, Schema, State, StoreModel, Table, TableId, Tables, rows_in}
 use Rattle.round_trip.specs.legality.TableBreaches.{IsBreachOfTables}
 use Rattle.entity_changes.specs.Changes.{after}
 use Rattle.entity_changes.specs.Refusals.{AreAccepted, IsRefusal}
@@ -13,10 +13,9 @@ use Rattle.row_changes.specs.Differences.{AreDifference, IsChange}
 use Rattle.row_changes.specs.Orders.{IsCycle, StepLegal}
 use Rattle.row_changes.specs.declared.change.RowChange.{RowChange}
 use Rattle.delta_plan.specs.Keeping.{HaveRisingKeys}
-use Rattle.mapping_core.specs.declared.loading.LoadFault.{LoadFault}
 use Rattle.mapping_core.specs.declared.loading.LoadFault.TheVariants as load
 use Rattle.mapping_core.specs.declared.saving.fault.SaveFault.{SaveFault}
-use Rattle.mapping_core.specs.declared.saving.fault.SaveFault.TheVariants.{Load, Refused, Breach, FreeReference, Circular, Memory}
+use Rattle.mapping_core.specs.declared.saving.fault.SaveFault.TheVariants.{Load, Refused, Breach as NotLegal, FreeReference, Circular, Memory}
 use Rattle.mapping_core.specs.declared.saving.saved.Saved.{Saved}
 use Rattle.mapping_core.specs.states.Loads.{IsLoaded, Loads}
 
@@ -61,7 +60,7 @@ module _ (schema : Schema) (tables : Tables) where
     pub refusal : IsRefusal schema.model state changes index why
 
   -- the first breach of the state afterwards
-  pub record IsBreachAfter (changes : List Change) (breach : told.Breach) : Type 0 where
+  pub record IsBreachAfter (changes : List Change) (breach : Breach) : Type 0 where
     pub old : State
     pub new : State
     pub lead : LeadTo changes old new
@@ -91,7 +90,7 @@ module _ (schema : Schema) (tables : Tables) where
   Saves changes (Ok saved) = AreSaved changes saved
   Saves changes (Err (Load fault)) = Loads schema tables (Err fault) × (fault ≢ load.Memory)
   Saves changes (Err (Refused index why)) = IsRefusedOf changes index why
-  Saves changes (Err (Breach breach)) = IsBreachAfter changes breach
+  Saves changes (Err (NotLegal breach)) = IsBreachAfter changes breach
   Saves changes (Err (FreeReference place)) = IsFreeReference changes place
   Saves changes (Err (Circular ring)) = IsCircleOf changes ring
   Saves changes (Err Memory) = ⊤

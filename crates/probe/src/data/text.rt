@@ -39,6 +39,18 @@ impl DataKind {
     }
 }
 
+/// Puts the line of what is judged of a document. `None` comes where memory ran out, also before.
+pub fn put_judged(
+    alloc: Global,
+    text: &mut String,
+    kind: DataKind,
+    judged: Result<Option<Breach>, Refusal>,
+) -> Option<()> {
+    let told = text_of(alloc, kind, &judged);
+    drop(judged);
+    text.push_str(told.ok()?.as_str()).ok()
+}
+
 /// The line that is printed of a document, with its line feed. `Memory` comes where memory ran out, also before.
 pub fn text_of(
     alloc: Global,

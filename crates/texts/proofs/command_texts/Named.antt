@@ -1,5 +1,5 @@
 -- The table of a name, as it is found.
-use Rattle.std.proofs.Common.{◌≡◌, ℕ, List, Any, Contains, Bool, true, bytes_eq, find, Some, None, refl, ap, sym}
+use Rattle.std.proofs.Common.{◌≡◌, ℕ, List, Any, Contains, Bool, bytes_eq, find, Some, None}
 use Rattle.std.proofs.lemmas.Slice.Eq.{bytes_eq-Decides}
 use Rattle.round_trip.specs.Words.{Table}
 use Rattle.regions.proofs.region_laws.pattern.Choices.{found_passes, none_passes}

@@ -19,10 +19,10 @@ returns-in-Some c =
     let applied = c.in_ok-after.ensures.applied in
     let Told : Option Breach → Type 0 = TellsState model c.in_ok-after.after in
     let Breaks : State → Type 0 = λ state. IsBreachOf model state c.in-Some.breach in
-    (applied.0, subst Breaks applied.1 (subst Told c.in-Some.is c.in_ok-first_breach.ensures))
+    (applied.0, subst Breaks applied.1 (subst Told c.in-Some.is c.in_ok-breach.ensures))
 
-pub returns : goal.returns
-returns c =
+pub returns-in-None : goal.returns-in-None
+returns-in-None c =
     let applied = c.in_ok-after.ensures.applied in
     let Told : Option Breach → Type 0 = TellsState c.args.model.now c.in_ok-after.after in
-    (applied.0, applied.1, subst Told c.in-None.is c.in_ok-first_breach.ensures)
+    (applied.0, applied.1, subst Told c.in-None.is c.in_ok-breach.ensures)

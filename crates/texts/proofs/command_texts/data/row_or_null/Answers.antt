@@ -1,4 +1,4 @@
-use Rattle.std.proofs.Common.{◌≡◌, ◌∙◌, Option, Some, sym, ap}
+use Rattle.std.proofs.Common.{◌∙◌, sym, ap}
 use Rattle.serde_json.specs.Written.{compact_text, has_float}
 use Rattle.table_files.proofs.RowTree.{row_tree-plain}
 use Rattle.texts.specs.command_texts.Texts.{row_or_null}

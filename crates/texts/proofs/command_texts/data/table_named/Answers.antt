@@ -1,4 +1,4 @@
-use Rattle.std.proofs.Common.{◌≡◌, ◌∙◌, List, None, ap, bytes_eq, find, sym}
+use Rattle.std.proofs.Common.{◌∙◌, List, ap, bytes_eq, find, sym}
 use Rattle.std.specs.Option.{option_copied}
 use Rattle.round_trip.specs.Words.{Table}
 use Rattle.texts.proofs.command_texts.Named.{found_named, one_named}

@@ -1,1 +1,0 @@
-use Rattle.mapping_core.proofs.saving.save.Goals as goal
