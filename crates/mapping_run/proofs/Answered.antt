@@ -87,7 +87,7 @@ module _ (may_fail : List ℕ → Type 0) (words : List (List ℕ)) (held left :
       → Breaks may_fail words held left answer
   breaks_by answer fails =
       let P : Option Command → Type 0 = λ found.
-          MatchOption found ⊥ (λ one. FailsToGive may_fail words held left one answer ⊎ FailsToSave may_fail words held left one answer) in
+      MatchOption found ⊥ (λ one. FailsToGive may_fail words held left one answer ⊎ FailsToSave may_fail words held left one answer) in
       subst P (sym is) fails
 
   -- the command writes no file
@@ -109,17 +109,20 @@ module _ (may_fail : List ℕ → Type 0) (words : List (List ℕ)) (held left :
     ends_given same gives printed (inr failed) =
         let some = some_of answer.saved failed.3 in
         let Rose : ℕ → Type 0 = λ count. RoseOrStands count now in
-        inr (subst Rose same failed.0, breaks_by printed (inr (record {
-          given = answer;
-          gives = gives;
-          name = name;
-          named = named;
-          text = some.0;
-          saves = some.1;
-          allowed = failed.1;
-          says = failed.2;
-          leaves = some.2;
-        })))
+        inr (
+          subst Rose same failed.0,
+          breaks_by printed (inr (record {
+            given = answer;
+            gives = gives;
+            name = name;
+            named = named;
+            text = some.0;
+            saves = some.1;
+            allowed = failed.1;
+            says = failed.2;
+            leaves = some.2;
+          })),
+        )
 
     -- nothing is saved where an input file could not be read
     ends_told : RoseOrStands before mid → FailsToGive may_fail words held held command answer → (printed : Answer) → SavesAt may_fail held left mid now name answer (Ok printed)

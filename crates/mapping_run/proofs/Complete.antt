@@ -215,9 +215,10 @@ module _ (no_limit : TellsNoLimit) (saves_all : SavesAccepted) (may_fail : List 
   -- a run that finished with a status finished well
   finished : (good : HasGoodInput words before.held) → IsQuiet before after → (status : Status) → Finishes may_fail words before after status → (status ≡ Done) × Prints words before after good
   finished good quiet status finishes =
-      let is = good_answer no_limit saves_all words before after good quiet finishes.answer may_fail finishes.ends in
-      (sym finishes.status_is ∙ is_done good.contents good.schema good.command good.held_data finishes.answer is.0,
-      record { answer = finishes.answer; is = is.0; written = finishes.written; leaves = is.1 })
+      let is = good_answer no_limit saves_all words before after good quiet finishes.answer may_fail finishes.ends in (
+        sym finishes.status_is ∙ is_done good.contents good.schema good.command good.held_data finishes.answer is.0,
+        record { answer = finishes.answer; is = is.0; written = finishes.written; leaves = is.1 },
+      )
 
   other : (good : HasGoodInput words before.held) → IsQuiet before after → (status : Status) → ¬ (status ≡ Done) → ¬ Finishes may_fail words before after status
   other good quiet status not_done finishes = not_done (finished good quiet status finishes).0

@@ -6,10 +6,11 @@ use Rattle.std.proofs.lemmas.List.{append-nil}
 use Rattle.emc_files.specs.Sink.{CountsPut, Puts}
 use Rattle.emc_files.specs.declared.sink.SinkFault.{SinkFault as SinkError}
 use Rattle.emc_files.specs.declared.sink.SinkFault.TheVariants.{Failed}
+use Rattle.emc_files.specs.declared.sink.SinkFault.TheVariants as sink
 use Rattle.emc_files.specs.Files.{FileMap, Replaces}
 use Rattle.emc_files.specs.declared.files.ReplaceFault.TheVariants as replace
 use Rattle.mapping_core.specs.Rules.{IsReadSchema}
-use Rattle.mapping_core.specs.Words.{Change, IsAccepted, Schema, State, Tables}
+use Rattle.mapping_core.specs.Words.{IsAccepted, Schema, State, Tables}
 use Rattle.mapping_core.specs.declared.saving.saved.Saved.{Saved}
 use Rattle.mapping_core.specs.declared.saving.fault.SaveFault.{SaveFault}
 use Rattle.mapping_core.specs.declared.loading.LoadFault.{LoadFault}
@@ -23,7 +24,7 @@ use Rattle.mapping_run.specs.declared.answers.command.Command.TheVariants.{Check
 use Rattle.mapping_run.specs.Commands.{command_of, inputs_of, output_of}
 use Rattle.mapping_run.specs.answers.Gives.{GivesBy, GivesOn, GivesStored, GivesTables, RefusesMapping, RefusesSchema}
 use Rattle.mapping_run.specs.answers.Loading.{GivesLoaded, GivesState, RefusesTables}
-use Rattle.mapping_run.specs.answers.Saving.{GivesChanged, GivesSaved, GivesSaving, SavesSo}
+use Rattle.mapping_run.specs.answers.Saving.{GivesChanged, GivesSaving, SavesSo}
 use Rattle.mapping_run.specs.answers.Says.{Says}
 use Rattle.mapping_run.specs.Gives.{Gives, GivesInputs}
 use Rattle.mapping_run.specs.Runs.{BreaksOff, Ends, FailsToGive, FailsToSave, Finishes, GivesUp, LeavesAt, LeavesGiven, Runs}
@@ -166,7 +167,7 @@ module _ (may_fail : List ℕ → Type 0) (words : List (List ℕ)) (before afte
   pub stopped : after.held ≡ before.held → after.written ≡ before.written → after.sink_faults ≡ before.sink_faults → GivesUp may_fail words before after
   stopped same written quiet = record { written = written; quiet = quiet; leaves = inl same }
 
-  pub unwritten : (answer : Answer) → Ends may_fail words before.held before.file_faults after.file_faults after.held answer
+  unwritten : (answer : Answer) → Ends may_fail words before.held before.file_faults after.file_faults after.held answer
       → after.written ≡ before.written → after.sink_faults ≡ before.sink_faults → GivesUp may_fail words before after
   unwritten answer ends written quiet =
       record { written = written; quiet = quiet; leaves = left_given may_fail words before.held after.held answer before.file_faults after.file_faults ends }
@@ -236,6 +237,14 @@ module _ (may_fail : List ℕ → Type 0) (words : List (List ℕ)) (before afte
         count = failed.0.0;
         not_empty = some;
         ends = ends;
-            written = failed.0.1 ∙ ap (λ text. option_map (λ bytes. bytes ++ take failed.0.0 text) before.written) printed_is;
+        written = failed.0.1 ∙ ap (λ text. option_map (λ bytes. bytes ++ take failed.0.0 text) before.written) printed_is;
         cause = failed.1;
       }
+
+  -- memory ran out in the sink
+  pub gave_up : (fault : SinkError) → fault ≡ sink.Memory → Puts before.written after.written printed (Err fault)
+      → CountsPut before.sink_faults after.sink_faults (Err fault) → GivesUp may_fail words before after
+  gave_up fault is puts counts =
+      let Put : SinkError → Type 0 = λ one. Puts before.written after.written printed (Err one) × CountsPut before.sink_faults after.sink_faults (Err one) in
+      let none : Put sink.Memory = subst Put is (puts, counts) in
+      unwritten may_fail words before after answer ends none.0 none.1

@@ -92,7 +92,10 @@ fn saved_at<F: Files>(
     let Some(text) = &answer.saved else {
         return Ok(answer);
     };
-    let failed = Answer::of_text(file_text(alloc, "failed", name.as_str())?, Status::FileFault);
+    let failed = Answer::of_text(
+        file_text(alloc, "failed", name.as_str())?,
+        Status::FileFault,
+    );
     match files.replace(alloc, name, text) {
         Ok(()) => Ok(answer),
         Err(ReplaceFault::Failed) => Ok(failed),

@@ -1,5 +1,5 @@
 -- What is answered on changes, by what saving them told.
-use Rattle.std.proofs.Common.{◌≡◌, ◌+◌, ◌++◌, ◌∷◌, [], ◌∙◌, ℕ, List, take, flat_map, Some, slice_get, Result, Ok, Err, IfOk, inl, inr, ap, append-nil, subst}
+use Rattle.std.proofs.Common.{◌≡◌, ◌+◌, ◌++◌, ◌∷◌, [], ◌∙◌, ℕ, List, take, flat_map, Some, slice_get, Result, Ok, Err, IfOk, inr, ap, append-nil, subst}
 use Rattle.std.proofs.lemmas.Grind.{flat_map-append}
 use Rattle.emc_base.proofs.Loops.{take_item}
 use Rattle.emc_base.specs.declared.memory.Memory.{Memory as NoMemory}

@@ -1,6 +1,6 @@
 -- What a command answers, by the content of its input files: what is printed, the status that the program ends with, and what is saved. Each relation speaks of the
 -- answer alone; what is left in the files is said where a run ends, in `Runs`.
-use Rattle.std.specs.Prelude.{◌≡◌, ◌⊎◌, ℕ, List, Some}
+use Rattle.std.specs.Prelude.{◌⊎◌, ℕ, List, Some}
 use Rattle.emc_base.specs.Lists.{At}
 use Rattle.mapping_core.specs.Rules.{IsReadSchema}
 use Rattle.mapping_core.specs.Words.{Breach, Failure, HoldsNoState, HoldsState, IsAccepted, IsBreachOf, IsFailureOf, IsFirstLimit, IsLegal, IsTablesText, IsToldRule, IsViewsText, LimitFault, Means, PassesNoLimit, RuleFault, Schema, State}

@@ -1,4 +1,4 @@
-use Rattle.mapping_run.proofs.answers.Saving.{names_table_of, saved_told, unsaved_told}
+use Rattle.mapping_run.proofs.answers.Saving.{names_table_of}
 use Rattle.mapping_run.proofs.answers.save.saved_by.Goals as goal
 
 pub refused-requires : goal.refused-requires
